@@ -1,0 +1,189 @@
+-- A decision that computes for each definition of a plan and of a choke list. Assumes nothing.
+use Prim.Native.Nat.{ℕ, suc, _<_}
+use mathlib.Core.Path.{_≡_, refl, sym, _∙_, ap}
+use mathlib.Core.List.{List, [], _∷_, map}
+use native.Mathlib.Omega.{arith}
+use lib.ListN.{length, getD}
+use Rattle.model.specs.Lists.{In, NoDup, Rising}
+use Rattle.model.specs.Job.{Job, Track, Call, track, cartCell, callOf, horizon}
+use Rattle.model.specs.Walk.{At, Step, Walk, Serves}
+use Rattle.model.specs.Plan.{Path, Plan, Leads, OnFloor, Share, Trade, NoShare, NoTrade, Before}
+use Rattle.model.specs.Choke.{Point, Known, StandsOn, Chokes, TrueChokes, Rises}
+use Rattle.model.specs.Contracts.{RightPlan, RightChokes}
+use Rattle.model.proofs.Decide.{dec-by, dec-and, dec-or, dec-imp, dec-not, dec-eq, dec-le, dec-lt, all-below, all-in, any-in, dec-in}
+use Rattle.model.proofs.Listed.{walks, walk-listed}
+
+-- Walks.
+pub track-eq : {s t : Track} → (s .from ≡ t .from) × (s .to ≡ t .to) → s ≡ t
+track-eq h = λ i. track (h .0 i) (h .1 i)
+
+pub track-parts : {s t : Track} → s ≡ t → (s .from ≡ t .from) × (s .to ≡ t .to)
+track-parts e = (ap (λ t. t .from) e, ap (λ t. t .to) e)
+
+abbrev pub dec-track : (s t : Track) → Dec (s ≡ t)
+dec-track s t = dec-by track-eq track-parts (dec-and (dec-eq (s .from) (t .from)) (dec-eq (s .to) (t .to)))
+
+abbrev pub dec-step : (j : Job) (t u v : ℕ) → Dec (Step j t u v)
+dec-step j t u v = dec-or (dec-eq u v) (dec-or (dec-in dec-track (track u v) (j .tracks)) (dec-in dec-track (track v u) (j .tracks)))
+
+abbrev pub dec-at : (w : List ℕ) (t v : ℕ) → Dec (At w t v)
+dec-at w t v = dec-and (dec-lt t (length w)) (dec-eq (getD w t 0) v)
+
+pub walk-of : (j : Job) (c : ℕ) (w : List ℕ)
+    → At w 0 c × ((t : ℕ) → t < length w → suc t < length w → Step j t (getD w t 0) (getD w (suc t) 0)) → Walk j c w
+walk-of j c w h = record { starts = h .0; steps = λ t l. h .1 t (omega arith) l }
+
+pub walk-parts : (j : Job) (c : ℕ) (w : List ℕ)
+    → Walk j c w → At w 0 c × ((t : ℕ) → t < length w → suc t < length w → Step j t (getD w t 0) (getD w (suc t) 0))
+walk-parts j c w h = (h .starts, λ t k l. h .steps t l)
+
+abbrev pub dec-walk : (j : Job) (c : ℕ) (w : List ℕ) → Dec (Walk j c w)
+dec-walk j c w = dec-by (walk-of j c w) (walk-parts j c w)
+    (dec-and (dec-at w 0 c) (all-below (λ t. dec-imp (dec-lt (suc t) (length w)) (dec-step j t (getD w t 0) (getD w (suc t) 0))) (length w)))
+
+pub serves-of : (w : List ℕ) (q : Call) → (length w ≡ suc (q .deadline)) × (getD w (q .deadline) 0 ≡ q .cell) → Serves w q
+serves-of w q h = record { size = h .0; ends = h .1 }
+
+pub serves-parts : (w : List ℕ) (q : Call) → Serves w q → (length w ≡ suc (q .deadline)) × (getD w (q .deadline) 0 ≡ q .cell)
+serves-parts w q h = (h .size, h .ends)
+
+abbrev pub dec-serves : (w : List ℕ) (q : Call) → Dec (Serves w q)
+dec-serves w q = dec-by (serves-of w q) (serves-parts w q) (dec-and (dec-eq (length w) (suc (q .deadline))) (dec-eq (getD w (q .deadline) 0) (q .cell)))
+
+-- Paths.
+abbrev pub LeadsParts : Job → Path → Type 0
+LeadsParts j p = (p .cart < length (j .carts)) × ((p .call < length (j .calls))
+    × (Serves (p .cells) (callOf j (p .call)) × Walk j (cartCell j (p .cart)) (p .cells)))
+
+pub leads-of : (j : Job) (p : Path) → LeadsParts j p → Leads j p
+leads-of j p h = record { known-cart = h .0; known-call = h .1 .0; walks = h .1 .1 .1; serves = h .1 .1 .0 }
+
+pub leads-parts : (j : Job) (p : Path) → Leads j p → LeadsParts j p
+leads-parts j p h = (h .known-cart, (h .known-call, (h .serves, h .walks)))
+
+abbrev pub dec-leads : (j : Job) (p : Path) → Dec (Leads j p)
+dec-leads j p = dec-by (leads-of j p) (leads-parts j p)
+    (dec-and (dec-lt (p .cart) (length (j .carts))) (dec-and (dec-lt (p .call) (length (j .calls)))
+    (dec-and (dec-serves (p .cells) (callOf j (p .call))) (dec-walk j (cartCell j (p .cart)) (p .cells)))))
+
+abbrev pub dec-nodup : (l : List ℕ) → Dec (NoDup l)
+dec-nodup [] = yes tt
+dec-nodup (a ∷ l) = dec-and (dec-not (dec-in dec-eq a l)) (dec-nodup l)
+
+-- Conflicts: the cells that two walks share or trade are those that the first is on.
+abbrev pub dec-on : (w : List ℕ) (t v : ℕ) → Dec (OnFloor w t v)
+dec-on w t v = dec-and (dec-lt _ _) (dec-eq _ _)
+
+module _ (w x : List ℕ) (t : ℕ) where
+  pub share-of : OnFloor w t (getD w t 0) × OnFloor x t (getD w t 0) → Share w x t
+  share-of h = (getD w t 0, h .0, h .1)
+
+  pub share-parts : Share w x t → OnFloor w t (getD w t 0) × OnFloor x t (getD w t 0)
+  share-parts (v, a, b) = ((a .0, refl), (b .0, b .1 ∙ sym (a .1)))
+
+  abbrev pub dec-share : Dec (Share w x t)
+  dec-share = dec-by share-of share-parts (dec-and (dec-on w t (getD w t 0)) (dec-on x t (getD w t 0)))
+
+  abbrev pub TradeParts : Type 0
+  TradeParts = (OnFloor w t (getD w t 0) × OnFloor w (suc t) (getD w (suc t) 0)) × (OnFloor x t (getD w (suc t) 0) × OnFloor x (suc t) (getD w t 0))
+
+  pub trade-of : TradeParts → Trade w x t
+  trade-of h = (getD w t 0, getD w (suc t) 0, h .0 .0, h .0 .1, h .1 .0, h .1 .1)
+
+  pub trade-parts : Trade w x t → TradeParts
+  trade-parts (u, v, a, b, c, d) = (((a .0, refl), (b .0, refl)), ((c .0, c .1 ∙ sym (b .1)), (d .0, d .1 ∙ sym (a .1))))
+
+  abbrev pub dec-trade : Dec (Trade w x t)
+  dec-trade = dec-by trade-of trade-parts
+      (dec-and (dec-and (dec-on w t (getD w t 0)) (dec-on w (suc t) (getD w (suc t) 0))) (dec-and (dec-on x t (getD w (suc t) 0)) (dec-on x (suc t) (getD w t 0))))
+
+-- A conflict at any step has a fact for its consequence: only the steps of the first walk matter.
+module _ {C : ℕ → Type 0} {Q : Type 0} (n : ℕ) (short : (t : ℕ) → C t → t < n) where
+  pub steps-of : ((t : ℕ) → t < n → C t → Q) → (t : ℕ) → C t → Q
+  steps-of h t k = h t (short t k) k
+
+  pub steps-parts : ((t : ℕ) → C t → Q) → (t : ℕ) → t < n → C t → Q
+  steps-parts h t l k = h t k
+
+  abbrev pub dec-steps : ((t : ℕ) → Dec (C t)) → Dec Q → Dec ((t : ℕ) → C t → Q)
+  dec-steps d e = dec-by steps-of steps-parts (all-below (λ t. dec-imp (d t) e) n)
+
+pub share-short : (w x : List ℕ) (t : ℕ) → Share w x t → t < length w
+share-short w x t (v, a, b) = omega (arith, a .0)
+
+pub trade-short : (w x : List ℕ) (t : ℕ) → Trade w x t → t < length w
+trade-short w x t (u, v, a, b, c, d) = omega (arith, a .0)
+
+-- every two members
+module _ {A : Type 0} {P : A → A → Type 0} (l : List A) where
+  pub pairs-of : ((a : A) → In a l → (b : A) → In b l → P a b) → (a b : A) → In a l → In b l → P a b
+  pairs-of h a b k m = h a k b m
+
+  pub pairs-parts : ((a b : A) → In a l → In b l → P a b) → (a : A) → In a l → (b : A) → In b l → P a b
+  pairs-parts h a k b m = h a b k m
+
+  abbrev pub dec-pairs : ((a b : A) → Dec (P a b)) → Dec ((a b : A) → In a l → In b l → P a b)
+  dec-pairs d = dec-by pairs-of pairs-parts (all-in (λ a. all-in (λ b. d a b) l) l)
+
+abbrev pub dec-no-share : (ps : List Path) → Dec (NoShare ps)
+dec-no-share ps = dec-pairs ps (λ p q. dec-steps (length (p .cells)) (share-short (p .cells) (q .cells)) (dec-share (p .cells) (q .cells)) (dec-eq _ _))
+
+abbrev pub dec-no-trade : (ps : List Path) → Dec (NoTrade ps)
+dec-no-trade ps = dec-pairs ps (λ p q. dec-steps (length (p .cells)) (trade-short (p .cells) (q .cells)) (dec-trade (p .cells) (q .cells)) (dec-eq _ _))
+
+abbrev pub dec-rising : {A : Type 0} {R : A → A → Type 0} → ((a b : A) → Dec (R a b)) → (l : List A) → Dec (Rising R l)
+dec-rising d [] = yes tt
+dec-rising d (a ∷ []) = yes tt
+dec-rising d (a ∷ b ∷ l) = dec-and (d a b) (dec-rising d (b ∷ l))
+
+-- Plans.
+module _ (j : Job) (ps : List Path) where
+  abbrev pub PlanParts : Type 0
+  PlanParts = (length ps ≡ length (j .calls)) × (NoDup (map (λ p. p .call) ps) × (NoDup (map (λ p. p .cart) ps)
+      × (((p : Path) → In p ps → Leads j p) × (NoShare ps × NoTrade ps))))
+
+  pub plan-of : PlanParts → Plan j ps
+  plan-of h = record { size = h .0; leads = h .1 .1 .1 .0; own-call = h .1 .0; own-cart = h .1 .1 .0; no-share = h .1 .1 .1 .1 .0; no-trade = h .1 .1 .1 .1 .1 }
+
+  pub plan-parts : Plan j ps → PlanParts
+  plan-parts h = (h .size, (h .own-call, (h .own-cart, (h .leads, (h .no-share, h .no-trade)))))
+
+  abbrev pub dec-plan : Dec (Plan j ps)
+  dec-plan = dec-by plan-of plan-parts
+      (dec-and (dec-eq (length ps) (length (j .calls))) (dec-and (dec-nodup (map (λ p. p .call) ps)) (dec-and (dec-nodup (map (λ p. p .cart) ps))
+      (dec-and (all-in (dec-leads j) ps) (dec-and (dec-no-share ps) (dec-no-trade ps))))))
+
+abbrev pub dec-before : (j : Job) (p q : Path) → Dec (Before j p q)
+dec-before j p q = dec-or (dec-lt (callOf j (p .call) .deadline) (callOf j (q .call) .deadline))
+    (dec-and (dec-eq (callOf j (p .call) .deadline) (callOf j (q .call) .deadline)) (dec-lt (p .call) (q .call)))
+
+abbrev pub dec-right-plan : (j : Job) (ps : List Path) → Dec (RightPlan j ps)
+dec-right-plan j ps = dec-and (dec-plan j ps) (dec-rising (dec-before j) ps)
+
+-- Choke lists.
+abbrev pub dec-known : (j : Job) (x : Point) → Dec (Known j x)
+dec-known j x = dec-and (dec-lt (x .cell) (j .cells)) (dec-le (x .step) (horizon j))
+
+abbrev pub dec-stands : (w : List ℕ) (xs : List Point) → Dec (StandsOn w xs)
+dec-stands w xs = any-in (λ x. dec-at w (x .step) (x .cell)) xs
+
+module _ (j : Job) (xs : List Point) where
+  -- of the walks that are listed
+  abbrev pub ChokesListed : Type 0
+  ChokesListed = (c : ℕ) → In c (j .carts) → (q : Call) → In q (j .calls) → (w : List ℕ) → In w (walks j (q .deadline) c) → Walk j c w × Serves w q → StandsOn w xs
+
+  pub chokes-of : (length xs < length (j .calls)) × (((x : Point) → In x xs → Known j x) × ChokesListed) → TrueChokes j xs
+  chokes-of h = record { known = h .1 .0; few = h .0; chokes = λ c k q m w a b. h .1 .1 c k q m w (walk-listed j c q w a b) (a, b) }
+
+  pub chokes-parts : TrueChokes j xs → (length xs < length (j .calls)) × (((x : Point) → In x xs → Known j x) × ChokesListed)
+  chokes-parts h = (h .few, (h .known, λ c k q m w l ab. h .chokes c k q m w (ab .0) (ab .1)))
+
+  abbrev pub dec-chokes : Dec (TrueChokes j xs)
+  dec-chokes = dec-by chokes-of chokes-parts (dec-and (dec-lt (length xs) (length (j .calls))) (dec-and (all-in (dec-known j) xs)
+      (all-in (λ c. all-in (λ q. all-in (λ w. dec-imp (dec-and (dec-walk j c w) (dec-serves w q)) (dec-stands w xs)) (walks j (q .deadline) c)) (j .calls)) (j .carts))))
+
+abbrev pub dec-rises : (x y : Point) → Dec (Rises x y)
+dec-rises x y = dec-or (dec-lt (x .step) (y .step)) (dec-and (dec-eq (x .step) (y .step)) (dec-lt (x .cell) (y .cell)))
+
+abbrev pub dec-right-chokes : (j : Job) (xs : List Point) → Dec (RightChokes j xs)
+dec-right-chokes j xs = dec-and (dec-chokes j xs) (dec-rising dec-rises xs)

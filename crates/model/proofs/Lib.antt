@@ -1,0 +1,14 @@
+pub mod Basics
+pub mod Lists
+pub mod Weak
+pub mod Decide
+pub mod Listed
+pub mod Sharing
+pub mod Written
+pub mod Read
+pub mod Ready
+pub mod Agree
+pub mod Decisions
+pub mod Every
+pub mod Filed
+pub mod Readings

@@ -1,0 +1,66 @@
+-- What no filed example shows, each as a row: the least buffers, the form of a sheet and the line of a 11, what is no conflict.
+use Prim.Native.Nat.{ℕ, _+_, _*_}
+use mathlib.Core.List.{List, [], _∷_}
+use Rattle.model.specs.Lists.{In}
+use Rattle.model.specs.ReadJob.{readJob}
+use Rattle.model.specs.ReadSheet.{readSheet}
+use Rattle.model.specs.Filed.{Row, plans, checks, wrote, refuses, Holds, big, jobA, jobB, jobD, jobF}
+use Rattle.model.proofs.Decide.{decided, all-in}
+use Rattle.model.proofs.Filed.{dec-row, row-holds}
+
+-- the least buffers, one byte short and just enough
+abbrev buffers : List Row
+buffers =
+    plans "FLOOR\t256\n" 12287 64 (refuses 9 0)
+    ∷ plans "FLOOR\t256\n" 12288 64 (wrote 0 "PLAN\t0\n")
+    ∷ plans "FLOOR\t256\n" 12288 63 (refuses 10 0)
+    ∷ plans "FLOOR\t256\n" 12287 63 (refuses 9 0)
+    ∷ plans "FLOOR\t256\nCART\t0\n" 0 0 (refuses 8 0)
+    ∷ []
+
+-- 11 at a line
+abbrev at : ℕ → ℕ
+at line = 11 + 256 * line
+
+abbrev sheets : List Row
+sheets =
+    checks jobA big "PLAN\t2\nPATH\t1\t0\t1\t2\nPATH\t0\t1\t0\t1\n" 0
+    ∷ checks jobB big "CANNOT\t1\nCHOKE\t1\t0\n" 1
+    ∷ checks jobB big "CANNOT\t1\nCHOKE\t0\t0\n" 12
+    ∷ checks jobB big "CANNOT\t1\nCHOKE\t0\t2\n" (at 2)
+    ∷ checks jobB big "CANNOT\t2\nCHOKE\t1\t0\nCHOKE\t0\t1\n" (at 1)
+    ∷ checks "FLOOR\t1\n" big "CANNOT\t0\n" (at 1)
+    ∷ checks jobF big "" (at 1)
+    ∷ checks jobF big "PLAN\t2\n" (at 2)
+    ∷ checks jobF big "PLAN\t1\nPATH\t0\t0\t0\t0\n" (at 1)
+    ∷ checks jobF big "PLAN\t2\nPATH\t0\t0\t0\t0\nPATH\t1\t1\t1\t1" (at 3)
+    ∷ checks jobF big "PLAN\t2\nPATH\t0\t0\t0\t0\nPATH\t1\t1\t1\t1\nx" (at 4)
+    ∷ checks jobF big "PLAN\t2\nPATH\t0\t0\t0\nPATH\t1\t1\t1\t1\n" (at 2)
+    ∷ checks jobF big "PLAN\t2\nPATH\t0\t0\t0\t2\nPATH\t1\t1\t1\t1\n" (at 2)
+    ∷ checks jobF big "PLAN\t2\nPATH\t1\t1\t1\t1\nPATH\t0\t0\t0\t0\n" 12
+    ∷ checks jobF big "PLAN\t2\nPATH\t0\t0\t0\t0\nPATH\t0\t0\t0\t0\n" 12
+    ∷ checks jobF big "CANNOT\t1\nCHOKE\t0\t0\n" 12
+    ∷ checks jobD 4127 "PLAN\t1\nPATH\t0\t0\t0\n" 9
+    ∷ []
+
+-- a track is gone along backwards; a ring of three turns; a lift cell is free after its deadline and not at it
+abbrev moves : List Row
+moves =
+    plans "FLOOR\t2\nTRACK\t1\t0\nCART\t0\nCALL\t1\t1\n" big big (wrote 0 "PLAN\t1\nPATH\t0\t0\t0\t1\n")
+    ∷ checks "FLOOR\t3\nTRACK\t0\t1\nTRACK\t1\t2\nTRACK\t2\t0\nCART\t0\nCART\t1\nCART\t2\nCALL\t1\t1\nCALL\t2\t1\nCALL\t0\t1\n" big
+    "PLAN\t3\nPATH\t0\t0\t0\t1\nPATH\t1\t1\t1\t2\nPATH\t2\t2\t2\t0\n" 0
+    ∷ checks "FLOOR\t2\nTRACK\t0\t1\nCART\t0\nCART\t1\nCALL\t1\t0\nCALL\t0\t2\n" big "PLAN\t2\nPATH\t1\t0\t1\nPATH\t0\t1\t0\t1\t0\n" 0
+    ∷ checks "FLOOR\t2\nTRACK\t0\t1\nCART\t0\nCART\t1\nCALL\t1\t1\nCALL\t0\t2\n" big "PLAN\t2\nPATH\t1\t0\t1\t1\nPATH\t0\t1\t0\t1\t0\n" 12
+    ∷ []
+
+pub buffers-hold : (x : Row) → In x buffers → Holds x
+unfolding readJob readSheet
+buffers-hold x m = row-holds x (decided (all-in dec-row buffers) tt x m)
+
+pub sheets-hold : (x : Row) → In x sheets → Holds x
+unfolding readJob readSheet
+sheets-hold x m = row-holds x (decided (all-in dec-row sheets) tt x m)
+
+pub moves-hold : (x : Row) → In x moves → Holds x
+unfolding readJob readSheet
+moves-hold x m = row-holds x (decided (all-in dec-row moves) tt x m)

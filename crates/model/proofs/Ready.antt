@@ -1,0 +1,205 @@
+-- A job that is read is fit: each line's tests keep it so. Assumes nothing.
+use Prim.Native.Nat.{ℕ, zero, suc, _+_, _<_}
+use mathlib.Core.Path.{_≡_, refl, sym, ap, subst}
+use mathlib.Core.List.{List, [], _∷_, _++_, map}
+use mathlib.Core.Option.{Option, none, some}
+use mathlib.Core.Bool.{Bool, true, false, cond, _&&_, _||_, false≢true}
+use mathlib.Core.Logic.{_⊎_, inl, inr}
+use native.Mathlib.Omega.{arith}
+use lib.Dec.{eqb, ltb, leb}
+use lib.ListN.{length, getD}
+use borrow.Author.Tests.{ltb-true, leb-true, eqb-true, eqb-false, not-true}
+use Rattle.model.specs.Limits.{maxCells, maxTracks, maxCarts, maxCalls, maxSteps, maxText}
+use Rattle.model.specs.Lists.{In, NoDup}
+use Rattle.model.specs.Job.{Job, track, call}
+use Rattle.model.specs.Ready.{Fit, Ready}
+use Rattle.model.specs.Text.{Lines, done, cut, more, linesOf, numbersOf, opens, after, floorWord, trackWord, cartWord, callWord}
+use Rattle.model.specs.ReadJob.{refused, accepted, Kind, floorLine, trackLine, cartLine, callLine, noJob, member, inRange, hasRoom, isNew, add, mayFollow, fieldCount, Said, wrong, right, numbersSay, fieldsSay, lineSays, goOn, linesSay, readJob}
+use Rattle.model.proofs.Basics.{nope, and-left, and-right}
+
+-- A line that is right passed its tests.
+pub record Added (j j′ : Job) : Type 0 where
+  pub kind : Kind
+  pub a : ℕ
+  pub b : ℕ
+  pub follows : mayFollow j kind ≡ true
+  pub ranged : inRange j kind a b ≡ true
+  pub room : hasRoom j kind ≡ true
+  pub new : isNew j kind a b ≡ true
+  pub so : add j kind a b ≡ j′
+
+cond-right : (t : Bool) (x : Said) (n : ℕ) (j : Job) → cond t x (wrong n) ≡ right j → (t ≡ true) × (x ≡ right j)
+cond-right true x n j e = (refl, e)
+cond-right false x n j e = nope (cc)
+
+right-same : (j k : Job) → right j ≡ right k → j ≡ k
+right-same j k e = cc
+
+numbers-added : (j j′ : Job) (k : Kind) (o : Option (List ℕ)) → mayFollow j k ≡ true → numbersSay j k o ≡ right j′ → Added j j′
+numbers-added j j′ k none f e = nope (cc)
+numbers-added j j′ k (some ns) f e =
+    let a = getD ns 0 0 in
+    let b = getD ns 1 0 in
+    let (h₁, e₁) = cond-right (inRange j k a b) (cond (hasRoom j k) (cond (isNew j k a b) (right (add j k a b)) (wrong 7)) (wrong 6)) 5 j′ e in
+    let (h₂, e₂) = cond-right (hasRoom j k) (cond (isNew j k a b) (right (add j k a b)) (wrong 7)) 6 j′ e₁ in
+    let (h₃, e₃) = cond-right (isNew j k a b) (right (add j k a b)) 7 j′ e₂ in
+    record { kind = k; a = a; b = b; follows = f; ranged = h₁; room = h₂; new = h₃; so = right-same (add j k a b) j′ e₃ }
+
+fields-added : (j j′ : Job) (k : Kind) (fs : List (List ℕ)) → fieldsSay j k fs ≡ right j′ → Added j j′
+fields-added j j′ k fs e =
+    let h = cond-right (mayFollow j k && eqb (length fs) (fieldCount k)) (numbersSay j k (numbersOf fs)) 3 j′ e in
+    numbers-added j j′ k (numbersOf fs) (and-left (mayFollow j k) (eqb (length fs) (fieldCount k)) (h .0)) (h .1)
+
+line-added : (j j′ : Job) (l : List ℕ) → lineSays j l ≡ right j′ → Added j j′
+line-added j j′ l e = go (opens floorWord l) (opens trackWord l) (opens cartWord l) (opens callWord l) e
+  where
+    go : (t u v w : Bool) → cond t (fieldsSay j floorLine (after floorWord l)) (cond u (fieldsSay j trackLine (after trackWord l))
+        (cond v (fieldsSay j cartLine (after cartWord l)) (cond w (fieldsSay j callLine (after callWord l)) (wrong 3)))) ≡ right j′ → Added j j′
+    go true u v w e = fields-added j j′ floorLine (after floorWord l) e
+    go false true v w e = fields-added j j′ trackLine (after trackWord l) e
+    go false false true w e = fields-added j j′ cartLine (after cartWord l) e
+    go false false false true e = fields-added j j′ callLine (after callWord l) e
+    go false false false false e = nope (cc)
+
+-- A member more, at the end.
+in-snoc : {A : Type 0} (a x : A) (l : List A) → In a (l ++ (x ∷ [])) → In a l ⊎ (a ≡ x)
+in-snoc a x [] (inl e) = inr e
+in-snoc a x [] (inr h) = absurd h
+in-snoc a x (b ∷ l) (inl e) = inl (inl e)
+in-snoc a x (b ∷ l) (inr h) = go (in-snoc a x l h)
+  where
+    go : In a l ⊎ (a ≡ x) → In a (b ∷ l) ⊎ (a ≡ x)
+    go (inl k) = inl (inr k)
+    go (inr e) = inr e
+
+-- If all members are so and the last is, all are.
+all-snoc : {A : Type 0} {P : A → Type 0} (l : List A) (x : A) → ((a : A) → In a l → P a) → P x → (a : A) → In a (l ++ (x ∷ [])) → P a
+all-snoc {A} {P} l x h p a m = go (in-snoc a x l m)
+  where
+    go : In a l ⊎ (a ≡ x) → P a
+    go (inl k) = h a k
+    go (inr e) = subst P (sym e) p
+
+member-in : (a : ℕ) (l : List ℕ) → member a l ≡ false → In a l → ⊥
+member-in a [] e h = h
+member-in a (b ∷ l) e h = go (eqb a b) refl e h (λ f k. member-in a l f k)
+  where
+    go : (t : Bool) → eqb a b ≡ t → (t || member a l) ≡ false → (a ≡ b) ⊎ In a l → (member a l ≡ false → In a l → ⊥) → ⊥
+    go true q e h ih = nope (cc)
+    go false q e (inl f) ih = eqb-false a b q f
+    go false q e (inr k) ih = ih e k
+
+nodup-snoc : (l : List ℕ) (x : ℕ) → NoDup l → (In x l → ⊥) → NoDup (l ++ (x ∷ []))
+nodup-snoc [] x nd h = ((λ k. k), tt)
+nodup-snoc (a ∷ l) x nd h = ((λ m. go (in-snoc a x l m)), nodup-snoc l x (nd .1) (λ k. h (inr k)))
+  where
+    go : In a l ⊎ (a ≡ x) → ⊥
+    go (inl k) = nd .0 k
+    go (inr e) = h (inl (sym e))
+
+map-snoc : {A : Type 0} (f : A → ℕ) (l : List A) (x : A) → map f (l ++ (x ∷ [])) ≡ map f l ++ (f x ∷ [])
+map-snoc f [] x = refl
+map-snoc f (a ∷ l) x = ap (λ y. f a ∷ y) (map-snoc f l x)
+
+length-snoc : {A : Type 0} (l : List A) (x : A) → length (l ++ (x ∷ [])) ≡ suc (length l)
+length-snoc [] x = refl
+length-snoc (a ∷ l) x = ap suc (length-snoc l x)
+
+pub no-fit : Fit noJob
+no-fit = record {
+  few-cells = omega arith;
+  few-tracks = omega arith;
+  few-carts = omega arith;
+  few-calls = omega arith;
+  known-tracks = λ t h. absurd h;
+  known-carts = λ c h. absurd h;
+  known-calls = λ q h. absurd h;
+  own-cells = tt;
+  own-lifts = tt;
+}
+
+module _ (j : Job) (f : Fit j) (a b : ℕ) where
+  -- before the FLOOR line there is no cell, so nothing stands on one
+  no-cell : {A : Type 0} → eqb (j .cells) 0 ≡ true → (n : ℕ) → n < j .cells → A
+  no-cell e n h = absurd (omega (arith, eqb-true (j .cells) 0 e))
+
+  add-fit : (k : Kind) → mayFollow j k ≡ true → inRange j k a b ≡ true → hasRoom j k ≡ true → isNew j k a b ≡ true → Fit (add j k a b)
+  add-fit floorLine m r h n = record {
+    few-cells = leb-true a maxCells (and-right (ltb 0 a) (leb a maxCells) r);
+    few-tracks = f .few-tracks;
+    few-carts = f .few-carts;
+    few-calls = f .few-calls;
+    known-tracks = λ t i. no-cell m (t .from) (f .known-tracks t i .0);
+    known-carts = λ c i. no-cell m c (f .known-carts c i);
+    known-calls = λ q i. no-cell m (q .cell) (f .known-calls q i .0);
+    own-cells = f .own-cells;
+    own-lifts = f .own-lifts;
+  }
+  add-fit trackLine m r h n = record {
+    few-cells = f .few-cells;
+    few-carts = f .few-carts;
+    few-calls = f .few-calls;
+    few-tracks = omega (arith, length-snoc (j .tracks) (track a b), ltb-true (length (j .tracks)) maxTracks h);
+    known-tracks = all-snoc (j .tracks) (track a b) (f .known-tracks)
+        (ltb-true a (j .cells) (and-left (ltb a (j .cells)) (ltb b (j .cells)) r), ltb-true b (j .cells) (and-right (ltb a (j .cells)) (ltb b (j .cells)) r));
+    known-carts = f .known-carts;
+    known-calls = f .known-calls;
+    own-cells = f .own-cells;
+    own-lifts = f .own-lifts;
+  }
+  add-fit cartLine m r h n = record {
+    few-cells = f .few-cells;
+    few-tracks = f .few-tracks;
+    few-calls = f .few-calls;
+    few-carts = omega (arith, length-snoc (j .carts) a, ltb-true (length (j .carts)) maxCarts h);
+    known-tracks = f .known-tracks;
+    known-carts = all-snoc (j .carts) a (f .known-carts) (ltb-true a (j .cells) r);
+    known-calls = f .known-calls;
+    own-lifts = f .own-lifts;
+    own-cells = nodup-snoc (j .carts) a (f .own-cells) (member-in a (j .carts) (not-true (member a (j .carts)) n));
+  }
+  add-fit callLine m r h n = record {
+    few-cells = f .few-cells;
+    few-tracks = f .few-tracks;
+    few-carts = f .few-carts;
+    few-calls = omega (arith, length-snoc (j .calls) (call a b), ltb-true (length (j .calls)) maxCalls h);
+    known-tracks = f .known-tracks;
+    known-carts = f .known-carts;
+    own-cells = f .own-cells;
+    known-calls = all-snoc (j .calls) (call a b) (f .known-calls)
+        (ltb-true a (j .cells) (and-left (ltb a (j .cells)) (ltb b maxSteps) r), ltb-true b maxSteps (and-right (ltb a (j .cells)) (ltb b maxSteps) r));
+    own-lifts = rw map-snoc (nodup-snoc (map (λ q. q .cell) (j .calls)) a (f .own-lifts) (member-in a (map (λ q. q .cell) (j .calls)) (not-true (member a (map (λ q. q .cell) (j .calls))) n)));
+  }
+
+some-cells : (n : ℕ) → eqb n 0 ≡ false → 0 < n
+some-cells zero e = absurd (false≢true (sym e))
+some-cells (suc n) e = omega arith
+
+lines-ready : (j j′ : Job) (n : ℕ) (ls : Lines) → Fit j → linesSay j n ls ≡ accepted j′ → Ready j′
+lines-ready j j′ n done f e = go (eqb (j .cells) 0) refl (eqb (length (j .carts)) (length (j .calls))) refl e
+  where
+    same : accepted j ≡ accepted j′ → j ≡ j′
+    same e = cc
+
+    go : (t : Bool) → eqb (j .cells) 0 ≡ t → (u : Bool) → eqb (length (j .carts)) (length (j .calls)) ≡ u
+        → cond t (refused 3 n) (cond u (accepted j) (refused 8 0)) ≡ accepted j′ → Ready j′
+    go true p u q e = nope (cc)
+    go false p true q e = subst Ready (same e) (record { fit = f; has-cells = some-cells (j .cells) p; even = eqb-true (length (j .carts)) (length (j .calls)) q })
+    go false p false q e = nope (cc)
+lines-ready j j′ n cut f e = nope (cc)
+lines-ready j j′ n (more l ls) f e = go (lineSays j l) refl e (λ k. lines-ready k j′ (n + 1) ls)
+  where
+    go : (s : Said) → lineSays j l ≡ s → goOn s n (λ k. linesSay k (n + 1) ls) ≡ accepted j′
+        → ((k : Job) → Fit k → linesSay k (n + 1) ls ≡ accepted j′ → Ready j′) → Ready j′
+    go (wrong k) q e ih = nope (cc)
+    go (right k) q e ih =
+        let h = line-added j k l q in
+        ih k (subst Fit (h .so) (add-fit j f (h .a) (h .b) (h .kind) (h .follows) (h .ranged) (h .room) (h .new))) e
+
+pub read-ready : (s : List ℕ) (j : Job) → readJob s ≡ accepted j → Ready j
+unfolding readJob
+read-ready s j e = go (ltb maxText (length s)) e
+  where
+    go : (t : Bool) → cond t (refused 2 0) (linesSay noJob 1 (linesOf s)) ≡ accepted j → Ready j
+    go true e = nope (cc)
+    go false e = lines-ready noJob j 1 (linesOf s) no-fit e

@@ -1,0 +1,157 @@
+-- A sheet that is written is read back as what was written. Assumes nothing.
+use Prim.Native.Nat.{ℕ, suc, _+_, _≤_, _<_}
+use mathlib.Core.Path.{_≡_, refl, sym, ap, _∙_}
+use mathlib.Core.List.{List, [], _∷_, _++_, map, append-assoc, append-nil}
+use mathlib.Core.Option.{Option, none, some}
+use mathlib.Core.Bool.{Bool, true, false, cond, not, _&&_, false≢true}
+use mathlib.Core.Logic.{inl, inr}
+use native.Mathlib.Omega.{arith}
+use lib.Dec.{eqb, ltb, leb}
+use lib.ListN.{length}
+use borrow.Author.Tests.{ltb-true, leb-true, eq-eqb, lt-ltb, not-true}
+use Rattle.model.specs.Lists.{In}
+use Rattle.model.specs.Job.{Job, horizon, callOf}
+use Rattle.model.specs.Plan.{Path}
+use Rattle.model.specs.Choke.{Point}
+use Rattle.model.specs.Text.{more, withByte, linesOf, onField, fieldsOf, numberOf, andNumber, numbersOf, numeral, fields, line, planWord, pathWord, cannotWord, chokeWord}
+use Rattle.model.specs.SheetText.{linesText, pathNumbers, chokeNumbers, planText, cannotText}
+use Rattle.model.specs.ReadSheet.{Sheet, bad, plan, cannot, allBelow, knownPath, knownPoint, orBad, restSays, pathOf, pointOf, headSays, countSays, pathLine, chokeLine, readSheet}
+use Rattle.model.proofs.Basics.{and-left, and-right, and-both}
+use Rattle.model.proofs.Decide.{decided, dec-by, dec-and, dec-eq, all-below}
+
+-- no byte c
+abbrev pub free : ℕ → List ℕ → Bool
+free c [] = true
+free c (b ∷ l) = not (eqb b c) && free c l
+
+free-append : (c : ℕ) (l m : List ℕ) → free c l ≡ true → free c m ≡ true → free c (l ++ m) ≡ true
+free-append c [] m e f = f
+free-append c (b ∷ l) m e f = and-both (not (eqb b c)) (free c (l ++ m)) (and-left _ _ e) (free-append c l m (and-right (not (eqb b c)) (free c l) e) f)
+
+-- Numerals of less than 1,000, all tried.
+pub none-some : {n : ℕ} → none ≡ some n → ⊥
+none-some e = let z : _≡_ {A = ℕ} 0 1 = cc in omega arith
+
+pub some-some : {m n : ℕ} → some m ≡ some n → m ≡ n
+some-some e = cc
+
+abbrev pub dec-true : (x : Bool) → Dec (x ≡ true)
+dec-true true = yes refl
+dec-true false = no false≢true
+
+abbrev pub dec-some : (o : Option ℕ) (n : ℕ) → Dec (o ≡ some n)
+dec-some none n = no none-some
+dec-some (some m) n = dec-by (λ e. ap some e) some-some (dec-eq m n)
+
+pub numeral-good : (n : ℕ) → n < 1000 → (free 9 (numeral n) ≡ true) × ((free 10 (numeral n) ≡ true) × (numberOf (numeral n) ≡ some n))
+numeral-good = decided (all-below (λ n. dec-and (dec-true (free 9 (numeral n))) (dec-and (dec-true (free 10 (numeral n))) (dec-some (numberOf (numeral n)) n))) 1000) tt
+
+abbrev pub Small : List ℕ → Type 0
+Small [] = Unit
+Small (n ∷ ns) = (n < 1000) × Small ns
+
+-- Lines.
+pub lines-line : (l s : List ℕ) → free 10 l ≡ true → linesOf (l ++ (10 ∷ s)) ≡ more l (linesOf s)
+lines-line [] s e = refl
+lines-line (b ∷ l) s e =
+    let f : eqb b 10 ≡ false = not-true (eqb b 10) (and-left _ _ e) in
+    ap (withByte b) (lines-line l s (and-right (not (eqb b 10)) (free 10 l) e)) ∙ ap (λ x. cond x (more [] (more l (linesOf s))) (more (b ∷ l) (linesOf s))) f
+
+fields-free : (ns : List ℕ) → Small ns → free 10 (fields ns) ≡ true
+fields-free [] h = refl
+fields-free (n ∷ ns) h = free-append 10 (numeral n) (fields ns) (numeral-good n (h .0) .1 .0) (fields-free ns (h .1))
+
+pub line-read : (word ns s : List ℕ) → free 10 word ≡ true → Small ns → linesOf (line word ns ++ s) ≡ more (word ++ fields ns) (linesOf s)
+line-read word ns s e h = ap linesOf apart ∙ lines-line (word ++ fields ns) s (free-append 10 word (fields ns) e (fields-free ns h))
+  where
+    apart : line word ns ++ s ≡ (word ++ fields ns) ++ (10 ∷ s)
+    apart = simp append-assoc
+
+-- Fields.
+fields-front : (l m f : List ℕ) (fs : List (List ℕ)) → free 9 l ≡ true → fieldsOf m ≡ f ∷ fs → fieldsOf (l ++ m) ≡ (l ++ f) ∷ fs
+fields-front [] m f fs e h = h
+fields-front (b ∷ l) m f fs e h =
+    let g : eqb b 9 ≡ false = not-true (eqb b 9) (and-left _ _ e) in
+    ap (onField b) (fields-front l m f fs (and-right (not (eqb b 9)) (free 9 l) e) h) ∙ ap (λ x. cond x ([] ∷ (l ++ f) ∷ fs) ((b ∷ (l ++ f)) ∷ fs)) g
+
+fields-first : (l m : List ℕ) (fs : List (List ℕ)) → free 9 l ≡ true → fieldsOf m ≡ [] ∷ fs → fieldsOf (l ++ m) ≡ l ∷ fs
+fields-first l m fs e h = fields-front l m [] fs e h ∙ ap (λ x. x ∷ fs) (append-nil l)
+
+fields-apart : (ns : List ℕ) → Small ns → fieldsOf (fields ns) ≡ [] ∷ map numeral ns
+fields-apart [] h = refl
+fields-apart (n ∷ ns) h =
+    ap (onField 9) (fields-first (numeral n) (fields ns) (map numeral ns) (numeral-good n (h .0) .0) (fields-apart ns (h .1)))
+
+numbers-read : (ns : List ℕ) → Small ns → numbersOf (map numeral ns) ≡ some ns
+numbers-read [] h = refl
+numbers-read (n ∷ ns) h = ap (λ o. andNumber o (numbersOf (map numeral ns))) (numeral-good n (h .0) .1 .1) ∙ ap (andNumber (some n)) (numbers-read ns (h .1))
+
+pub fields-read : (n : ℕ) (ns : List ℕ) → Small (n ∷ ns) → numbersOf (fieldsOf (numeral n ++ fields ns)) ≡ some (n ∷ ns)
+fields-read n ns h =
+    ap numbersOf (fields-first (numeral n) (fields ns) (map numeral ns) (numeral-good n (h .0) .0) (fields-apart ns (h .1))) ∙ numbers-read (n ∷ ns) h
+
+-- Lines of one kind.
+module _ {A : Type 0} (say : List ℕ → Option A) (all : List A → Sheet) (word : List ℕ) (numbers : A → List ℕ) (Good : A → Type 0)
+    (plain : free 10 word ≡ true) (small : (a : A) → Good a → Small (numbers a)) (said : (a : A) → Good a → say (word ++ fields (numbers a)) ≡ some a) where
+  pub rest-read : (got l : List A) (n : ℕ) → ((a : A) → In a l → Good a)
+      → restSays say all got (length l) n (linesOf (linesText word numbers l)) ≡ all (got ++ l)
+  rest-read got [] n g = ap all (sym (append-nil got))
+  rest-read got (a ∷ l) n g =
+      ap (restSays say all got (suc (length l)) n) (line-read word (numbers a) (linesText word numbers l) plain (small a (g a (inl refl))))
+      ∙ ap (λ o. orBad n o (λ x. restSays say all (got ++ (x ∷ [])) (length l) (n + 1) (linesOf (linesText word numbers l)))) (said a (g a (inl refl)))
+      ∙ rest-read (got ++ (a ∷ [])) l (n + 1) (λ b m. g b (inr m))
+      ∙ ap all (append-assoc got (a ∷ []) l)
+
+-- The limits keep every number of a sheet below 1,000.
+pub record Within (j : Job) : Type 0 where
+  pub few-cells : j .cells ≤ 256
+  pub few-carts : length (j .carts) ≤ 64
+  pub few-calls : length (j .calls) ≤ 64
+  pub few-steps : horizon j < 256
+
+cells-small : (n : ℕ) (ws : List ℕ) → n ≤ 256 → allBelow n ws ≡ true → Small ws
+cells-small n [] h e = tt
+cells-small n (w ∷ ws) h e = (omega (arith, ltb-true w n (and-left _ _ e)), cells-small n ws h (and-right (ltb w n) (allBelow n ws) e))
+
+module _ (j : Job) (lim : Within j) where
+  path-small : (p : Path) → knownPath j p ≡ true → Small (pathNumbers p)
+  path-small p e =
+      let x₁ = ltb (p .cart) (length (j .carts)) in
+      let x₂ = ltb (p .call) (length (j .calls)) in
+      let x₃ = eqb (length (p .cells)) (suc (callOf j (p .call) .deadline)) in
+      let x₄ = allBelow (j .cells) (p .cells) in
+      let e₁₂ : (x₁ && x₂) ≡ true = and-left (x₁ && x₂) x₃ (and-left (x₁ && x₂ && x₃) x₄ e) in (
+        omega (arith, ltb-true (p .cart) (length (j .carts)) (and-left x₁ x₂ e₁₂), lim .few-carts),
+        (
+          omega (arith, ltb-true (p .call) (length (j .calls)) (and-right x₁ x₂ e₁₂), lim .few-calls),
+          cells-small (j .cells) (p .cells) (lim .few-cells) (and-right (x₁ && x₂ && x₃) x₄ e),
+        ),
+      )
+
+  path-said : (p : Path) → knownPath j p ≡ true → pathLine j (pathWord ++ fields (pathNumbers p)) ≡ some p
+  path-said p e = ap (pathOf j) (fields-read (p .cart) (p .call ∷ p .cells) (path-small p e)) ∙ ap (λ x. cond x (some p) none) e
+
+  pub plan-read : (ps : List Path) → length ps ≡ length (j .calls) → ((p : Path) → In p ps → knownPath j p ≡ true) → readSheet j (planText ps) ≡ plan ps
+  unfolding readSheet
+  plan-read ps e g =
+      ap (headSays j) (line-read planWord (length ps ∷ []) (linesText pathWord pathNumbers ps) refl (omega (arith, lim .few-calls), tt))
+      ∙ ap (countSays (λ n. eqb n (length (j .calls))) (λ n. restSays (pathLine j) plan [] n 2 (linesOf (linesText pathWord pathNumbers ps)))) (fields-read (length ps) [] (omega (arith, lim .few-calls), tt))
+      ∙ ap (λ x. cond x (restSays (pathLine j) plan [] (length ps) 2 (linesOf (linesText pathWord pathNumbers ps))) (bad 1)) (eq-eqb (length ps) (length (j .calls)) e)
+      ∙ rest-read (pathLine j) plan pathWord pathNumbers (λ p. knownPath j p ≡ true) refl path-small path-said [] ps 2 g
+
+  point-small : (x : Point) → knownPoint j x ≡ true → Small (chokeNumbers x)
+  point-small x e = (
+    omega (arith, ltb-true (x .cell) (j .cells) (and-left _ _ e), lim .few-cells),
+    (omega (arith, leb-true (x .step) (horizon j) (and-right (ltb (x .cell) (j .cells)) (leb (x .step) (horizon j)) e), lim .few-steps), tt),
+  )
+
+  point-said : (x : Point) → knownPoint j x ≡ true → chokeLine j (chokeWord ++ fields (chokeNumbers x)) ≡ some x
+  point-said x e = ap (pointOf j) (fields-read (x .cell) (x .step ∷ []) (point-small x e)) ∙ ap (λ b. cond b (some x) none) e
+
+  pub cannot-read : (xs : List Point) → length xs < length (j .calls) → ((x : Point) → In x xs → knownPoint j x ≡ true) → readSheet j (cannotText xs) ≡ cannot xs
+  unfolding readSheet
+  cannot-read xs e g =
+      ap (headSays j) (line-read cannotWord (length xs ∷ []) (linesText chokeWord chokeNumbers xs) refl (omega (arith, lim .few-calls), tt))
+      ∙ ap (countSays (λ n. ltb n (length (j .calls))) (λ n. restSays (chokeLine j) cannot [] n 2 (linesOf (linesText chokeWord chokeNumbers xs)))) (fields-read (length xs) [] (omega (arith, lim .few-calls), tt))
+      ∙ ap (λ x. cond x (restSays (chokeLine j) cannot [] (length xs) 2 (linesOf (linesText chokeWord chokeNumbers xs))) (bad 1)) (lt-ltb (length xs) (length (j .calls)) e)
+      ∙ rest-read (chokeLine j) cannot chokeWord chokeNumbers (λ x. knownPoint j x ≡ true) refl point-small point-said [] xs 2 g

@@ -1,0 +1,77 @@
+-- The contracts of the planner and of the check: the answer r, and every byte of the lent buffers afterwards. A primed name is a buffer after the call.
+use Prim.Native.Nat.{ℕ, _+_, _*_}
+use mathlib.Core.Path.{_≡_}
+use mathlib.Core.List.{List, [], _++_}
+use mathlib.Core.Logic.{_⊎_}
+use mathlib.Core.Bool.{cond}
+use lib.Dec.{ltb}
+use lib.ListN.{length, drop, replicate}
+use Rattle.model.specs.Job.{Job, storeLeast, sheetLeast}
+use Rattle.model.specs.Plan.{Path, Plan, PlanInOrder}
+use Rattle.model.specs.Choke.{Point, TrueChokes, ChokesInOrder}
+use Rattle.model.specs.SheetText.{planText, cannotText}
+use Rattle.model.specs.ReadJob.{Verdict, refused, accepted, readJob}
+use Rattle.model.specs.ReadSheet.{Sheet, bad, plan, cannot, readSheet}
+
+-- 9 and 10: a buffer too short
+abbrev pub withStore : ℕ → Verdict → Verdict
+withStore n (refused k l) = refused k l
+withStore n (accepted j) = cond (ltb n (storeLeast j)) (refused 9 0) (accepted j)
+
+abbrev pub withRoom : ℕ → Verdict → Verdict
+withRoom n (refused k l) = refused k l
+withRoom n (accepted j) = cond (ltb n (sheetLeast j)) (refused 10 0) (accepted j)
+
+abbrev pub RightPlan : Job → List Path → Type 0
+RightPlan j ps = Plan j ps × PlanInOrder j ps
+
+abbrev pub RightChokes : Job → List Point → Type 0
+RightChokes j xs = TrueChokes j xs × ChokesInOrder xs
+
+-- The sheet b that the planner writes, with its answer.
+abbrev pub Answers : Job → ℕ → List ℕ → Type 0
+Answers j r b =
+    ((ps : List Path) × RightPlan j ps × (b ≡ planText ps) × (r ≡ 0 + 256 * length b))
+    ⊎ ((xs : List Point) × RightChokes j xs × (b ≡ cannotText xs) × (r ≡ 1 + 256 * length b) × ((ps : List Path) → Plan j ps → ⊥))
+
+-- The planner's answer r and the bytes b that it writes; none at a refusal.
+abbrev pub Told : Verdict → ℕ → List ℕ → Type 0
+Told (refused k l) r b = (r ≡ k + 256 * l) × (b ≡ [])
+Told (accepted j) r b = Answers j r b
+
+-- The check's answer.
+abbrev pub Judged : Job → Sheet → ℕ → Type 0
+Judged j (bad l) r = r ≡ 11 + 256 * l
+Judged j (plan ps) r = (RightPlan j ps × (r ≡ 0)) ⊎ ((RightPlan j ps → ⊥) × (r ≡ 12))
+Judged j (cannot xs) r = (RightChokes j xs × (r ≡ 1)) ⊎ ((RightChokes j xs → ⊥) × (r ≡ 12))
+
+abbrev pub Decided : Verdict → List ℕ → ℕ → Type 0
+Decided (refused k l) sheet r = r ≡ k + 256 * l
+Decided (accepted j) sheet r = Judged j (readSheet j sheet) r
+
+-- by the lengths of store and sheet buffer
+abbrev pub planVerdict : List ℕ → ℕ → ℕ → Verdict
+planVerdict job store room = withRoom room (withStore store (readJob job))
+
+abbrev pub checkVerdict : List ℕ → ℕ → Verdict
+checkVerdict job store = withStore store (readJob job)
+
+abbrev pub zeros : List ℕ → List ℕ
+zeros s = replicate (length s) 0
+
+-- A refusal changes no lent byte; otherwise the store is wiped.
+abbrev pub storeAfter : Verdict → List ℕ → List ℕ
+storeAfter (refused k l) store = store
+storeAfter (accepted j) store = zeros store
+
+-- The planner: the bytes written, and behind them what stood there.
+pub record Planned (job store sheet store′ sheet′ : List ℕ) (r : ℕ) : Type 0 where
+  pub bytes : List ℕ
+  pub told : Told (planVerdict job (length store) (length sheet)) r bytes
+  pub sheet-after : sheet′ ≡ bytes ++ drop (length bytes) sheet
+  pub store-after : store′ ≡ storeAfter (planVerdict job (length store) (length sheet)) store
+
+-- The check: a store is wiped after 0 and 1 alone.
+pub record Checked (job store sheet store′ : List ℕ) (r : ℕ) : Type 0 where
+  pub told : Decided (checkVerdict job (length store)) sheet r
+  pub store-after : store′ ≡ cond (ltb r 2) (zeros store) store

@@ -1,0 +1,72 @@
+-- The filed examples, as rows of a table, and what it is for a row to hold.
+use Prim.Native.Nat.{ℕ, _+_, _*_}
+use Prim.Native.String.{String}
+use mathlib.Core.Path.{_≡_}
+use mathlib.Core.List.{List, [], _∷_, _++_}
+use mathlib.Core.Bool.{cond}
+use lib.Dec.{ltb}
+use lib.ListN.{length, drop}
+use Rattle.model.specs.Bytes.{bytes}
+use Rattle.model.specs.Contracts.{Planned, Checked, zeros}
+
+-- what the planner is to do: answer 0 or 1 and write a sheet, or refuse
+pub data Outcome : Type 0 where
+  wrote : (answer : ℕ) (sheet : String) → Outcome
+  refuses : (number line : ℕ) → Outcome
+
+abbrev pub packed : Outcome → ℕ
+packed (wrote k s) = k + 256 * length (bytes s)
+packed (refuses n l) = n + 256 * l
+
+abbrev pub written : Outcome → List ℕ
+written (wrote k s) = bytes s
+written (refuses n l) = []
+
+abbrev pub leaves : Outcome → List ℕ → List ℕ
+leaves (wrote k s) store = zeros store
+leaves (refuses n l) store = store
+
+-- A job, the store's length, and the sheet buffer's length for the planner or the sheet for the check, with what is filed.
+pub data Row : Type 0 where
+  plans : (job : String) (store room : ℕ) → Outcome → Row
+  checks : (job : String) (store : ℕ) (sheet : String) (answer : ℕ) → Row
+
+-- What is filed is what the contract allows, and nothing else is.
+abbrev pub Holds : Row → Type 0
+Holds (plans job n m o) = (store sheet store′ sheet′ : List ℕ) (r : ℕ) → length store ≡ n → length sheet ≡ m
+    → (Planned (bytes job) store sheet store′ sheet′ r → (r ≡ packed o) × (sheet′ ≡ written o ++ drop (length (written o)) sheet) × (store′ ≡ leaves o store))
+    × ((r ≡ packed o) × (sheet′ ≡ written o ++ drop (length (written o)) sheet) × (store′ ≡ leaves o store) → Planned (bytes job) store sheet store′ sheet′ r)
+Holds (checks job n sheet k) = (store store′ : List ℕ) (r : ℕ) → length store ≡ n
+    → (Checked (bytes job) store (bytes sheet) store′ r → (r ≡ k) × (store′ ≡ cond (ltb k 2) (zeros store) store))
+    × ((r ≡ k) × (store′ ≡ cond (ltb k 2) (zeros store) store) → Checked (bytes job) store (bytes sheet) store′ r)
+
+abbrev pub jobA : String
+jobA = "FLOOR\t3\nTRACK\t0\t1\nTRACK\t1\t2\nCART\t0\nCART\t1\nCALL\t2\t1\nCALL\t1\t1\n"
+
+abbrev pub jobB : String
+jobB = "FLOOR\t3\nTRACK\t0\t1\nTRACK\t1\t2\nCART\t0\nCART\t1\nCALL\t2\t1\nCALL\t1\t0\n"
+
+abbrev pub jobD : String
+jobD = "FLOOR\t1\nCART\t0\nCALL\t0\t0\n"
+
+abbrev pub jobF : String
+jobF = "FLOOR\t2\nTRACK\t0\t1\nCART\t0\nCART\t1\nCALL\t0\t1\nCALL\t1\t1\n"
+
+abbrev pub big : ℕ
+big = 65536
+
+abbrev pub filed : List Row
+filed =
+    plans jobA big big (wrote 0 "PLAN\t2\nPATH\t1\t0\t1\t2\nPATH\t0\t1\t0\t1\n")
+    ∷ plans jobB big big (wrote 1 "CANNOT\t1\nCHOKE\t1\t0\n")
+    ∷ plans "FLOOR\t1\n" big big (wrote 0 "PLAN\t0\n")
+    ∷ plans jobD big big (wrote 0 "PLAN\t1\nPATH\t0\t0\t0\n")
+    ∷ plans jobD 4128 big (wrote 0 "PLAN\t1\nPATH\t0\t0\t0\n")
+    ∷ plans jobD 4127 big (refuses 9 0)
+    ∷ plans jobF big big (wrote 0 "PLAN\t2\nPATH\t0\t0\t0\t0\nPATH\t1\t1\t1\t1\n")
+    ∷ checks jobF big "PLAN\t2\nPATH\t1\t0\t1\t0\nPATH\t0\t1\t0\t1\n" 12
+    ∷ plans "FLOOR\t2\nCART\t0\nCALL\t1\t5\n" big big (wrote 1 "CANNOT\t0\n")
+    ∷ plans "" big big (refuses 3 1)
+    ∷ plans "FLOOR\t1\nTRACK\t0\t0\n" big big (refuses 7 2)
+    ∷ plans "FLOOR\t1\nCART\t0\n" big big (refuses 8 0)
+    ∷ []

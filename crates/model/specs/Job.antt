@@ -1,0 +1,48 @@
+-- A job: a floor, and the carts and calls on it. Cells, tracks, carts and calls are numbered from 0.
+use Prim.Native.Nat.{ℕ, _+_, _*_, max}
+use mathlib.Core.List.{List, [], _∷_}
+use lib.ListN.{length, getD}
+
+-- the two cells that a track joins, in the order of its line
+pub record Track : Type 0 where
+  pub from : ℕ
+  pub to : ℕ
+
+-- a lift cell, and the step at which its cart stands there
+pub record Call : Type 0 where
+  pub cell : ℕ
+  pub deadline : ℕ
+
+pub record Job : Type 0 where
+  pub cells : ℕ
+  pub tracks : List Track
+  -- the cell of each cart at step 0
+  pub carts : List ℕ
+  pub calls : List Call
+
+abbrev pub track : ℕ → ℕ → Track
+track u v = record { from = u; to = v }
+
+abbrev pub call : ℕ → ℕ → Call
+call v t = record { cell = v; deadline = t }
+
+abbrev pub cartCell : Job → ℕ → ℕ
+cartCell j k = getD (j .carts) k 0
+
+abbrev pub callOf : Job → ℕ → Call
+callOf j k = getD (j .calls) k (call 0 0)
+
+-- H: the largest deadline, 0 if there are no calls
+abbrev pub latest : List Call → ℕ
+latest [] = 0
+latest (q ∷ qs) = max (q .deadline) (latest qs)
+
+abbrev pub horizon : Job → ℕ
+horizon j = latest (j .calls)
+
+-- the least lengths of the lent buffers
+abbrev pub storeLeast : Job → ℕ
+storeLeast j = (horizon j + 1) * 32 * (j .cells + 2 * length (j .tracks)) + 4096
+
+abbrev pub sheetLeast : Job → ℕ
+sheetLeast j = length (j .carts) * (4 * (horizon j + 1) + 16) + 64

@@ -1,0 +1,14 @@
+pub mod Limits
+pub mod Lists
+pub mod Job
+pub mod Walk
+pub mod Plan
+pub mod Choke
+pub mod Bytes
+pub mod Text
+pub mod SheetText
+pub mod ReadJob
+pub mod ReadSheet
+pub mod Contracts
+pub mod Ready
+pub mod Filed

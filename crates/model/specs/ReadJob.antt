@@ -1,0 +1,114 @@
+-- The job that a text says, or its refusal: a number and a line, from 1. The state is the job of the lines so far; it has 0 cells before its FLOOR line.
+use Prim.Native.Nat.{ℕ, _+_}
+use mathlib.Core.List.{List, [], _∷_, _++_, map}
+use mathlib.Core.Option.{Option, none, some}
+use mathlib.Core.Bool.{Bool, true, false, cond, not, _&&_, _||_}
+use lib.Dec.{ltb, leb, eqb}
+use lib.ListN.{length, getD}
+use Rattle.model.specs.Limits.{maxCells, maxTracks, maxCarts, maxCalls, maxSteps, maxText}
+use Rattle.model.specs.Job.{Job, Track, track, call}
+use Rattle.model.specs.Text.{Lines, done, cut, more, linesOf, numbersOf, opens, after, floorWord, trackWord, cartWord, callWord}
+
+pub data Verdict : Type 0 where
+  refused : (number line : ℕ) → Verdict
+  accepted : Job → Verdict
+
+pub data Kind : Type 0 where
+  floorLine trackLine cartLine callLine : Kind
+
+abbrev pub noJob : Job
+noJob = record { cells = 0; tracks = []; carts = []; calls = [] }
+
+abbrev pub isEmpty : {A : Type 0} → List A → Bool
+isEmpty [] = true
+isEmpty (a ∷ l) = false
+
+abbrev pub member : ℕ → List ℕ → Bool
+member a [] = false
+member a (b ∷ l) = eqb a b || member a l
+
+-- a track from a to b
+abbrev pub leads : ℕ → ℕ → List Track → Bool
+leads a b [] = false
+leads a b (t ∷ ts) = (eqb a (t .from) && eqb b (t .to)) || leads a b ts
+
+-- 3: one FLOOR first, then all TRACK, then all CART, then all CALL lines
+abbrev pub mayFollow : Job → Kind → Bool
+mayFollow j floorLine = eqb (j .cells) 0
+mayFollow j trackLine = ltb 0 (j .cells) && isEmpty (j .carts) && isEmpty (j .calls)
+mayFollow j cartLine = ltb 0 (j .cells) && isEmpty (j .calls)
+mayFollow j callLine = ltb 0 (j .cells)
+
+abbrev pub fieldCount : Kind → ℕ
+fieldCount floorLine = 1
+fieldCount trackLine = 2
+fieldCount cartLine = 1
+fieldCount callLine = 2
+
+-- 5: of the line's numbers, a is the first and b the second, if it has two
+abbrev pub inRange : Job → Kind → ℕ → ℕ → Bool
+inRange j floorLine a b = ltb 0 a && leb a maxCells
+inRange j trackLine a b = ltb a (j .cells) && ltb b (j .cells)
+inRange j cartLine a b = ltb a (j .cells)
+inRange j callLine a b = ltb a (j .cells) && ltb b maxSteps
+
+-- 6: one more of its kind is allowed
+abbrev pub hasRoom : Job → Kind → Bool
+hasRoom j floorLine = true
+hasRoom j trackLine = ltb (length (j .tracks)) maxTracks
+hasRoom j cartLine = ltb (length (j .carts)) maxCarts
+hasRoom j callLine = ltb (length (j .calls)) maxCalls
+
+-- 7: no track from a cell to itself or between cells joined already, either way round; no second cart or call on a cell
+abbrev pub isNew : Job → Kind → ℕ → ℕ → Bool
+isNew j floorLine a b = true
+isNew j trackLine a b = not (eqb a b || leads a b (j .tracks) || leads b a (j .tracks))
+isNew j cartLine a b = not (member a (j .carts))
+isNew j callLine a b = not (member a (map (λ q. q .cell) (j .calls)))
+
+abbrev pub add : Job → Kind → ℕ → ℕ → Job
+add j floorLine a b = record { cells = a; tracks = j .tracks; carts = j .carts; calls = j .calls }
+add j trackLine a b = record { cells = j .cells; tracks = j .tracks ++ (track a b ∷ []); carts = j .carts; calls = j .calls }
+add j cartLine a b = record { cells = j .cells; tracks = j .tracks; carts = j .carts ++ (a ∷ []); calls = j .calls }
+add j callLine a b = record { cells = j .cells; tracks = j .tracks; carts = j .carts; calls = j .calls ++ (call a b ∷ []) }
+
+-- What a line says: the job with it, or the number of the first test that fails.
+pub data Said : Type 0 where
+  wrong : ℕ → Said
+  right : Job → Said
+
+abbrev pub numbersSay : Job → Kind → Option (List ℕ) → Said
+numbersSay j k none = wrong 4
+numbersSay j k (some ns) =
+    let a = getD ns 0 0 in
+    let b = getD ns 1 0 in
+    cond (inRange j k a b) (cond (hasRoom j k) (cond (isNew j k a b) (right (add j k a b)) (wrong 7)) (wrong 6)) (wrong 5)
+
+abbrev pub fieldsSay : Job → Kind → List (List ℕ) → Said
+fieldsSay j k fs = cond (mayFollow j k && eqb (length fs) (fieldCount k)) (numbersSay j k (numbersOf fs)) (wrong 3)
+
+-- The word at the line's start decides; what follows it and its tab are the fields.
+abbrev pub lineSays : Job → List ℕ → Said
+lineSays j l =
+    cond (opens floorWord l) (fieldsSay j floorLine (after floorWord l))
+    (cond (opens trackWord l) (fieldsSay j trackLine (after trackWord l))
+    (cond (opens cartWord l) (fieldsSay j cartLine (after cartWord l))
+    (cond (opens callWord l) (fieldsSay j callLine (after callWord l))
+    (wrong 3))))
+
+abbrev pub goOn : Said → ℕ → (Job → Verdict) → Verdict
+goOn (wrong k) n on = refused k n
+goOn (right j) n on = on j
+
+-- 8: carts and calls differ in number. A text without a line has no FLOOR.
+abbrev pub wholeJob : Job → ℕ → Verdict
+wholeJob j n = cond (eqb (j .cells) 0) (refused 3 n) (cond (eqb (length (j .carts)) (length (j .calls))) (accepted j) (refused 8 0))
+
+-- The lines from number n on, after those that said j.
+abbrev pub linesSay : Job → ℕ → Lines → Verdict
+linesSay j n done = wholeJob j n
+linesSay j n cut = refused 3 n
+linesSay j n (more l ls) = goOn (lineSays j l) n (λ j′. linesSay j′ (n + 1) ls)
+
+unfoldable pub readJob : List ℕ → Verdict
+readJob s = cond (ltb maxText (length s)) (refused 2 0) (linesSay noJob 1 (linesOf s))

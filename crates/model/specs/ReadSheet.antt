@@ -1,0 +1,84 @@
+-- What a sheet says: paths or choke points in the written form of a job, or the first bad line.
+use Prim.Native.Nat.{ℕ, zero, suc, _+_}
+use mathlib.Core.List.{List, [], _∷_, _++_}
+use mathlib.Core.Option.{Option, none, some}
+use mathlib.Core.Bool.{Bool, true, cond, _&&_}
+use lib.Dec.{ltb, leb, eqb}
+use lib.ListN.{length}
+use Rattle.model.specs.Job.{Job, callOf, horizon}
+use Rattle.model.specs.Plan.{Path}
+use Rattle.model.specs.Choke.{Point}
+use Rattle.model.specs.Text.{Lines, done, cut, more, linesOf, numbersOf, opens, after, planWord, pathWord, cannotWord, chokeWord}
+
+pub data Sheet : Type 0 where
+  bad : (line : ℕ) → Sheet
+  plan : List Path → Sheet
+  cannot : List Point → Sheet
+
+-- the numbers behind a word, if the line opens with it
+abbrev pub numbersAfter : List ℕ → List ℕ → Option (List ℕ)
+numbersAfter word l = cond (opens word l) (numbersOf (after word l)) none
+
+abbrev pub allBelow : ℕ → List ℕ → Bool
+allBelow n [] = true
+allBelow n (a ∷ l) = ltb a n && allBelow n l
+
+-- PATH: a known cart, a known call, deadline + 1 known cells
+abbrev pub knownPath : Job → Path → Bool
+knownPath j p =
+    ltb (p .cart) (length (j .carts)) && ltb (p .call) (length (j .calls)) && eqb (length (p .cells)) (suc (callOf j (p .call) .deadline)) && allBelow (j .cells) (p .cells)
+
+abbrev pub pathOf : Job → Option (List ℕ) → Option Path
+pathOf j none = none
+pathOf j (some []) = none
+pathOf j (some (a ∷ [])) = none
+pathOf j (some (a ∷ b ∷ ws)) = let p : Path = record { cart = a; call = b; cells = ws } in cond (knownPath j p) (some p) none
+
+-- CHOKE: a known cell, a step from 0 to H
+abbrev pub knownPoint : Job → Point → Bool
+knownPoint j x = ltb (x .cell) (j .cells) && leb (x .step) (horizon j)
+
+abbrev pub pointOf : Job → Option (List ℕ) → Option Point
+pointOf j none = none
+pointOf j (some []) = none
+pointOf j (some (a ∷ [])) = none
+pointOf j (some (a ∷ b ∷ [])) = let x : Point = record { cell = a; step = b } in cond (knownPoint j x) (some x) none
+pointOf j (some (a ∷ b ∷ c ∷ ns)) = none
+
+abbrev pub orBad : {A : Type 0} → ℕ → Option A → (A → Sheet) → Sheet
+orBad n none on = bad n
+orBad n (some a) on = on a
+
+-- The lines from number n on: k more of them, `say` each, and no other. `got` were said so far.
+module _ {A : Type 0} (say : List ℕ → Option A) (all : List A → Sheet) where
+  abbrev pub restSays : List A → ℕ → ℕ → Lines → Sheet
+  restSays got zero n done = all got
+  restSays got zero n cut = bad n
+  restSays got zero n (more l ls) = bad n
+  restSays got (suc k) n done = bad n
+  restSays got (suc k) n cut = bad n
+  restSays got (suc k) n (more l ls) = orBad n (say l) (λ a. restSays (got ++ (a ∷ [])) k (n + 1) ls)
+
+abbrev pub pathLine : Job → List ℕ → Option Path
+pathLine j l = pathOf j (numbersAfter pathWord l)
+
+abbrev pub chokeLine : Job → List ℕ → Option Point
+chokeLine j l = pointOf j (numbersAfter chokeWord l)
+
+-- the first line: one number, which is right, and the rest by it
+abbrev pub countSays : (ℕ → Bool) → (ℕ → Sheet) → Option (List ℕ) → Sheet
+countSays isRight rest none = bad 1
+countSays isRight rest (some []) = bad 1
+countSays isRight rest (some (n ∷ [])) = cond (isRight n) (rest n) (bad 1)
+countSays isRight rest (some (n ∷ m ∷ ns)) = bad 1
+
+-- PLAN has the number of calls, CANNOT a number below it
+abbrev pub headSays : Job → Lines → Sheet
+headSays j done = bad 1
+headSays j cut = bad 1
+headSays j (more l ls) = cond (opens planWord l)
+    (countSays (λ n. eqb n (length (j .calls))) (λ n. restSays (pathLine j) plan [] n 2 ls) (numbersAfter planWord l))
+    (countSays (λ n. ltb n (length (j .calls))) (λ n. restSays (chokeLine j) cannot [] n 2 ls) (numbersAfter cannotWord l))
+
+unfoldable pub readSheet : Job → List ℕ → Sheet
+readSheet j s = headSays j (linesOf s)

@@ -1,0 +1,80 @@
+-- The lines of a text from an index on, by the end of the first: what a loop over lines cites. Where no line feed ends it the rest is cut;
+-- else it is the first line, and the byte at its end is a line feed. By induction over the rest. Assumes nothing.
+use Prim.Native.Nat.{ℕ, suc, _+_, _-_, _≤_, _<_}
+use mathlib.Core.Path.{_≡_, refl, sym, ap, _∙_}
+use mathlib.Core.List.{List, [], _∷_}
+use mathlib.Core.Bool.{Bool, true, false, cond}
+use native.Mathlib.Omega.{arith}
+use lib.Dec.{eqb}
+use lib.ListN.{length, getD, take, drop, length-drop, drop-of-length-le}
+use lib.Seq.{drop-drop, getD-drop}
+use borrow.Author.Tests.{eqb-true}
+use Rattle.model.specs.Text.{done, cut, more, onFirst, linesOf}
+use Rattle.text.specs.Scan.{lineOf}
+
+line-short : (s : List ℕ) → length (lineOf s) ≤ length s
+line-short [] = omega arith
+line-short (b ∷ s) = go (eqb b 10) (line-short s)
+  where
+    go : (t : Bool) → length (lineOf s) ≤ length s → length (cond t [] (b ∷ lineOf s)) ≤ suc (length s)
+    go true h = omega arith
+    go false h = omega arith
+
+line-front : (s : List ℕ) → take (length (lineOf s)) s ≡ lineOf s
+line-front [] = refl
+line-front (b ∷ s) = go (eqb b 10) (line-front s)
+  where
+    go : (t : Bool) → take (length (lineOf s)) s ≡ lineOf s → take (length (cond t [] (b ∷ lineOf s))) (b ∷ s) ≡ cond t [] (b ∷ lineOf s)
+    go true h = refl
+    go false h = ap (λ l. b ∷ l) h
+
+feed : (s : List ℕ) → length (lineOf s) < length s → getD s (length (lineOf s)) 0 ≡ 10
+feed [] h = absurd (omega arith)
+feed (b ∷ s) h = go (eqb b 10) refl h (λ k. feed s k)
+  where
+    go : (t : Bool) → eqb b 10 ≡ t → length (cond t [] (b ∷ lineOf s)) < suc (length s)
+        → (length (lineOf s) < length s → getD s (length (lineOf s)) 0 ≡ 10) → getD (b ∷ s) (length (cond t [] (b ∷ lineOf s))) 0 ≡ 10
+    go true q h ih = eqb-true b 10 q
+    go false q h ih = ih (omega arith)
+
+no-feed : (s : List ℕ) → 0 < length s → length s ≤ length (lineOf s) → linesOf s ≡ cut
+no-feed [] n h = absurd (omega arith)
+no-feed (b ∷ s) n h = go (eqb b 10) s h (λ m k. no-feed s m k)
+  where
+    go : (t : Bool) (s : List ℕ) → suc (length s) ≤ length (cond t [] (b ∷ lineOf s)) → (0 < length s → length s ≤ length (lineOf s) → linesOf s ≡ cut)
+        → cond t (more [] (linesOf s)) (onFirst b (linesOf s)) ≡ cut
+    go true s h ih = absurd (omega arith)
+    go false [] h ih = refl
+    go false (c ∷ s) h ih = ap (onFirst b) (ih (omega arith) (omega arith))
+
+first-line : (s : List ℕ) → length (lineOf s) < length s → linesOf s ≡ more (lineOf s) (linesOf (drop (suc (length (lineOf s))) s))
+first-line [] h = absurd (omega arith)
+first-line (b ∷ s) h = go (eqb b 10) h (λ k. first-line s k)
+  where
+    go : (t : Bool) → length (cond t [] (b ∷ lineOf s)) < suc (length s)
+        → (length (lineOf s) < length s → linesOf s ≡ more (lineOf s) (linesOf (drop (suc (length (lineOf s))) s)))
+        → cond t (more [] (linesOf s)) (onFirst b (linesOf s)) ≡ more (cond t [] (b ∷ lineOf s)) (linesOf (drop (suc (length (cond t [] (b ∷ lineOf s)))) (b ∷ s)))
+    go true h ih = refl
+    go false h ih = ap (onFirst b) (ih (omega arith))
+
+module _ (s : List ℕ) (at : ℕ) where
+  pub line-bound : at ≤ length s → at + length (lineOf (drop at s)) ≤ length s
+  line-bound h = omega (arith, line-short (drop at s), length-drop at s)
+
+  pub lines-done : length s ≤ at → linesOf (drop at s) ≡ done
+  lines-done h = ap linesOf (drop-of-length-le s h)
+
+  module _ (e : ℕ) (inside : at < length s) (end : e ≡ at + length (lineOf (drop at s))) where
+    pub lines-cut : length s ≤ e → linesOf (drop at s) ≡ cut
+    lines-cut h = no-feed (drop at s) (omega (arith, length-drop at s)) (omega (arith, length-drop at s))
+
+    pub line-feed : e < length s → getD s e 0 ≡ 10
+    line-feed h = rw end (sym (getD-drop at s (length (lineOf (drop at s))) 0) ∙ feed (drop at s) (omega (arith, length-drop at s)))
+
+    pub lines-more : e < length s → linesOf (drop at s) ≡ more (take (e - at) (drop at s)) (linesOf (drop (e + 1) s))
+    lines-more h =
+        let k : length (lineOf (drop at s)) ≡ e - at = omega arith in
+        let n : at + suc (length (lineOf (drop at s))) ≡ e + 1 = omega arith in
+        first-line (drop at s) (omega (arith, length-drop at s))
+        ∙ ap (λ l. more l (linesOf (drop (suc (length (lineOf (drop at s)))) (drop at s)))) (sym (line-front (drop at s)) ∙ ap (λ x. take x (drop at s)) k)
+        ∙ ap (λ l. more (take (e - at) (drop at s)) (linesOf l)) (drop-drop (suc (length (lineOf (drop at s)))) at s ∙ ap (λ x. drop x s) n)

@@ -1,0 +1,75 @@
+-- `put::fields` meets its contract. The loop's invariant: the fields of the first i bytes are written, and take at most 4 bytes each, so that what
+-- is left of 4 · n has room for the rest. The measure is the number of fields that are left. Assumes nothing.
+use Rattle.text.specs.Wrote.{Wrote}
+use Prim.Native.Nat.{_*_, _+_, _-_, _<_, _≤_}
+use mathlib.Core.Path.{_∙_, _≡_, refl}
+use native.Mathlib.Omega.{arith}
+use Rattle.model.specs.Text.{fields}
+use Rattle.text.proofs.Wrote.{fields-suc, numeral-short, wrote-more, wrote-none}
+use lib.ListN.{length, take}
+use borrow.Author.Needs.{needs}
+use denote.Ref.{now}
+use Rattle.text.proofs.put.fields.Statement.{statement}
+use Rattle.text.proofs.put.fields.Tie as tie
+
+abbrev Inv-loop : tie.InvT-loop
+Inv-loop out₀ at cells n i₀ p₀ out i p = (i ≤ n) × (p ≤ at + 4 * i) × (length out ≡ length out₀) × Wrote out₀ at (fields (take i cells)) out p
+
+abbrev μ-loop : tie.MeasureT-loop
+μ-loop out₀ at cells n i₀ p₀ out i p = n - i
+
+loop-holds : tie.Need-loop-holds Inv-loop μ-loop
+loop-holds c = (search needs, search needs, refl, wrote-none (omega arith))
+
+shared-slice-read-wide : tie.Need-shared-slice-read-wide Inv-loop μ-loop
+shared-slice-read-wide c = search needs
+
+wide-requires : tie.Need-wide-requires Inv-loop μ-loop
+wide-requires c κs = search needs
+
+field-requires : tie.Need-field-requires Inv-loop μ-loop
+field-requires c κs = (omega arith, omega (arith, numeral-short (c .wide .result)))
+
+add-i : tie.Need-add-i Inv-loop μ-loop
+add-i c = search needs
+
+loop-less : tie.Need-loop-less Inv-loop μ-loop
+loop-less c = search needs
+
+loop-again : tie.Need-loop-again Inv-loop μ-loop
+loop-again c =
+    let l = c .before .before .before .before .before .before .before .loop in
+    let a = c .before .before .before .before .before .before .before .before .before .before .args in
+    let b = c .before .before .before .wide in
+    let f = c .before .before .field in
+    let h : l .i < length (now (a .cells)) = omega arith in (
+      omega arith,
+      omega (arith, numeral-short (b .result)),
+      f .kept .0 ∙ l .inv .2,
+      rw (fields-suc (now (a .cells)) (l .i) h, ← b .ensures .0) (wrote-more (l .inv .3) (f .ensures)),
+    )
+
+same-length : tie.Need-same-length Inv-loop μ-loop
+same-length c = search needs
+
+returns : tie.Need-returns Inv-loop μ-loop
+returns c =
+    let l = c .before .loop in
+    let e : l .i ≡ c .before .before .before .before .args .n = omega arith in
+    rw (← e) (l .inv .3)
+
+pub fields-spec : {M : Type 1} → statement M
+fields-spec =
+    tie.close
+    (tie.spec
+    Inv-loop
+    μ-loop
+    loop-holds
+    shared-slice-read-wide
+    wide-requires
+    field-requires
+    add-i
+    loop-less
+    loop-again
+    same-length
+    returns)

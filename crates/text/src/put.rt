@@ -1,0 +1,80 @@
+// Writing: bytes, words and numbers, one after the other. Each function returns the place after what it wrote.
+ghost use mathlib.Core.Path.{_≡_};
+ghost use Prim.Native.Nat.{_+_, _*_, _<_, _≤_};
+ghost use mathlib.Core.List.{_∷_, []};
+ghost use lib.ListN.{length, take};
+ghost use Rattle.model.specs.Text.{numeral, fields};
+ghost use Rattle.text.specs.Wrote.{Wrote};
+
+pub fn byte(out: &mut [u8], at: usize, b: u8) -> usize
+    requires { ⌜ at + 1 ≤ length (now out) ⌝ }
+    ensures { λ r. ⌜ Wrote (now (out .entry)) at (b ∷ []) (now (out .exit)) r ⌝ }
+{
+    out[at] = b;
+    at + 1
+}
+
+pub fn word(out: &mut [u8], at: usize, bytes: &[u8]) -> usize
+    requires { ⌜ at + length (now bytes) ≤ length (now out) ⌝ }
+    ensures { λ r. ⌜ Wrote (now (out .entry)) at (now (bytes .entry)) (now (out .exit)) r ⌝ }
+{
+    let mut i = 0;
+    while i < bytes.len() {
+        out[at + i] = bytes[i];
+        i += 1;
+    }
+    at + i
+}
+
+fn digit(n: usize) -> u8
+    requires { ⌜ n < 10 ⌝ }
+    ensures { λ r. ⌜ r ≡ 48 + n ⌝ }
+{
+    48 + n as u8
+}
+
+// A number below 1,000 in decimal digits, none of them a leading zero.
+pub fn number(out: &mut [u8], at: usize, n: usize) -> usize
+    requires { ⌜ (n < 1000) × (at + length (numeral n) ≤ length (now out)) ⌝ }
+    ensures { λ r. ⌜ Wrote (now (out .entry)) at (numeral n) (now (out .exit)) r ⌝ }
+{
+    if n < 10 {
+        return byte(out, at, digit(n));
+    }
+    if n < 100 {
+        let p = byte(out, at, digit(n / 10));
+        return byte(out, p, digit(n % 10));
+    }
+    let p = byte(out, at, digit(n / 100));
+    let q = byte(out, p, digit(n / 10 % 10));
+    byte(out, q, digit(n % 10))
+}
+
+// A field: a tab and a number.
+pub fn field(out: &mut [u8], at: usize, n: usize) -> usize
+    requires { ⌜ (n < 1000) × (at + 1 + length (numeral n) ≤ length (now out)) ⌝ }
+    ensures { λ r. ⌜ Wrote (now (out .entry)) at (9 ∷ numeral n) (now (out .exit)) r ⌝ }
+{
+    let p = byte(out, at, 9);
+    number(out, p, n)
+}
+
+fn wide(x: u8) -> usize
+    ensures { λ r. ⌜ (r ≡ x) × (r < 256) ⌝ }
+{
+    x as usize
+}
+
+// A field for each of the first n of the given bytes.
+pub fn fields(out: &mut [u8], at: usize, cells: &[u8], n: usize) -> usize
+    requires { ⌜ (n ≤ length (now cells)) × (at + 4 * n ≤ length (now out)) ⌝ }
+    ensures { λ r. ⌜ Wrote (now (out .entry)) at (fields (take n (now (cells .entry)))) (now (out .exit)) r ⌝ }
+{
+    let mut i = 0;
+    let mut p = at;
+    while i < n {
+        p = field(out, p, wide(cells[i]));
+        i += 1;
+    }
+    p
+}

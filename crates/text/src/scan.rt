@@ -1,0 +1,112 @@
+// Reading: where a line ends, the word it opens with, its fields and their numbers.
+ghost use mathlib.Core.Path.{_≡_};
+ghost use Prim.Native.Nat.{_+_, _≤_};
+ghost use lib.ListN.{length, drop};
+ghost use Rattle.model.specs.Text.{isDigit, startsWith, fieldsOf};
+ghost use Rattle.text.specs.Scan.{lineOf, numberAt, mayFollow, ended};
+
+// A number and the place after it, or none.
+pub enum Scan {
+    Value { value: usize, next: usize },
+    Fault,
+}
+
+// Where the line that starts at `at` ends: before its line feed, or at the end where it has none.
+pub fn line_end(s: &[u8], at: usize) -> usize
+    requires { ⌜ at ≤ length (now s) ⌝ }
+    ensures { λ r. ⌜ r ≡ at + length (lineOf (drop at (now (s .entry)))) ⌝ }
+{
+    let mut i = at;
+    while i < s.len() {
+        if s[i] == 10 {
+            return i;
+        }
+        i += 1;
+    }
+    i
+}
+
+// Whether s starts with word.
+pub fn opens_with(s: &[u8], word: &[u8]) -> bool
+    ensures { λ r. ⌜ r ≡ startsWith (now (word .entry)) (now (s .entry)) ⌝ }
+{
+    let mut i = 0;
+    while i < word.len() {
+        if s.len() <= i {
+            return false;
+        }
+        if s[i] != word[i] {
+            return false;
+        }
+        i += 1;
+    }
+    true
+}
+
+// How many fields s has: one more than its tabs.
+pub fn field_count(s: &[u8]) -> usize
+    ensures { λ r. ⌜ r ≡ length (fieldsOf (now (s .entry))) ⌝ }
+{
+    let mut i = 0;
+    let mut n = 1;
+    while i < s.len() {
+        if s[i] == 9 {
+            n += 1;
+        }
+        i += 1;
+    }
+    n
+}
+
+fn digit(b: u8) -> bool
+    ensures { λ r. ⌜ r ≡ isDigit b ⌝ }
+{
+    48 <= b && b < 58
+}
+
+// Whether a further digit may follow n digits with the value v.
+fn may_follow(n: usize, v: usize) -> bool
+    ensures { λ r. ⌜ r ≡ mayFollow n v ⌝ }
+{
+    n == 0 || (0 < v && v < 100)
+}
+
+fn finish(i: usize, n: usize, v: usize) -> Scan
+    ensures { λ r. ⌜ r ≡ ended i n v ⌝ }
+{
+    if n == 0 {
+        return Scan::Fault;
+    }
+    Scan::Value { value: v, next: i }
+}
+
+fn wide(x: u8) -> usize
+    ensures { λ r. ⌜ r ≡ x ⌝ }
+{
+    x as usize
+}
+
+// The number that is the field from `at` on, which ends before a tab or at the end.
+pub fn number(s: &[u8], at: usize) -> Scan
+    ensures { λ r. ⌜ r ≡ numberAt (now (s .entry)) at ⌝ }
+{
+    let mut i = at;
+    let mut n = 0;
+    let mut v = 0;
+    while i < s.len() {
+        let b = s[i];
+        if b == 9 {
+            return finish(i, n, v);
+        }
+        if !digit(b) {
+            return Scan::Fault;
+        }
+        if !may_follow(n, v) {
+            return Scan::Fault;
+        }
+        v = v * 10 + (wide(b) - 48);
+        n = 1;
+        i += 1;
+    }
+    finish(i, n, v)
+}
