@@ -1,6 +1,6 @@
 -- A job that is read is fit: each line's tests keep it so. Assumes nothing.
 use Prim.Native.Nat.{ℕ, zero, suc, _+_, _<_}
-use mathlib.Core.Path.{_≡_, refl, sym, ap, subst}
+use mathlib.Core.Path.{_≡_, refl, sym, ap, subst, _∙_}
 use mathlib.Core.List.{List, [], _∷_, _++_, map}
 use mathlib.Core.Option.{Option, none, some}
 use mathlib.Core.Bool.{Bool, true, false, cond, _&&_, _||_, false≢true}
@@ -8,14 +8,15 @@ use mathlib.Core.Logic.{_⊎_, inl, inr}
 use native.Mathlib.Omega.{arith}
 use lib.Dec.{eqb, ltb, leb}
 use lib.ListN.{length, getD}
-use borrow.Author.Tests.{ltb-true, leb-true, eqb-true, eqb-false, not-true}
+use borrow.Author.Tests.{ltb-true, ltb-false, leb-true, eqb-true, eqb-false, not-true}
 use Rattle.model.specs.Limits.{maxCells, maxTracks, maxCarts, maxCalls, maxSteps, maxText}
 use Rattle.model.specs.Lists.{In, NoDup}
-use Rattle.model.specs.Job.{Job, track, call}
-use Rattle.model.specs.Ready.{Fit, Ready}
+use Rattle.model.specs.Job.{Job, Track, track, call}
+use Rattle.model.specs.Ready.{SameEnds, Fit, Ready}
 use Rattle.model.specs.Text.{Lines, done, cut, more, linesOf, numbersOf, opens, after, floorWord, trackWord, cartWord, callWord}
-use Rattle.model.specs.ReadJob.{refused, accepted, Kind, floorLine, trackLine, cartLine, callLine, noJob, member, inRange, hasRoom, isNew, add, mayFollow, fieldCount, Said, wrong, right, numbersSay, fieldsSay, lineSays, goOn, linesSay, readJob}
+use Rattle.model.specs.ReadJob.{refused, accepted, Kind, floorLine, trackLine, cartLine, callLine, noJob, member, leads, inRange, hasRoom, isNew, add, mayFollow, fieldCount, Said, wrong, right, numbersSay, fieldsSay, lineSays, goOn, linesSay, readJob}
 use Rattle.model.proofs.Basics.{nope, and-left, and-right}
+use Rattle.model.proofs.Lists.{in-getD}
 
 -- A line that is right passed its tests.
 pub record Added (j j′ : Job) : Type 0 where
@@ -105,6 +106,54 @@ length-snoc : {A : Type 0} (l : List A) (x : A) → length (l ++ (x ∷ [])) ≡
 length-snoc [] x = refl
 length-snoc (a ∷ l) x = ap suc (length-snoc l x)
 
+-- A new track joins no cells that an earlier one joins.
+leads-in : (a b : ℕ) (ts : List Track) → leads a b ts ≡ false → (t : Track) → In t ts → (t .from ≡ a) × (t .to ≡ b) → ⊥
+leads-in a b [] e t h p = h
+leads-in a b (s ∷ ts) e t h p = go (eqb a (s .from)) refl (eqb b (s .to)) refl e h (λ f k. leads-in a b ts f t k p)
+  where
+    go : (x : Bool) → eqb a (s .from) ≡ x → (y : Bool) → eqb b (s .to) ≡ y → ((x && y) || leads a b ts) ≡ false → (t ≡ s) ⊎ In t ts
+        → (leads a b ts ≡ false → In t ts → ⊥) → ⊥
+    go true q true r e h ih = nope (cc)
+    go true q false r e (inl f) ih = eqb-false b (s .to) r (sym (p .1) ∙ ap (λ t. t .to) f)
+    go true q false r e (inr k) ih = ih e k
+    go false q y r e (inl f) ih = eqb-false a (s .from) q (sym (p .0) ∙ ap (λ t. t .from) f)
+    go false q y r e (inr k) ih = ih e k
+
+or-left : (x y : Bool) → (x || y) ≡ false → x ≡ false
+or-left true y e = e
+or-left false y e = refl
+
+or-right : (x y : Bool) → (x || y) ≡ false → y ≡ false
+or-right true y e = nope (cc)
+or-right false y e = e
+
+getD-old : {A : Type 0} (l : List A) (x d : A) (i : ℕ) → i < length l → getD (l ++ (x ∷ [])) i d ≡ getD l i d
+getD-old [] x d i h = absurd (omega arith)
+getD-old (a ∷ l) x d zero h = refl
+getD-old (a ∷ l) x d (suc i) h = getD-old l x d i (omega arith)
+
+getD-last : {A : Type 0} (l : List A) (x d : A) → getD (l ++ (x ∷ [])) (length l) d ≡ x
+getD-last [] x d = refl
+getD-last (a ∷ l) x d = getD-last l x d
+
+own-snoc : (ts : List Track) (a b : ℕ) → leads a b ts ≡ false → leads b a ts ≡ false
+    → ((i k : ℕ) → i < k → k < length ts → SameEnds (getD ts i (track 0 0)) (getD ts k (track 0 0)) → ⊥)
+    → (i k : ℕ) → i < k → k < length (ts ++ (track a b ∷ [])) → SameEnds (getD (ts ++ (track a b ∷ [])) i (track 0 0)) (getD (ts ++ (track a b ∷ [])) k (track 0 0)) → ⊥
+own-snoc ts a b e f own i k l m s = go (ltb k (length ts)) refl
+  where
+    old : getD (ts ++ (track a b ∷ [])) i (track 0 0) ≡ getD ts i (track 0 0)
+    old = getD-old ts (track a b) (track 0 0) i (omega (arith, length-snoc ts (track a b)))
+
+    new : SameEnds (getD ts i (track 0 0)) (track a b) → ⊥
+    new (inl p) = leads-in a b ts e (getD ts i (track 0 0)) (in-getD ts i (track 0 0) (omega (arith, length-snoc ts (track a b)))) p
+    new (inr p) = leads-in b a ts f (getD ts i (track 0 0)) (in-getD ts i (track 0 0) (omega (arith, length-snoc ts (track a b)))) p
+
+    go : (t : Bool) → ltb k (length ts) ≡ t → ⊥
+    go true q = own i k l (ltb-true k (length ts) q) (rw (old, getD-old ts (track a b) (track 0 0) k (ltb-true k (length ts) q)) at s)
+    go false q =
+        let z : k ≡ length ts = omega (arith, ltb-false k (length ts) q, length-snoc ts (track a b)) in
+        new (rw (old, z, getD-last ts (track a b) (track 0 0)) at s)
+
 pub no-fit : Fit noJob
 no-fit = record {
   few-cells = omega arith;
@@ -114,6 +163,8 @@ no-fit = record {
   known-tracks = λ t h. absurd h;
   known-carts = λ c h. absurd h;
   known-calls = λ q h. absurd h;
+  no-loop = λ t h. absurd h;
+  own-tracks = λ i k l m. absurd (omega arith);
   own-cells = tt;
   own-lifts = tt;
 }
@@ -132,6 +183,8 @@ module _ (j : Job) (f : Fit j) (a b : ℕ) where
     known-tracks = λ t i. no-cell m (t .from) (f .known-tracks t i .0);
     known-carts = λ c i. no-cell m c (f .known-carts c i);
     known-calls = λ q i. no-cell m (q .cell) (f .known-calls q i .0);
+    no-loop = f .no-loop;
+    own-tracks = f .own-tracks;
     own-cells = f .own-cells;
     own-lifts = f .own-lifts;
   }
@@ -144,15 +197,25 @@ module _ (j : Job) (f : Fit j) (a b : ℕ) where
         (ltb-true a (j .cells) (and-left (ltb a (j .cells)) (ltb b (j .cells)) r), ltb-true b (j .cells) (and-right (ltb a (j .cells)) (ltb b (j .cells)) r));
     known-carts = f .known-carts;
     known-calls = f .known-calls;
+    no-loop = all-snoc (j .tracks) (track a b) (f .no-loop) (eqb-false a b (or-left (eqb a b) (leads a b (j .tracks)) fresh));
+    own-tracks = own-snoc (j .tracks) a b (or-right (eqb a b) (leads a b (j .tracks)) fresh) (or-right (eqb a b || leads a b (j .tracks)) (leads b a (j .tracks)) unseen) (f .own-tracks);
     own-cells = f .own-cells;
     own-lifts = f .own-lifts;
   }
+    where
+      unseen : (eqb a b || leads a b (j .tracks) || leads b a (j .tracks)) ≡ false
+      unseen = not-true (eqb a b || leads a b (j .tracks) || leads b a (j .tracks)) n
+
+      fresh : (eqb a b || leads a b (j .tracks)) ≡ false
+      fresh = or-left (eqb a b || leads a b (j .tracks)) (leads b a (j .tracks)) unseen
   add-fit cartLine m r h n = record {
     few-cells = f .few-cells;
     few-tracks = f .few-tracks;
     few-calls = f .few-calls;
     few-carts = omega (arith, length-snoc (j .carts) a, ltb-true (length (j .carts)) maxCarts h);
     known-tracks = f .known-tracks;
+    no-loop = f .no-loop;
+    own-tracks = f .own-tracks;
     known-carts = all-snoc (j .carts) a (f .known-carts) (ltb-true a (j .cells) r);
     known-calls = f .known-calls;
     own-lifts = f .own-lifts;
@@ -164,6 +227,8 @@ module _ (j : Job) (f : Fit j) (a b : ℕ) where
     few-carts = f .few-carts;
     few-calls = omega (arith, length-snoc (j .calls) (call a b), ltb-true (length (j .calls)) maxCalls h);
     known-tracks = f .known-tracks;
+    no-loop = f .no-loop;
+    own-tracks = f .own-tracks;
     known-carts = f .known-carts;
     own-cells = f .own-cells;
     known-calls = all-snoc (j .calls) (call a b) (f .known-calls)

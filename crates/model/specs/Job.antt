@@ -26,6 +26,9 @@ track u v = record { from = u; to = v }
 abbrev pub call : ℕ → ℕ → Call
 call v t = record { cell = v; deadline = t }
 
+abbrev pub trackOf : Job → ℕ → Track
+trackOf j k = getD (j .tracks) k (track 0 0)
+
 abbrev pub cartCell : Job → ℕ → ℕ
 cartCell j k = getD (j .carts) k 0
 

@@ -1,0 +1,5 @@
+pub mod Arrays
+pub mod Tests
+pub mod Marks
+pub mod Entries
+pub mod Turns

@@ -1,0 +1,102 @@
+-- The table stays true to the job. A table of zeros is that of no job; a mark at a line's place adds the line and no other, since different
+-- lines have different places: a * 256 + b for b below 256, then the row of the carts, then that of the calls. Assumes nothing.
+use Prim.Native.Nat.{ℕ, zero, suc, _+_, _*_, _<_}
+use mathlib.Core.Path.{_≡_, refl, sym, ap, _∙_}
+use mathlib.Core.List.{List, [], _∷_, _++_, map, map-append}
+use mathlib.Core.Bool.{Bool, true, false, _&&_, _||_, or-true, or-false, or-assoc}
+use native.Mathlib.Omega.{arith}
+use lib.Dec.{eqb}
+use lib.ListN.{length, getD, set, replicate, length-set}
+use lib.Seq.{getD-set-same, getD-set-other}
+use borrow.Author.Tests.{eqb-true, eq-eqb}
+use Rattle.model.specs.Job as model
+use Rattle.model.specs.Job.{track, call}
+use Rattle.model.specs.ReadJob.{noJob, add, leads, member}
+use Rattle.model.proofs.Basics.{and-left, and-right, and-both, nope}
+use Rattle.job.specs.declared.state.Kind.{Kind}
+use Rattle.job.specs.declared.state.Kind.the-variants.{Floor, Track, Cart, Call}
+use Rattle.job.specs.Lines.{kindOf, Small, tableSize, placeOf, marked, bit, Marked}
+
+zeros : (n i : ℕ) → _≡_ {A = ℕ} (getD (replicate n 0) i 0) 0
+zeros zero i = refl
+zeros (suc n) zero = refl
+zeros (suc n) (suc i) = zeros n i
+
+pub marked-none : (seen : List ℕ) → ((i : ℕ) → getD seen i 0 ≡ 0) → Marked seen noJob
+marked-none seen z = record { tracks = λ a b h k. z (a * 256 + b); carts = λ a h. z (65536 + a); calls = λ a h. z (65792 + a) }
+
+pub marked-zeros : (n : ℕ) → Marked (replicate n 0) noJob
+marked-zeros n = marked-none (replicate n 0) (zeros n)
+
+pub place-small : (k : Kind) (a b : ℕ) → Small k a b → placeOf k a b < tableSize
+place-small Floor a b s = omega arith
+place-small Track a b s = omega arith
+place-small Cart a b s = omega arith
+place-small Call a b s = omega arith
+
+pub marked-length : (seen : List ℕ) (k : Kind) (a b : ℕ) → length (marked seen k a b) ≡ length seen
+marked-length seen Floor a b = refl
+marked-length seen Track a b = length-set seen (a * 256 + b) 1
+marked-length seen Cart a b = length-set seen (65536 + a) 1
+marked-length seen Call a b = length-set seen (65792 + a) 1
+
+-- One track or one cell more.
+leads-more : (a b u v : ℕ) (ts : List model.Track) → leads a b (ts ++ (track u v ∷ [])) ≡ (leads a b ts || (eqb a u && eqb b v))
+leads-more a b u v [] = or-false (eqb a u && eqb b v)
+leads-more a b u v (t ∷ ts) =
+    let here = eqb a (t .from) && eqb b (t .to) in
+    ap (λ x. here || x) (leads-more a b u v ts) ∙ sym (or-assoc here (leads a b ts) (eqb a u && eqb b v))
+
+member-more : (a u : ℕ) (l : List ℕ) → member a (l ++ (u ∷ [])) ≡ (member a l || eqb a u)
+member-more a u [] = or-false (eqb a u)
+member-more a u (b ∷ l) = ap (λ x. eqb a b || x) (member-more a u l) ∙ sym (or-assoc (eqb a b) (member a l) (eqb a u))
+
+module _ (seen : List ℕ) (j : model.Job) (long : length seen ≡ tableSize) (m : Marked seen j) where
+  -- After a mark at p, the byte at i tells x, which it told, or that i is p.
+  told : (p i : ℕ) (x t : Bool) → p < tableSize → (t ≡ true → i ≡ p) → (i ≡ p → t ≡ true) → getD seen i 0 ≡ bit x
+      → getD (set seen p 1) i 0 ≡ bit (x || t)
+  told p i x true h f g e = rw (f refl) (getD-set-same seen p 1 0 (omega arith) ∙ sym (ap bit (or-true x)))
+  told p i x false h f g e = getD-set-other seen p i 1 0 (λ q. let z = g q in nope (cc)) ∙ e ∙ sym (ap bit (or-false x))
+
+  kept : (p i : ℕ) {x : ℕ} → (i ≡ p → ⊥) → getD seen i 0 ≡ x → getD (set seen p 1) i 0 ≡ x
+  kept p i h e = getD-set-other seen p i 1 0 h ∙ e
+
+  -- a row of cells from r on
+  told-cell : (r u a : ℕ) (l : List ℕ) → r + u < tableSize → getD seen (r + a) 0 ≡ bit (member a l)
+      → getD (set seen (r + u) 1) (r + a) 0 ≡ bit (member a (l ++ (u ∷ [])))
+  told-cell r u a l h e =
+      rw (member-more a u l)
+      (told (r + u) (r + a) (member a l) (eqb a u) h (λ t. ap (λ x. r + x) (eqb-true a u t)) (λ q. eq-eqb a u (omega arith)) e)
+
+  told-track : (u v a b : ℕ) → u < 256 → v < 256 → a < 256 → b < 256
+      → getD (set seen (u * 256 + v) 1) (a * 256 + b) 0 ≡ bit (leads a b (j .tracks ++ (track u v ∷ [])))
+  told-track u v a b s t h k =
+      rw (leads-more a b u v (j .tracks))
+      (told
+      (u * 256 + v)
+      (a * 256 + b)
+      (leads a b (j .tracks))
+      (eqb a u && eqb b v)
+      (omega arith)
+      (λ e. omega (arith, eqb-true a u (and-left (eqb a u) (eqb b v) e), eqb-true b v (and-right (eqb a u) (eqb b v) e)))
+      (λ q. and-both (eqb a u) (eqb b v) (eq-eqb a u (omega arith)) (eq-eqb b v (omega arith)))
+      (m .tracks a b h k))
+
+  pub marked-add : (k : Kind) (a b : ℕ) → Small k a b → Marked (marked seen k a b) (add j (kindOf k) a b)
+  marked-add Floor u v s = record { tracks = m .tracks; carts = m .carts; calls = m .calls }
+  marked-add Track u v (s, t) = record {
+    tracks = λ a b h k. told-track u v a b s t h k;
+    carts = λ a h. kept (u * 256 + v) (65536 + a) (λ e. omega arith) (m .carts a h);
+    calls = λ a h. kept (u * 256 + v) (65792 + a) (λ e. omega arith) (m .calls a h);
+  }
+  marked-add Cart u v s = record {
+    tracks = λ a b h k. kept (65536 + u) (a * 256 + b) (λ e. omega arith) (m .tracks a b h k);
+    carts = λ a h. told-cell 65536 u a (j .carts) (omega arith) (m .carts a h);
+    calls = λ a h. kept (65536 + u) (65792 + a) (λ e. omega arith) (m .calls a h);
+  }
+  marked-add Call u v (s, t) = record {
+    tracks = λ a b h k. kept (65792 + u) (a * 256 + b) (λ e. omega arith) (m .tracks a b h k);
+    carts = λ a h. kept (65792 + u) (65536 + a) (λ e. omega arith) (m .carts a h);
+    calls = λ a h.
+        rw (map-append (λ q. q .cell) (j .calls) (call u v ∷ [])) (told-cell 65792 u a (map (λ q. q .cell) (j .calls)) (omega arith) (m .calls a h));
+  }

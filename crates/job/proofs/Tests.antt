@@ -1,0 +1,52 @@
+-- What the tests of a line cite: emptiness is a count of 0, a byte of the table tells whether it is there, and numbers in range are small.
+-- Assumes nothing.
+use Prim.Native.Nat.{ℕ, suc, _≤_}
+use mathlib.Core.Path.{_≡_, refl, sym}
+use mathlib.Core.List.{List, [], _∷_}
+use mathlib.Core.Bool.{Bool, true, false, not, _&&_}
+use native.Mathlib.Omega.{arith}
+use lib.Dec.{ltb, leb, eqb}
+use lib.ListN.{length}
+use borrow.Author.Tests.{ltb-true, leb-true, ne-eqb}
+use Rattle.model.specs.Job as model
+use Rattle.model.specs.ReadJob.{trackLine, cartLine, isEmpty, mayFollow, inRange}
+use Rattle.model.proofs.Basics.{and-left, and-right}
+use Rattle.job.specs.declared.state.Kind.{Kind}
+use Rattle.job.specs.declared.state.Kind.the-variants.{Floor, Track, Cart, Call}
+use Rattle.job.specs.declared.line.Counts.{Counts}
+use Rattle.job.specs.Lines.{kindOf, bit, Counted, Small}
+
+pub empty-count : {A : Type 0} (l : List A) → isEmpty l ≡ eqb (length l) 0
+empty-count [] = refl
+empty-count (a ∷ l) = sym (ne-eqb (suc (length l)) 0 (λ e. omega arith))
+
+pub bit-none : (x : Bool) → bit x ≡ 0 → x ≡ false
+bit-none true e = absurd (omega arith)
+bit-none false e = refl
+
+pub bit-some : (x : Bool) → (bit x ≡ 0 → ⊥) → x ≡ true
+bit-some true e = refl
+bit-some false e = absurd (e refl)
+
+pub bit-not : (x : Bool) → eqb (bit x) 0 ≡ not x
+bit-not true = refl
+bit-not false = refl
+
+-- A job's tests by its counts.
+module _ (c : Counts) (j : model.Job) (k : Counted c j) where
+  pub tracks-follow : mayFollow j trackLine ≡ (ltb 0 (c .cells) && eqb (c .carts) 0 && eqb (c .calls) 0)
+  tracks-follow = simp (k .cells, k .carts, k .calls, empty-count)
+
+  pub carts-follow : mayFollow j cartLine ≡ (ltb 0 (c .cells) && eqb (c .calls) 0)
+  carts-follow = simp (k .cells, k .calls, empty-count)
+
+pub range-small : (j : model.Job) (k : Kind) (a b : ℕ) → j .cells ≤ 256 → inRange j (kindOf k) a b ≡ true → Small k a b
+range-small j Floor a b h e = leb-true a 256 (and-right (ltb 0 a) (leb a 256) e)
+range-small j Track a b h e =
+    let l = ltb-true a (j .cells) (and-left (ltb a (j .cells)) (ltb b (j .cells)) e) in
+    let r = ltb-true b (j .cells) (and-right (ltb a (j .cells)) (ltb b (j .cells)) e) in
+    (omega arith, omega arith)
+range-small j Cart a b h e = let l = ltb-true a (j .cells) e in omega arith
+range-small j Call a b h e =
+    let l = ltb-true a (j .cells) (and-left (ltb a (j .cells)) (ltb b 256) e) in
+    (omega arith, ltb-true b 256 (and-right (ltb a (j .cells)) (ltb b 256) e))

@@ -1,0 +1,137 @@
+-- A turn of the reader, in plain lists: what the lines from an index on say, by the end of the first and what it says; what the reader keeps
+-- from turn to turn; and what it answers at the end. Assumes nothing.
+use Prim.Native.Nat.{ℕ, _+_, _-_, _≤_, _<_}
+use mathlib.Core.Path.{_≡_, refl, sym, ap, _∙_}
+use mathlib.Core.List.{List}
+use native.Mathlib.Omega.{arith}
+use lib.ListN.{length, take, drop, replicate, length-replicate}
+use borrow.Author.Tests.{lt-ltb, le-ltb, eq-eqb, ne-eqb}
+use Rattle.model.specs.Limits.{maxTracks, maxCarts, maxCalls, maxText}
+use Rattle.model.specs.Job as model
+use Rattle.model.specs.Text.{linesOf}
+use Rattle.model.specs.ReadJob.{Said, refused, accepted, noJob, add, goOn, lineSays, linesSay, wholeJob, readJob}
+use Rattle.text.specs.Scan.{lineOf}
+use Rattle.text.proofs.Lines.{lines-done, lines-cut, lines-more}
+use Rattle.job.specs.declared.state.Kind.{Kind}
+use Rattle.job.specs.declared.state.Kind.the-variants.{Floor, Track, Cart, Call}
+use Rattle.job.specs.declared.state.Job.{Job}
+use Rattle.job.specs.declared.line.Counts.{Counts}
+use Rattle.job.specs.declared.line.Fault.{Fault}
+use Rattle.job.specs.declared.line.Entry.{Entry}
+use Rattle.job.specs.declared.line.Entry.the-variants.{Wrong, Right}
+use Rattle.job.specs.Arrays.{jobOf, Sized}
+use Rattle.job.specs.Lines.{kindOf, faultNumber, saidBy, Counted, Small, tableSize, marked, Marked}
+use Rattle.job.proofs.Arrays.{tracks-count, carts-count, calls-count}
+use Rattle.job.proofs.Marks.{marked-zeros, marked-add, marked-length}
+
+module _ (s : List ℕ) (at n : ℕ) (j : model.Job) where
+  turn-done : length s ≤ at → linesSay j n (linesOf (drop at s)) ≡ wholeJob j n
+  turn-done h = ap (linesSay j n) (lines-done s at h)
+
+  module _ (e : ℕ) (inside : at < length s) (end : e ≡ at + length (lineOf (drop at s))) where
+    turn-cut : length s ≤ e → linesSay j n (linesOf (drop at s)) ≡ refused 3 n
+    turn-cut h = ap (linesSay j n) (lines-cut s at e inside end h)
+
+    turn : (entry : Entry) → e < length s → saidBy j entry ≡ lineSays j (take (e - at) (drop at s))
+        → linesSay j n (linesOf (drop at s)) ≡ goOn (saidBy j entry) n (λ j′. linesSay j′ (n + 1) (linesOf (drop (e + 1) s)))
+    turn entry h said =
+        ap (linesSay j n) (lines-more s at e inside end h)
+        ∙ ap (λ (x : Said). goOn x n (λ j′. linesSay j′ (n + 1) (linesOf (drop (e + 1) s)))) (sym said)
+
+-- The counts beside the arrays are those of the job in them.
+abbrev pub countsOf : Job → Counts
+countsOf s = record { cells = s .cells; tracks = s .tracks; carts = s .carts; calls = s .calls }
+
+pub counted : (s : Job) → Sized s → length (s .from) ≡ maxTracks → length (s .to) ≡ maxTracks → length (s .starts) ≡ maxCarts
+    → length (s .lifts) ≡ maxCalls → length (s .deadlines) ≡ maxCalls → Counted (countsOf s) (jobOf s)
+counted s z f t a l d = record {
+  cells = refl;
+  tracks = sym (tracks-count s z f t);
+  carts = sym (carts-count s z a);
+  calls = sym (calls-count s z l d);
+}
+
+-- What holds at the head of the loop: the rest of the text, read on from the job so far, says what the whole text says.
+pub record Kept (s : List ℕ) (job : Job) (seen : List ℕ) (at line : ℕ) : Type 0 where
+  pub within : at ≤ length s
+  pub short : length s ≤ maxText
+  pub lines : line ≤ at + 1
+  pub sized : Sized job
+  pub counts : Counted (countsOf job) (jobOf job)
+  pub cells : job .cells ≤ 256
+  pub table : length seen ≡ tableSize
+  pub marks : Marked seen (jobOf job)
+  pub rest : linesSay (jobOf job) line (linesOf (drop at s)) ≡ readJob s
+
+pub too-long : (s : List ℕ) → maxText < length s → refused 2 0 ≡ readJob s
+unfolding readJob
+too-long s h = simp (lt-ltb _ _ h)
+
+pub kept-first : (s : List ℕ) (job : Job) → length s ≤ maxText → jobOf job ≡ noJob → Sized job → Counted (countsOf job) (jobOf job)
+    → Kept s job (replicate tableSize 0) 0 1
+unfolding readJob
+kept-first s job h e z q =
+    let c : job .cells ≡ 0 = ap (λ j. j .cells) e in
+    record {
+      within = omega arith;
+      short = h;
+      lines = omega arith;
+      sized = z;
+      counts = q;
+      cells = omega arith;
+      table = length-replicate {A = ℕ} tableSize 0;
+      marks = rw e (marked-zeros tableSize);
+      rest = rw e (simp (le-ltb _ _ h));
+    }
+
+cells-small : (j : model.Job) (k : Kind) (a b : ℕ) → j .cells ≤ 256 → Small k a b → add j (kindOf k) a b .cells ≤ 256
+cells-small j Floor a b h s = s
+cells-small j Track a b h s = h
+cells-small j Cart a b h s = h
+cells-small j Call a b h s = h
+
+module _ (s : List ℕ) (job : Job) (seen : List ℕ) (at line : ℕ) (k : Kept s job seen at line) where
+  module _ (e : ℕ) (inside : at < length s) (end : e ≡ at + length (lineOf (drop at s))) where
+    pub ends-cut : length s ≤ e → refused 3 line ≡ readJob s
+    ends-cut h = sym (turn-cut s at line (jobOf job) e inside end h) ∙ k .rest
+
+    module _ (h : e < length s) (entry : Entry) (said : saidBy (jobOf job) entry ≡ lineSays (jobOf job) (take (e - at) (drop at s))) where
+      turned : goOn (saidBy (jobOf job) entry) line (λ j′. linesSay j′ (line + 1) (linesOf (drop (e + 1) s))) ≡ readJob s
+      turned = sym (turn s at line (jobOf job) e inside end entry h said) ∙ k .rest
+
+      pub ends-wrong : (f : Fault) → entry ≡ Wrong f → refused (faultNumber f) line ≡ readJob s
+      ends-wrong f w = rw w at turned
+
+      pub kept-next : (kind : Kind) (a b : ℕ) (r : Job) (seen′ : List ℕ) → entry ≡ Right kind a b → Small kind a b → jobOf r ≡ add (jobOf job) (kindOf kind) a b
+          → Sized r → Counted (countsOf r) (jobOf r) → seen′ ≡ marked seen kind a b → Kept s r seen′ (e + 1) (line + 1)
+      kept-next kind a b r seen′ w small g z q m =
+          let c : r .cells ≡ add (jobOf job) (kindOf kind) a b .cells = ap (λ j. j .cells) g in
+          record {
+            within = omega arith;
+            short = k .short;
+            lines = omega (arith, k .lines);
+            sized = z;
+            counts = q;
+            cells = omega (arith, cells-small (jobOf job) kind a b (k .cells) small);
+            table = ap length m ∙ marked-length seen kind a b ∙ k .table;
+            marks = rw (m, g) (marked-add seen (jobOf job) (k .table) (k .marks) kind a b small);
+            rest = rw g (rw w at turned);
+          }
+
+  module _ (over : length s ≤ at) where
+    whole : wholeJob (jobOf job) line ≡ readJob s
+    whole = sym (turn-done s at line (jobOf job) over) ∙ k .rest
+
+    pub ends-none : job .cells ≡ 0 → refused 3 line ≡ readJob s
+    ends-none z = simp (eq-eqb _ _ z) at whole
+
+    module _ (some : job .cells ≡ 0 → ⊥) where
+      pub ends-uneven : (job .carts ≡ job .calls → ⊥) → refused 8 0 ≡ readJob s
+      ends-uneven d =
+          let n : length (jobOf job .carts) ≡ length (jobOf job .calls) → ⊥ = λ e. d (k .counts .carts ∙ e ∙ sym (k .counts .calls)) in
+          simp (ne-eqb _ _ some, ne-eqb _ _ n) at whole
+
+      pub ends-job : job .carts ≡ job .calls → accepted (jobOf job) ≡ readJob s
+      ends-job d =
+          let n : length (jobOf job .carts) ≡ length (jobOf job .calls) = sym (k .counts .carts) ∙ d ∙ k .counts .calls in
+          simp (ne-eqb _ _ some, eq-eqb _ _ n) at whole

@@ -1,0 +1,59 @@
+-- `place` is the place of a line in the table: each arm is the clause of `placeOf` for its kind. The numbers are small, so no sum grows past a
+-- word. Assumes nothing.
+use native.Mathlib.Omega.{arith}
+use borrow.Author.Needs.{needs}
+use Rattle.job.proofs.state.place.Statement.{statement}
+use Rattle.job.proofs.state.place.Tie as tie
+
+enum-told : tie.Need-enum-told
+enum-told c = search needs
+
+enum-told-2 : tie.Need-enum-told-2
+enum-told-2 c = search needs
+
+mul-result : tie.Need-mul-result
+mul-result c = let s = rw (c .enum-told2 .given .1) at (c .before .before .pre) in omega arith
+
+add-result : tie.Need-add-result
+add-result c = let s = rw (c .enum-told2 .given .1) at (c .before .before .pre) in omega arith
+
+enum-told-3 : tie.Need-enum-told-3
+enum-told-3 c = search needs
+
+add-result-2 : tie.Need-add-result-2
+add-result-2 c = let s = rw (c .enum-told3 .given .1) at (c .before .before .pre) in omega arith
+
+enum-told-4 : tie.Need-enum-told-4
+enum-told-4 c = search needs
+
+add-result-3 : tie.Need-add-result-3
+add-result-3 c = let s = rw (c .enum-told4 .given .1) at (c .before .before .pre) in omega arith
+
+returns : tie.Need-returns
+returns c = search needs
+
+returns-2 : tie.Need-returns-2
+returns-2 c = rw (c .enum-told2 .given .1)
+
+returns-3 : tie.Need-returns-3
+returns-3 c = rw (c .enum-told3 .given .1)
+
+returns-4 : tie.Need-returns-4
+returns-4 c = rw (c .enum-told4 .given .1)
+
+pub place-spec : {M : Type 1} → statement M
+place-spec =
+    tie.close
+    (tie.spec
+    enum-told
+    enum-told-2
+    mul-result
+    add-result
+    enum-told-3
+    add-result-2
+    enum-told-4
+    add-result-3
+    returns
+    returns-2
+    returns-3
+    returns-4)

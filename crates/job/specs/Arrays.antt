@@ -1,0 +1,28 @@
+-- The job that the arrays hold.
+use Prim.Native.Nat.{ℕ, _≤_}
+use mathlib.Core.List.{List, [], _∷_}
+use lib.ListN.{take}
+use Rattle.model.specs.Limits.{maxTracks, maxCarts, maxCalls}
+use Rattle.model.specs.Job as model
+use Rattle.model.specs.Job.{track, call}
+use Rattle.job.specs.declared.state.Job.{Job}
+
+-- the pairs of two lists
+abbrev pub pairs : {A : Type 0} → (ℕ → ℕ → A) → List ℕ → List ℕ → List A
+pairs f [] ys = []
+pairs f (x ∷ xs) [] = []
+pairs f (x ∷ xs) (y ∷ ys) = f x y ∷ pairs f xs ys
+
+abbrev pub jobOf : Job → model.Job
+jobOf s = record {
+  cells = s .cells;
+  tracks = pairs track (take (s .tracks) (s .from)) (take (s .tracks) (s .to));
+  carts = take (s .carts) (s .starts);
+  calls = pairs call (take (s .calls) (s .lifts)) (take (s .calls) (s .deadlines));
+}
+
+-- The counts keep within the arrays.
+pub record Sized (s : Job) : Type 0 where
+  pub tracks : s .tracks ≤ maxTracks
+  pub carts : s .carts ≤ maxCarts
+  pub calls : s .calls ≤ maxCalls
