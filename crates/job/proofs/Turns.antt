@@ -21,7 +21,7 @@ use Rattle.job.specs.declared.line.Entry.{Entry}
 use Rattle.job.specs.declared.line.Entry.the-variants.{Wrong, Right}
 use Rattle.job.specs.Arrays.{jobOf, Sized}
 use Rattle.job.specs.Lines.{kindOf, faultNumber, saidBy, Counted, Small, tableSize, marked, Marked}
-use Rattle.job.proofs.Arrays.{tracks-count, carts-count, calls-count}
+use Rattle.job.proofs.Arrays.{Long, whole, tracks-count, carts-count, calls-count}
 use Rattle.job.proofs.Marks.{marked-zeros, marked-add, marked-length}
 
 module _ (s : List ℕ) (at n : ℕ) (j : model.Job) where
@@ -42,14 +42,10 @@ module _ (s : List ℕ) (at n : ℕ) (j : model.Job) where
 abbrev pub countsOf : Job → Counts
 countsOf s = record { cells = s .cells; tracks = s .tracks; carts = s .carts; calls = s .calls }
 
-pub counted : (s : Job) → Sized s → length (s .from) ≡ maxTracks → length (s .to) ≡ maxTracks → length (s .starts) ≡ maxCarts
-    → length (s .lifts) ≡ maxCalls → length (s .deadlines) ≡ maxCalls → Counted (countsOf s) (jobOf s)
-counted s z f t a l d = record {
-  cells = refl;
-  tracks = sym (tracks-count s z f t);
-  carts = sym (carts-count s z a);
-  calls = sym (calls-count s z l d);
-}
+pub counted : (s : Job) → Sized s → Long s → Counted (countsOf s) (jobOf s)
+counted s z g =
+    let w = whole s z g in
+    record { cells = refl; tracks = sym (tracks-count s w); carts = sym (carts-count s w); calls = sym (calls-count s w) }
 
 -- What holds at the head of the loop: the rest of the text, read on from the job so far, says what the whole text says.
 pub record Kept (s : List ℕ) (job : Job) (seen : List ℕ) (at line : ℕ) : Type 0 where
@@ -119,19 +115,19 @@ module _ (s : List ℕ) (job : Job) (seen : List ℕ) (at line : ℕ) (k : Kept 
           }
 
   module _ (over : length s ≤ at) where
-    whole : wholeJob (jobOf job) line ≡ readJob s
-    whole = sym (turn-done s at line (jobOf job) over) ∙ k .rest
+    ended : wholeJob (jobOf job) line ≡ readJob s
+    ended = sym (turn-done s at line (jobOf job) over) ∙ k .rest
 
     pub ends-none : job .cells ≡ 0 → refused 3 line ≡ readJob s
-    ends-none z = simp (eq-eqb _ _ z) at whole
+    ends-none z = simp (eq-eqb _ _ z) at ended
 
     module _ (some : job .cells ≡ 0 → ⊥) where
       pub ends-uneven : (job .carts ≡ job .calls → ⊥) → refused 8 0 ≡ readJob s
       ends-uneven d =
           let n : length (jobOf job .carts) ≡ length (jobOf job .calls) → ⊥ = λ e. d (k .counts .carts ∙ e ∙ sym (k .counts .calls)) in
-          simp (ne-eqb _ _ some, ne-eqb _ _ n) at whole
+          simp (ne-eqb _ _ some, ne-eqb _ _ n) at ended
 
       pub ends-job : job .carts ≡ job .calls → accepted (jobOf job) ≡ readJob s
       ends-job d =
           let n : length (jobOf job .carts) ≡ length (jobOf job .calls) = sym (k .counts .carts) ∙ d ∙ k .counts .calls in
-          simp (ne-eqb _ _ some, eq-eqb _ _ n) at whole
+          simp (ne-eqb _ _ some, eq-eqb _ _ n) at ended

@@ -1,3 +1,4 @@
 pub mod Arrays
 pub mod Lines
 pub mod Answers
+pub mod Held

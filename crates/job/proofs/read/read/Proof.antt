@@ -33,7 +33,7 @@ loop-holds : tie.Need-loop-holds Inv-loop μ-loop
 loop-holds c =
     let e = c .before .empty in
     kept-first (now (c .before .before .before .args .text)) (e .result) (c .if1 .left) (e .ensures .0) (e .ensures .1)
-    (counted (e .result) (e .ensures .1) (search needs) (search needs) (search needs) (search needs) (search needs))
+    (counted (e .result) (e .ensures .1) (record { from = search needs; to = search needs; starts = search needs; lifts = search needs; deadlines = search needs }))
 
 line-end-requires : tie.Need-line-end-requires Inv-loop μ-loop
 line-end-requires c κs = search needs
@@ -137,7 +137,7 @@ counts : (c : tie.After-with-line Inv-loop μ-loop) → Counted (countsOf (c .wi
 counts c =
     let r = c .with-line in
     let o = r .ok .1 .1 .1 .1 .1 in
-    counted (r .result) (r .ensures .1) (search needs) (search needs) (search needs) (search needs) (search needs)
+    counted (r .result) (r .ensures .1) (record { from = search needs; to = search needs; starts = search needs; lifts = search needs; deadlines = search needs })
 
 loop-again : tie.Need-loop-again Inv-loop μ-loop
 loop-again c =

@@ -5,7 +5,8 @@ use native.Mathlib.Omega.{arith}
 use lib.ListN.{length}
 use Rattle.model.specs.Limits.{maxTracks, maxCarts, maxCalls}
 use Rattle.model.specs.Job.{track, call}
-use Rattle.job.proofs.Arrays.{more, pairs-more, tracks-room, carts-room, calls-room}
+use Rattle.job.proofs.Pairs.{first-more, pairs-more}
+use Rattle.job.proofs.Arrays.{long, whole, tracks-room, carts-room, calls-room}
 use borrow.Author.Needs.{needs}
 use Rattle.job.proofs.state.with_line.Statement.{statement}
 use Rattle.job.proofs.state.with_line.Tie as tie
@@ -26,8 +27,9 @@ cast-j c = let s = rw (c .enum-told2 .given .1) at (c .before .before .pre .1) i
 
 element-write-j : tie.Need-element-write-j
 element-write-j c =
+    let j = c .before .before .args .job in
     let p = c .before .before .pre in
-    tracks-room (c .before .before .args .job) (p .0) (search needs) (search needs) (rw (c .enum-told2 .given .1) at (p .2))
+    tracks-room j (whole j (p .0) (long j (c .before .before .good .0 .0) (c .before .before .good .0 .1 .1))) (rw (c .enum-told2 .given .1) at (p .2))
 
 cast-j-2 : tie.Need-cast-j-2
 cast-j-2 c = let s = rw (c .enum-told2 .given .1) at (c .before .before .pre .1) in omega arith
@@ -55,8 +57,9 @@ cast-j-3 c = let s = rw (c .enum-told3 .given .1) at (c .before .before .pre .1)
 
 element-write-j-3 : tie.Need-element-write-j-3
 element-write-j-3 c =
+    let j = c .before .before .args .job in
     let p = c .before .before .pre in
-    carts-room (c .before .before .args .job) (p .0) (search needs) (rw (c .enum-told3 .given .1) at (p .2))
+    carts-room j (whole j (p .0) (long j (c .before .before .good .0 .0) (c .before .before .good .0 .1 .1))) (rw (c .enum-told3 .given .1) at (p .2))
 
 add-j-2 : tie.Need-add-j-2
 add-j-2 c = search needs
@@ -67,7 +70,7 @@ returns-3 c =
     let sized = c .before .before .pre .0 in
     let room : j .carts < maxCarts = element-write-j-3 c in
     let h : j .carts < length (j .starts) = search needs in
-    (rw (c .enum-told3 .given .1, more (j .starts) (j .carts) (c .before .before .args .a) h), record { tracks = sized .tracks; carts = omega arith; calls = sized .calls })
+    (rw (c .enum-told3 .given .1, first-more (j .starts) (j .carts) (c .before .before .args .a) h), record { tracks = sized .tracks; carts = omega arith; calls = sized .calls })
 
 enum-told-4 : tie.Need-enum-told-4
 enum-told-4 c = search needs
@@ -77,8 +80,9 @@ cast-j-4 c = let s = rw (c .enum-told4 .given .1) at (c .before .before .pre .1)
 
 element-write-j-4 : tie.Need-element-write-j-4
 element-write-j-4 c =
+    let j = c .before .before .args .job in
     let p = c .before .before .pre in
-    calls-room (c .before .before .args .job) (p .0) (search needs) (search needs) (rw (c .enum-told4 .given .1) at (p .2))
+    calls-room j (whole j (p .0) (long j (c .before .before .good .0 .0) (c .before .before .good .0 .1 .1))) (rw (c .enum-told4 .given .1) at (p .2))
 
 cast-j-5 : tie.Need-cast-j-5
 cast-j-5 c = let s = rw (c .enum-told4 .given .1) at (c .before .before .pre .1) in omega arith

@@ -1,0 +1,64 @@
+-- `size::horizon` meets its contract. The loop's invariant: `last` is the largest of the first k deadlines. The measure is the number of deadlines that
+-- are left. Assumes nothing.
+use native.Mathlib.Omega.{arith}
+use denote.Ref.{now}
+use mathlib.Core.Logic.{⊎-elim}
+use Prim.Native.Nat.{_≤_, _<_, _-_}
+use mathlib.Core.Path.{_≡_}
+use mathlib.Core.List.{map}
+use lib.ListN.{take}
+use Rattle.model.specs.Limits.{maxSteps}
+use Rattle.model.specs.Job.{call, latest}
+use Rattle.job.proofs.Arrays.{latest-suc}
+use borrow.Author.Needs.{needs}
+use Rattle.job.proofs.size.horizon.Statement.{statement}
+use Rattle.job.proofs.size.horizon.Tie as tie
+
+abbrev Inv-loop : tie.InvT-loop
+Inv-loop deadlines calls last₀ k₀ last k = (k ≤ calls) × (last < maxSteps) × (last ≡ latest (map (call 0) (take k deadlines)))
+
+abbrev μ-loop : tie.MeasureT-loop
+μ-loop deadlines calls last₀ k₀ last k = calls - k
+
+loop-holds : tie.Need-loop-holds Inv-loop μ-loop
+loop-holds c = search needs
+
+element-copy-out-wide : tie.Need-element-copy-out-wide Inv-loop μ-loop
+element-copy-out-wide c = search needs
+
+wide-requires : tie.Need-wide-requires Inv-loop μ-loop
+wide-requires c κs = search needs
+
+add-k : tie.Need-add-k Inv-loop μ-loop
+add-k c = search needs
+
+loop-less : tie.Need-loop-less Inv-loop μ-loop
+loop-less c = search needs
+
+loop-again : tie.Need-loop-again Inv-loop μ-loop
+loop-again c =
+    let l = c .before .before .before .before .loop in
+    let d = now (c .before .before .before .before .before .args .deadlines) in
+    let s = c .before .wide .ensures in
+    let e = latest-suc d (l .k) in
+    (omega arith, ⊎-elim (λ w. omega arith) (λ w. omega arith) (c .if1 .came), ⊎-elim (λ w. omega (arith, s .0, l .inv .2)) (λ w. omega (arith, s .0, l .inv .2)) (c .if1 .came))
+
+returns : tie.Need-returns Inv-loop μ-loop
+returns c =
+    let l = c .before .loop in
+    let e : l .k ≡ c .before .before .args .calls = omega arith in
+    (rw (← e) (l .inv .2), l .inv .1)
+
+pub horizon-spec : {M : Type 1} → statement M
+horizon-spec =
+    tie.close
+    (tie.spec
+    Inv-loop
+    μ-loop
+    loop-holds
+    element-copy-out-wide
+    wide-requires
+    add-k
+    loop-less
+    loop-again
+    returns)

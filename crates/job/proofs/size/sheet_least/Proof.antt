@@ -1,0 +1,48 @@
+-- `size::sheet_least` meets its contract: the count is the length of the job's list, and with at most 256 steps and 64 carts nothing wraps.
+-- Assumes nothing.
+use Prim.Native.Nat.{ℕ, _*_, _+_, _<_, _≤_}
+use mathlib.Core.Path.{refl}
+use native.Mathlib.Omega.{arith}
+use Rattle.job.proofs.Arrays.{carts-count, long, whole}
+use native.Mathlib.Nat.{mul-le-mul}
+use borrow.Author.Needs.{needs}
+use Rattle.job.proofs.size.sheet_least.Statement.{statement}
+use Rattle.job.proofs.size.sheet_least.Tie as tie
+
+small : (n carts : ℕ) → n < 256 → carts ≤ 64 → carts * (4 * (n + 1) + 16) ≤ 64 * 1040
+small n carts a b =
+    let x : 4 * (n + 1) + 16 ≤ 1040 = omega arith in
+    mul-le-mul b x
+
+last-step-requires : tie.Need-last-step-requires
+last-step-requires c κs = search needs
+
+add-steps : tie.Need-add-steps
+add-steps c = search needs
+
+mul-result : tie.Need-mul-result
+mul-result c = search needs
+
+add-result : tie.Need-add-result
+add-result c = search needs
+
+mul-result-2 : tie.Need-mul-result-2
+mul-result-2 c =
+    let n = c .before .last-step in
+    omega (arith, small (n .result) (c .before .before .args .job .carts) (omega arith) (omega arith))
+
+add-result-2 : tie.Need-add-result-2
+add-result-2 c =
+    let n = c .before .last-step in
+    omega (arith, small (n .result) (c .before .before .args .job .carts) (omega arith) (omega arith))
+
+returns : tie.Need-returns
+returns c =
+    let s = c .before .before in
+    let g = long (s .args .job) (s .good .0 .0) (s .good .0 .1 .1) in
+    rw (carts-count (s .args .job) (whole (s .args .job) (s .pre) g), ← c .before .last-step .ensures .0) refl
+
+pub sheet-least-spec : {M : Type 1} → statement M
+sheet-least-spec =
+    tie.close
+    (tie.spec last-step-requires add-steps mul-result add-result mul-result-2 add-result-2 returns)

@@ -1,0 +1,62 @@
+-- `size::store_least` meets its contract: the counts are the lengths of the job's lists, and with at most 256 steps and cells and 512 tracks nothing wraps.
+-- Assumes nothing.
+use Prim.Native.Nat.{ℕ, _*_, _+_, _<_, _≤_}
+use mathlib.Core.Path.{refl}
+use native.Mathlib.Omega.{arith}
+use native.Mathlib.Nat.{mul-le-mul}
+use Rattle.job.proofs.Arrays.{tracks-count, long, whole}
+use borrow.Author.Needs.{needs}
+use Rattle.job.proofs.size.store_least.Statement.{statement}
+use Rattle.job.proofs.size.store_least.Tie as tie
+
+small : (n cells tracks : ℕ) → n < 256 → cells ≤ 256 → tracks ≤ 512 → (n + 1) * 32 * (cells + 2 * tracks) ≤ 8192 * 1280
+small n cells tracks a b c =
+    let x : (n + 1) * 32 ≤ 8192 = omega arith in
+    let y : cells + 2 * tracks ≤ 1280 = omega arith in
+    mul-le-mul x y
+
+last-step-requires : tie.Need-last-step-requires
+last-step-requires c κs = search needs
+
+add-steps : tie.Need-add-steps
+add-steps c = search needs
+
+mul-result : tie.Need-mul-result
+mul-result c = search needs
+
+mul-result-2 : tie.Need-mul-result-2
+mul-result-2 c = search needs
+
+add-result : tie.Need-add-result
+add-result c = search needs
+
+mul-result-3 : tie.Need-mul-result-3
+mul-result-3 c =
+    let n = c .before .before .last-step in
+    let j = c .before .before .before .args .job in
+    omega (arith, small (n .result) (j .cells) (j .tracks) (omega arith) (omega arith) (omega arith))
+
+add-result-2 : tie.Need-add-result-2
+add-result-2 c =
+    let n = c .before .before .last-step in
+    let j = c .before .before .before .args .job in
+    omega (arith, small (n .result) (j .cells) (j .tracks) (omega arith) (omega arith) (omega arith))
+
+returns : tie.Need-returns
+returns c =
+    let s = c .before .before .before in
+    let g = long (s .args .job) (s .good .0 .0) (s .good .0 .1 .1) in
+    rw (tracks-count (s .args .job) (whole (s .args .job) (s .pre .0) g), ← c .before .before .last-step .ensures .0) refl
+
+pub store-least-spec : {M : Type 1} → statement M
+store-least-spec =
+    tie.close
+    (tie.spec
+    last-step-requires
+    add-steps
+    mul-result
+    mul-result-2
+    add-result
+    mul-result-3
+    add-result-2
+    returns)

@@ -1,0 +1,2 @@
+pub mod ChokeLayers
+pub mod PlanTests

@@ -1,0 +1,7 @@
+pub mod FormNumbers
+pub mod FormSaid
+pub mod FormLines
+pub mod FormHeld
+pub mod FormWhole
+pub mod FormTold
+pub mod WriteLaws

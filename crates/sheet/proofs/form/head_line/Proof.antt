@@ -1,0 +1,62 @@
+-- `head_line` reads the first line: PLAN with its only number, which is that of the calls, or what `cannot_line` says. Assumes nothing.
+use denote.Ref.{now}
+use mathlib.Core.Path.{_∙_, ap, sym}
+use Rattle.sheet.proofs.FormSaid.{head-few, head-plan, head-unlike, head-wrong}
+use borrow.Author.Tests.{not-false, not-true}
+use Rattle.sheet.specs.FormParts.{onlyRead}
+use borrow.Author.Needs.{needs}
+use Rattle.sheet.proofs.form.head_line.Statement.{statement}
+use Rattle.sheet.proofs.form.head_line.Tie as tie
+
+slice-aggregate-opens-with : tie.Need-slice-aggregate-opens-with
+slice-aggregate-opens-with c = search needs
+
+opens-with-requires : tie.Need-opens-with-requires
+opens-with-requires c κs = search needs
+
+cannot-line-requires : tie.Need-cannot-line-requires
+cannot-line-requires c κs = search needs
+
+returns : tie.Need-returns
+returns c = head-unlike (c .before .before .before .before .before .args .calls) (now (c .before .before .before .before .before .args .line)) (sym (c .before .before .opens-with .ensures) ∙ not-true (c .before .before .opens-with .result) (c .before .if1 .taken)) (c .cannot-line .result) (c .cannot-line .ensures)
+
+only-number-requires : tie.Need-only-number-requires
+only-number-requires c κs = search needs
+
+enum-known-value : tie.Need-enum-known-value
+enum-known-value c = search needs
+
+enum-told : tie.Need-enum-told
+enum-told c = search needs
+
+returns-2 : tie.Need-returns-2
+returns-2 c =
+    let b = sym (c .before .before .before .before .opens-with .ensures) ∙ not-false (c .before .before .before .before .opens-with .result) (c .before .before .before .if1 .left) in
+    head-few (c .before .before .before .before .before .before .before .args .calls) (now (c .before .before .before .before .before .before .before .args .line)) b (sym (c .before .before .only-number .ensures) ∙ ap onlyRead (c .enum-told .given .1))
+
+returns-3 : tie.Need-returns-3
+returns-3 c =
+    let b = sym (c .before .before .before .before .before .before .opens-with .ensures) ∙ not-false (c .before .before .before .before .before .before .opens-with .result) (c .before .before .before .before .before .if1 .left) in
+    let v = c .before .before .value .given in
+    head-wrong (c .before .before .before .before .before .before .before .before .before .args .calls) (now (c .before .before .before .before .before .before .before .before .before .args .line)) b (v .0 .0) (sym (c .before .before .before .before .only-number .ensures) ∙ ap onlyRead (v .1)) (c .if2 .taken)
+
+returns-4 : tie.Need-returns-4
+returns-4 c =
+    let b = sym (c .before .before .before .before .before .before .opens-with .ensures) ∙ not-false (c .before .before .before .before .before .before .opens-with .result) (c .before .before .before .before .before .if1 .left) in
+    let v = c .before .before .value .given in
+    head-plan (c .before .before .before .before .before .before .before .before .before .args .calls) (now (c .before .before .before .before .before .before .before .before .before .args .line)) b (v .0 .0) (sym (c .before .before .before .before .only-number .ensures) ∙ ap onlyRead (v .1)) (c .if2 .left)
+
+pub head-line-spec : {M : Type 1} → statement M
+head-line-spec =
+    tie.close
+    (tie.spec
+    slice-aggregate-opens-with
+    opens-with-requires
+    cannot-line-requires
+    returns
+    only-number-requires
+    enum-known-value
+    enum-told
+    returns-2
+    returns-3
+    returns-4)

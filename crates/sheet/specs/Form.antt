@@ -1,0 +1,19 @@
+-- What the reader's answer stands for.
+use Prim.Native.Nat.{ℕ, _≤_}
+use mathlib.Core.List.{List}
+use Rattle.model.specs.Job.{Job}
+use Rattle.model.specs.ReadSheet.{Sheet, bad, plan, cannot}
+use Rattle.job.specs.Held.{pathsOf, pointsOf}
+use Rattle.sheet.specs.declared.form.Form.{Form}
+use Rattle.sheet.specs.declared.form.Form.the-variants.{Bad, Plan, Cannot}
+
+abbrev pub formOf : Job → Form → List ℕ → List ℕ → List ℕ → Sheet
+formOf j (Bad l) first second rows = bad l
+formOf j Plan first second rows = plan (pathsOf j first second rows)
+formOf j (Cannot n) first second rows = cannot (pointsOf first second n)
+
+-- A sheet in the form has at most 65 lines, so a bad one is at most the 66th; and there are fewer choke points than calls can be.
+abbrev pub LineFits : Form → Type 0
+LineFits (Bad l) = l ≤ 66
+LineFits Plan = Unit
+LineFits (Cannot n) = n ≤ 64

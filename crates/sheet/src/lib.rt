@@ -1,0 +1,3 @@
+// Sheets: read and written.
+pub mod form;
+pub mod write;
