@@ -15,7 +15,7 @@ use borrow.Author.Needs.{needs}
 use borrow.Author.Tests.{ltb-true}
 use Rattle.model.specs.Limits.{maxTracks, maxCarts, maxCalls}
 use Rattle.model.specs.Lists.{In}
-use Rattle.model.specs.Job.{Track, Call, track, call, cartCell, callOf, latest, horizon}
+use Rattle.model.specs.Job.{Track, Call, track, call, trackOf, cartCell, callOf, latest, horizon}
 use Rattle.model.specs.ReadJob.{trackLine, cartLine, callLine, hasRoom}
 use Rattle.job.specs.declared.state.Job.{Job}
 use Rattle.job.proofs.state.Job.{the-type}
@@ -85,6 +85,9 @@ module _ (s : Job) (w : Whole s) where
 
   pub calls-room : hasRoom (jobOf s) callLine ≡ true → s .calls < maxCalls
   calls-room e = rw calls-count at (ltb-true (length (jobOf s .calls)) maxCalls e)
+
+  pub track-at : (k : ℕ) → k < s .tracks → trackOf (jobOf s) k ≡ track (getD (s .from) k 0) (getD (s .to) k 0)
+  track-at k h = pairs-at track (s .from) (s .to) (s .tracks) (w .from) (w .to) k (track 0 0) h
 
   pub cart-at : (k : ℕ) → k < s .carts → cartCell (jobOf s) k ≡ getD (s .starts) k 0
   cart-at k h = getD-take (s .carts) (s .starts) k 0 h

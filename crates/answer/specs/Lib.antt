@@ -1,0 +1,4 @@
+pub mod Cut
+pub mod Straight
+pub mod Trail
+pub mod Uncrossed

@@ -1,0 +1,26 @@
+-- The way of a cart back from a cell at a step, as the store tells it. n is the number of cells, k that of nodes.
+use Prim.Native.Nat.{ℕ, zero, suc, _+_, _*_, _<_, _≤_}
+use mathlib.Core.List.{List, [], _∷_, _++_}
+use lib.ListN.{length, getD}
+
+-- where the cart on c at step t came from
+abbrev pub cameFrom : ℕ → ℕ → List ℕ → ℕ → ℕ → ℕ
+cameFrom k n s c t = getD s (3 * k + (t * n + c)) 0
+
+-- the cells from step 0 to t, the last of them c
+abbrev pub trail : ℕ → ℕ → List ℕ → ℕ → ℕ → List ℕ
+trail k n s c zero = c ∷ []
+trail k n s c (suc t) = trail k n s (cameFrom k n s c (suc t)) t ++ (c ∷ [])
+
+-- All of them are cells of the floor.
+abbrev pub Inside : ℕ → ℕ → List ℕ → ℕ → ℕ → Type 0
+Inside k n s c zero = c < n
+Inside k n s c (suc t) = (c < n) × Inside k n s (cameFrom k n s c (suc t)) t
+
+-- The trail can be read, and the row has room for it.
+pub record Trailed (k n : ℕ) (s row : List ℕ) (c t : ℕ) : Type 0 where
+  pub inside : Inside k n s c t
+  pub small : n ≤ 256
+  pub fits : t * n + n ≤ k
+  pub room : 4 * k ≤ length s
+  pub long : t < length row

@@ -1,0 +1,54 @@
+-- What a changed function is: at the place of the change the new value, and elsewhere the old one. Assumes nothing.
+use mathlib.Core.Path.{_≡_, refl}
+use Rattle.flow.specs.Update.{pick, upd}
+
+module _ {N B : Type 0} (dec : Discrete N) (f : N → B) (x : N) (y : B) where
+  pub data Upd (v : N) : Type 0 where
+    changed : v ≡ x → upd dec f x y v ≡ y → Upd v
+    kept : (v ≡ x → ⊥) → upd dec f x y v ≡ f v → Upd v
+
+  pub look : (v : N) → Upd v
+  look v = go (dec v x) refl
+    where
+      go : (d : Dec (v ≡ x)) → dec v x ≡ d → Upd v
+      go (yes e) q = changed e (rw (q, pick))
+      go (no h) q = kept h (rw (q, pick))
+
+  pub upd-same : (v : N) → v ≡ x → upd dec f x y v ≡ y
+  upd-same v e = go (look v)
+    where
+      go : Upd v → upd dec f x y v ≡ y
+      go (changed e′ q) = q
+      go (kept h q) = absurd (h e)
+
+  pub upd-other : (v : N) → (v ≡ x → ⊥) → upd dec f x y v ≡ f v
+  upd-other v h = go (look v)
+    where
+      go : Upd v → upd dec f x y v ≡ f v
+      go (changed e q) = absurd (h e)
+      go (kept h′ q) = q
+
+-- Changes at two places may be made in either order.
+pub upd-swap : {N B : Type 0} (dec : Discrete N) (f : N → B) (a b : N) (p q : B) (v : N) → (a ≡ b → ⊥)
+    → upd dec (upd dec f a p) b q v ≡ upd dec (upd dec f b q) a p v
+upd-swap {N} {B} dec f a b p q v h = go (dec v b) (dec v a)
+  where
+    go : (d : Dec (v ≡ b)) (d′ : Dec (v ≡ a)) → pick d q (pick d′ p (f v)) ≡ pick d′ p (pick d q (f v))
+    go (yes e) (yes e′) = absurd (h (cc))
+    go (yes e) (no k) = refl
+    go (no k) d′ = refl
+
+-- The same of a function that was changed at a, and then at b.
+module _ {N B : Type 0} (dec : Discrete N) (f : N → B) (a b : N) (p q : B) where
+  pub data Upd2 (v : N) : Type 0 where
+    second : v ≡ b → upd dec (upd dec f a p) b q v ≡ q → Upd2 v
+    first : (v ≡ b → ⊥) → v ≡ a → upd dec (upd dec f a p) b q v ≡ p → Upd2 v
+    neither : (v ≡ b → ⊥) → (v ≡ a → ⊥) → upd dec (upd dec f a p) b q v ≡ f v → Upd2 v
+
+  pub look2 : (v : N) → Upd2 v
+  look2 v = go (dec v b) refl (dec v a) refl
+    where
+      go : (d : Dec (v ≡ b)) → dec v b ≡ d → (d′ : Dec (v ≡ a)) → dec v a ≡ d′ → Upd2 v
+      go (yes e) q d′ q′ = second e (rw (q, pick))
+      go (no h) q (yes e) q′ = first h e (rw (q, q′, pick))
+      go (no h) q (no h′) q′ = neither h h′ (rw (q, q′, pick))

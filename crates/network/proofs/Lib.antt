@@ -1,0 +1,11 @@
+pub mod ChokeLifts
+pub mod ChokeWalk
+pub mod ChokeFew
+pub mod Chokes
+pub mod Points
+pub mod Plans
+pub mod Calm
+pub mod Planes
+pub mod TableLaws
+pub mod OrderLaws
+pub mod AimLaws

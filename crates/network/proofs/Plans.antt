@@ -1,0 +1,145 @@
+-- The paths that follow a flow back from the calls are a plan. Each is a line of the flow, from its call's node down to step 0,
+-- so that two paths that stand on one node, or have one cart and so start on one cell, are of one call and thus the same.
+-- A trade is a trade of links, which a calm flow does not have. Assumes nothing.
+use Prim.Native.Nat.{ℕ, zero, suc, _+_, _-_, _<_}
+use mathlib.Core.Path.{_≡_, refl, sym, _∙_, ap}
+use mathlib.Core.List.{List, [], _∷_, map}
+use mathlib.Core.Logic.{inl, inr}
+use native.Mathlib.Omega.{arith}
+use lib.ListN.{length, getD}
+use Rattle.model.specs.Lists.{In, NoDup}
+use Rattle.model.specs.Job.{Job, Call, call, callOf, horizon}
+use Rattle.model.specs.Plan.{Path, Leads, Share, Trade, Plan}
+use Rattle.model.specs.Choke.{Point, point}
+use Rattle.model.specs.Ready.{Ready}
+use Rattle.model.proofs.Basics.{nope}
+use Rattle.model.proofs.Lists.{in-getD, in-map, place-of}
+use Rattle.flow.specs.Flow.{Link, off, end, to, Flow}
+use Rattle.flow.specs.Line.{Ranked, place, line}
+use Rattle.flow.proofs.Line.{line-apart}
+use Rattle.network.specs.Graph.{graph}
+use Rattle.network.specs.Traced.{Traced, Calm}
+use Rattle.network.proofs.Points.{point-cell, point-eq}
+
+pub ranked : (j : Job) → Ranked (graph j) (λ x. x .step) (horizon j)
+ranked j = record { falls = λ u w e. e .falls; bound = λ u w e. e .in-time; goals = λ v e. e .0 }
+
+-- What following a path asks, a step at a time: the links lead on from a used node, to a cart's cell at step 0.
+module _ {j : Job} {back on : Point → Link Point} (ok : Flow (graph j) back on) where
+  pub starts-on-cart : (x : Point) → back x ≡ end → In (x .cell) (j .carts)
+  starts-on-cart x e = ok .goals x e .1
+
+  -- A line begins on a used node.
+  pub lifts : (v : Point) → on v ≡ end → back v ≡ off → ⊥
+  lifts v e f = nope (cc (ok .off-prev v f))
+
+  pub began : (v : Point) → (back v ≡ off → ⊥) → v .step ≡ 0 → back v ≡ end
+  began v used h = go (back v) refl
+    where
+      go : (l : Link Point) → back v ≡ l → back v ≡ end
+      go off e = absurd (used e)
+      go end e = e
+      go (to u) e = absurd (omega (arith, ok .edge v u e .falls))
+
+  pub came : (v : Point) (t : ℕ) → (back v ≡ off → ⊥) → v .step ≡ suc t
+      → (u : Point) × (back v ≡ to u) × (u .step ≡ t) × (u .cell < j .cells) × (back u ≡ off → ⊥)
+  came v t used h = go (back v) refl
+    where
+      go : (l : Link Point) → back v ≡ l → (u : Point) × (back v ≡ to u) × (u .step ≡ t) × (u .cell < j .cells) × (back u ≡ off → ⊥)
+      go off e = absurd (used e)
+      go end e = absurd (omega (arith, ok .goals v e .0))
+      go (to u) e =
+          let d = ok .edge v u e in
+          (u, e, omega (arith, d .falls), d .known-before, λ f. nope (cc (ok .forth v u e, ok .off-prev u f)))
+
+-- Members of one number are one.
+one-of : {A : Type 0} (f : A → ℕ) (l : List A) → NoDup (map f l) → (a b : A) → In a l → In b l → f a ≡ f b → a ≡ b
+one-of f [] nd a b h k e = absurd h
+one-of f (c ∷ l) nd a b (inl h) (inl k) e = h ∙ sym k
+one-of f (c ∷ l) nd a b (inl h) (inr k) e = absurd (nd .0 (rw (sym (ap f h) ∙ e) (in-map f b l k)))
+one-of f (c ∷ l) nd a b (inr h) (inl k) e = absurd (nd .0 (rw (sym (ap f k) ∙ sym e) (in-map f a l h)))
+one-of f (c ∷ l) nd a b (inr h) (inr k) e = one-of f l (nd .1) a b h k e
+
+in-unmap : {A : Type 0} (f : A → ℕ) (n : ℕ) (l : List A) → In n (map f l) → (a : A) × In a l × (f a ≡ n)
+in-unmap f n [] h = absurd h
+in-unmap f n (a ∷ l) (inl e) = (a, inl refl, sym e)
+in-unmap f n (a ∷ l) (inr h) = let (b, m, e) = in-unmap f n l h in (b, inr m, e)
+
+-- No number by g is twice, where members of one g have one f too.
+own-by : {A : Type 0} (f g : A → ℕ) (l : List A) → ((a b : A) → In a l → In b l → g a ≡ g b → f a ≡ f b) → NoDup (map f l) → NoDup (map g l)
+own-by f g [] h nd = tt
+own-by {A} f g (a ∷ l) h nd = (λ i. twice (in-unmap g (g a) l i), own-by f g l (λ b c i k. h b c (inr i) (inr k)) (nd .1))
+  where
+    twice : (b : A) × In b l × (g b ≡ g a) → ⊥
+    twice (b, i, e) = nd .0 (rw (h a b (inl refl) (inr i) (sym e)) (in-map f b l i))
+
+module _ (j : Job) (r : Ready j) {back on : Point → Link Point} (ok : Flow (graph j) back on) (calm : Calm back)
+    (full : (q : Call) → In q (j .calls) → on (point (q .cell) (q .deadline)) ≡ end) where
+  abbrev spot : Path → Point
+  spot p = point (callOf j (p .call) .cell) (callOf j (p .call) .deadline)
+
+  abbrev stand : Path → ℕ → Point
+  stand p t = point (getD (p .cells) t 0) t
+
+  begins : (p : Path) → Traced j back p → on (spot p) ≡ end
+  begins p tr = full (callOf j (p .call)) (in-getD (j .calls) (p .call) (call 0 0) (tr .known-call))
+
+  -- The path is the line from its call's node.
+  on-line : (p : Path) → Traced j back p → (k t : ℕ) → t + k ≡ callOf j (p .call) .deadline → stand p t ≡ line back (spot p) k
+  on-line p tr zero t e =
+      let d : t ≡ callOf j (p .call) .deadline = omega arith in
+      point-eq (ap (λ i. getD (p .cells) i 0) d ∙ tr .ends) d
+  on-line p tr (suc k) t e =
+      let n : back (stand p (suc t)) ≡ to (stand p t) = tr .follows t (omega (arith, tr .size)) in
+      let ih : stand p (suc t) ≡ line back (spot p) k = on-line p tr k (suc t) (omega arith) in
+      rw (sym ih, n, place)
+
+  -- Paths that stand on one node are of one call: calls have cells of their own.
+  apart : (p q : Path) → Traced j back p → Traced j back q → (t : ℕ) → t < length (p .cells) → t < length (q .cells)
+      → getD (p .cells) t 0 ≡ getD (q .cells) t 0 → p .call ≡ q .call
+  apart p q tr tr′ t h h′ e =
+      let k = callOf j (p .call) .deadline - t in
+      let k′ = callOf j (q .call) .deadline - t in
+      place-of (λ q. q .cell) (j .calls) (r .fit .own-lifts) (p .call) (q .call) (call 0 0) (tr .known-call) (tr′ .known-call)
+      (point-cell (line-apart (ranked j) ok (spot p) (spot q) (begins p tr) (begins q tr′) k k′ (omega arith) (omega arith)
+      (sym (on-line p tr k t (omega (arith, tr .size))) ∙ point-eq e refl ∙ on-line q tr′ k′ t (omega (arith, tr′ .size)))))
+
+  module _ (ps : List Path) (own : NoDup (map (λ p. p .call) ps)) (traced : (p : Path) → In p ps → Traced j back p) where
+    leads : (p : Path) → In p ps → Leads j p
+    leads p i =
+        let tr = traced p i in
+        record {
+          known-cart = tr .known-cart;
+          known-call = tr .known-call;
+          walks = record { starts = (omega (arith, tr .size), sym (tr .starts)); steps = λ t h. ok .edge _ _ (tr .follows t h) .moves };
+          serves = record { size = tr .size; ends = tr .ends };
+        }
+
+    same-call : (p q : Path) → In p ps → In q ps → p .cart ≡ q .cart → p .call ≡ q .call
+    same-call p q i k e =
+        let tr = traced p i in
+        let tr′ = traced q k in
+        apart p q tr tr′ 0 (omega (arith, tr .size)) (omega (arith, tr′ .size)) (sym (tr .starts) ∙ ap (λ n. getD (j .carts) n 0) e ∙ tr′ .starts)
+
+    no-share : (p q : Path) → In p ps → In q ps → (t : ℕ) → Share (p .cells) (q .cells) t → p .cart ≡ q .cart
+    no-share p q i k t (v, (h, e), (h′, e′)) =
+        ap (λ p. p .cart) (one-of (λ p. p .call) ps own p q i k (apart p q (traced p i) (traced q k) t h h′ (e ∙ sym e′)))
+
+    no-trade : (p q : Path) → In p ps → In q ps → (t : ℕ) → Trade (p .cells) (q .cells) t → p .cart ≡ q .cart
+    no-trade p q i k t (u, v, (h, e), (l, f), (h′, e′), (l′, f′)) =
+        let m : back (point v (suc t)) ≡ to (point u t) = rw (e, f) at (traced p i .follows t l) in
+        let m′ : back (point u (suc t)) ≡ to (point v t) = rw (e′, f′) at (traced q k .follows t l′) in
+        no-share p q i k t (u, (h, e), (h′, e′ ∙ calm v u t m m′))
+
+pub flow-plan : (j : Job) → Ready j → {back on : Point → Link Point} → Flow (graph j) back on → Calm back
+    → ((q : Call) → In q (j .calls) → on (point (q .cell) (q .deadline)) ≡ end)
+    → (ps : List Path) → length ps ≡ length (j .calls) → NoDup (map (λ p. p .call) ps)
+    → ((p : Path) → In p ps → Traced j back p) → Plan j ps
+flow-plan j r ok calm full ps size own traced = record {
+  size = size;
+  leads = leads j r ok calm full ps own traced;
+  own-call = own;
+  own-cart = own-by (λ p. p .call) (λ p. p .cart) ps (same-call j r ok calm full ps own traced) own;
+  no-share = no-share j r ok calm full ps own traced;
+  no-trade = no-trade j r ok calm full ps own traced;
+}

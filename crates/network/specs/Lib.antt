@@ -1,0 +1,10 @@
+pub mod Graph
+pub mod Stuck
+pub mod Traced
+pub mod Store
+pub mod Links
+pub mod Tables
+pub mod Order
+pub mod Rows
+pub mod Sorted
+pub mod Queue

@@ -1,0 +1,21 @@
+-- Paths that follow a flow of the graph back in time, and a flow in which no two carts trade cells.
+use Prim.Native.Nat.{ℕ, suc, _<_}
+use mathlib.Core.Path.{_≡_}
+use lib.ListN.{length, getD}
+use Rattle.model.specs.Job.{Job, cartCell, callOf}
+use Rattle.model.specs.Plan.{Path}
+use Rattle.model.specs.Choke.{Point, point}
+use Rattle.flow.specs.Flow.{Link, to}
+
+-- The path stands on its call's node at the deadline and follows the links from there down to its cart's cell at step 0.
+pub record Traced (j : Job) (back : Point → Link Point) (p : Path) : Type 0 where
+  pub known-cart : p .cart < length (j .carts)
+  pub known-call : p .call < length (j .calls)
+  pub size : length (p .cells) ≡ suc (callOf j (p .call) .deadline)
+  pub ends : getD (p .cells) (callOf j (p .call) .deadline) 0 ≡ callOf j (p .call) .cell
+  pub follows : (t : ℕ) → suc t < length (p .cells) → back (point (getD (p .cells) (suc t) 0) (suc t)) ≡ to (point (getD (p .cells) t 0) t)
+  pub starts : cartCell j (p .cart) ≡ getD (p .cells) 0 0
+
+-- No two carts trade the ends of a track.
+abbrev pub Calm : (Point → Link Point) → Type 0
+Calm back = (u w t : ℕ) → back (point u (suc t)) ≡ to (point w t) → back (point w (suc t)) ≡ to (point u t) → u ≡ w

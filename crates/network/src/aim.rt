@@ -1,0 +1,115 @@
+// A guess that only saves time: over the floor alone, along a shortest way from a call's cell to a free cart, where to look first.
+use job::state::Job;
+use model::Limits;
+ghost use mathlib.Core.Path.{_≡_};
+ghost use Prim.Native.Nat.{ℕ, _+_, _*_, _<_, _≤_};
+ghost use lib.ListN.{length, getD};
+ghost use Rattle.model.specs.Ready.{Ready};
+ghost use Rattle.job.specs.Arrays.{jobOf, Sized};
+ghost use Rattle.network.specs.Store.{Spacious};
+ghost use Rattle.network.specs.Tables.{Near, CartOn};
+ghost use Rattle.network.specs.Queue.{Queue};
+
+fn wide(x: u8) -> usize
+    ensures { λ r. ⌜ (r ≡ x) × (r < 256) ⌝ }
+{
+    x as usize
+}
+
+// Puts the cells of row c that were not seen at the end of the queue, with the way back to c. Answers where the queue ends then. It never has more entries than
+// there are cells: the test of the tail only says so to the proof.
+fn expand(
+    near: &[u8],
+    degree: &[u16],
+    cells: usize,
+    c: usize,
+    queue: &mut [u8; Limits::CELLS],
+    seen: &mut [u8; Limits::CELLS],
+    to: &mut [u8; Limits::CELLS],
+    place: &mut [u8; Limits::CELLS],
+    end: usize,
+) -> usize
+    requires { ⌜ (c < 256) × (length (now near) ≡ 65536) × (length (now degree) ≡ 256) × (getD (now degree) c 0 ≤ 256) × ((i : ℕ) → i < getD (now degree) c 0 → getD (now near) (c * 256 + i) 0 < cells) × Queue cells (now queue) end ⌝ }
+    ensures { λ r. ⌜ Queue cells (now (queue .exit)) r ⌝ }
+{
+    let mut tail = end;
+    let n = degree[c] as usize;
+    for i in 0..n {
+        let b = near[c * 256 + i];
+        let x = wide(b);
+        if seen[x] == 0 && tail < cells {
+            seen[x] = 1;
+            to[x] = c as u8;
+            place[x] = i as u8;
+            queue[tail] = b;
+            tail += 1;
+        }
+    }
+    tail
+}
+
+// From the cart's cell c to the call's cell: each cell on the way is told where to come from. No way has more steps than the floor has cells.
+fn lay<'a>(
+    hint: &mut [u8],
+    to: &'a [u8; Limits::CELLS],
+    place: &'a [u8; Limits::CELLS],
+    cells: usize,
+    c: usize,
+    cell: usize,
+)
+    requires { ⌜ (length (now hint) ≡ 256) × (c < 256) ⌝ }
+    ensures { λ _. ⌜ length (now (hint .exit)) ≡ 256 ⌝ }
+{
+    let mut x = c;
+    for _ in 0..cells {
+        if x == cell {
+            return;
+        }
+        let next = wide(to[x]);
+        hint[next] = place[x];
+        x = next;
+    }
+}
+
+// hint[c] is the place in row c of the cell to come from. Nothing rests on what it is.
+pub fn aim(
+    job: Job,
+    near: &[u8],
+    degree: &[u16],
+    cart_on: &[u8],
+    store: &[u8],
+    cell: usize,
+    hint: &mut [u8],
+)
+    requires { ⌜ Ready (jobOf job) × Sized job × Near (jobOf job) (now near) (now degree) × CartOn (jobOf job) (now «cart_on») × Spacious (jobOf job) (now store) × (cell < job .cells) × (length (now hint) ≡ 256) ⌝ }
+    ensures { λ _. ⌜ length (now (hint .exit)) ≡ 256 ⌝ }
+{
+    let mut queue = [0u8; Limits::CELLS];
+    let mut seen = [0u8; Limits::CELLS];
+    let mut to = [0u8; Limits::CELLS];
+    let mut place = [0u8; Limits::CELLS];
+    queue[0] = cell as u8;
+    seen[cell] = 1;
+    let mut head = 0;
+    let mut tail = 1;
+    while head < tail {
+        let c = wide(queue[head]);
+        if cart_on[c] != 0 && store[c] == 0 {
+            hint[c] = 0;
+            lay(hint, &to, &place, job.cells, c, cell);
+            return;
+        }
+        tail = expand(
+            near,
+            degree,
+            job.cells,
+            c,
+            &mut queue,
+            &mut seen,
+            &mut to,
+            &mut place,
+            tail,
+        );
+        head += 1;
+    }
+}

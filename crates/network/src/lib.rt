@@ -1,0 +1,4 @@
+// The graph of a job and the tables of its floor.
+pub mod aim;
+pub mod order;
+pub mod tables;
