@@ -1,0 +1,306 @@
+-- Once all hops of the stack are laid, the links that the store holds are those of the flow with the way added: at the nodes that the way leaves or goes by
+-- they are read off the bytes written there, and at every other node off bytes that say the same as before. Assumes nothing.
+use Prim.Native.Nat.{ℕ, zero, suc, _+_, _-_, _*_, _<_, _≤_}
+use mathlib.Core.Path.{_≡_, refl, sym, _∙_, ap}
+use mathlib.Core.List.{List, _∷_}
+use mathlib.Core.Bool.{Bool, true, false, cond, not, _&&_}
+use mathlib.Core.Logic.{_⊎_, inl, inr, ⊎-elim, _↔_}
+use native.Mathlib.Omega.{arith}
+use borrow.Author.Tests.{lt-ltb, le-leb, ltb-true, leb-true, eq-eqb, ne-eqb, eqb-false, not-true}
+use lib.Dec.{eqb, ltb, leb}
+use lib.ListN.{length, set, length-set}
+use Rattle.model.specs.Lists.{In}
+use Rattle.model.specs.Job.{Job, horizon}
+use Rattle.model.specs.Choke.{Point, point, Known}
+use Rattle.model.specs.ReadSheet.{knownPoint}
+use Rattle.model.proofs.Basics.{nope, and-left, and-right, and-both}
+use Rattle.model.proofs.Decide.{dec-in, dec-eq}
+use Rattle.flow.specs.Flow.{Link, off, end, to}
+use Rattle.flow.specs.Way.{Way, vias, ats, lastAt, join, nextBy, prevBy}
+use Rattle.flow.proofs.Flow.{flow-same}
+use Rattle.flow.proofs.Hops.{On, on-out, via-on, via-once}
+use Rattle.flow.proofs.Links.{join-same, join-other, next-kept, next-last, next-hop, prev-kept, prev-start, prev-hop}
+use Rattle.flow.proofs.Augment.{augmented, starts-more}
+use Rattle.network.specs.Graph.{graph, isLift, Earlier}
+use Rattle.network.specs.Store.{nodes, idx, at, isUsed}
+use Rattle.network.specs.Links.{FlowIn, backLink, onLink, posAt, hopsTo}
+use Rattle.route.specs.Search.{Augmented}
+use Rattle.route.specs.Lay.{useOf}
+use Rattle.network.proofs.Points.{point-step, point-eq, dec-point}
+use Rattle.network.proofs.Planes.{at-same, at-other, idx-below, idx-one}
+use Rattle.route.proofs.Stack.{viaAt, last-hops, hop-on, Form, frees, leads, via-late, via-in, places-apart, place-once, place-in, hop-arcs, form, known-via}
+use Rattle.route.proofs.Laid.{Laid}
+
+-- A link from the test of use, the test of the end, and the node that it leads to.
+link-off : (b : Bool) (y : Link Point) → b ≡ false → cond b y off ≡ off
+link-off b y e = rw e
+
+link-end : (b c : Bool) (x : Point) → b ≡ true → c ≡ true → cond b (cond c end (to x)) off ≡ end
+link-end b c x e f = rw (e, f)
+
+link-to : (b c : Bool) (x : Point) → b ≡ true → c ≡ false → cond b (cond c end (to x)) off ≡ to x
+link-to b c x e f = rw (e, f)
+
+link-used : (b : Bool) (y : Link Point) (x : Point) → cond b y off ≡ to x → b ≡ true
+link-used true y x e = refl
+link-used false y x e = nope (cc)
+
+link-same : (b b′ c : Bool) (x x′ : Point) → b ≡ b′ → (b ≡ true → x ≡ x′) → cond b (cond c end (to x)) off ≡ cond b′ (cond c end (to x′)) off
+link-same true b′ c x x′ e h = rw (sym e, h refl)
+link-same false b′ c x x′ e h = rw (sym e)
+
+join-eq : {a a′ b b′ : Point} → a ≡ a′ → b ≡ b′ → join dec-point a b ≡ join dec-point a′ b′
+join-eq e f = rw (e, f)
+
+and-false : (b : Bool) → (b && false) ≡ false
+and-false true = refl
+and-false false = refl
+
+module _ (j : Job) where
+  abbrev byte : List ℕ → Point → ℕ
+  byte s v = at (nodes j) s 0 (idx j v)
+
+  known-test : (v : Point) → Known j v → knownPoint j v ≡ true
+  known-test v h = and-both (ltb (v .cell) (j .cells)) (leb (v .step) (horizon j)) (lt-ltb (v .cell) (j .cells) (h .0)) (le-leb (v .step) (horizon j) (h .1))
+
+  test-known : (v : Point) → knownPoint j v ≡ true → Known j v
+  test-known v h =
+      (ltb-true (v .cell) (j .cells) (and-left (ltb (v .cell) (j .cells)) (leb (v .step) (horizon j)) h), leb-true (v .step) (horizon j) (and-right (ltb (v .cell) (j .cells)) (leb (v .step) (horizon j)) h))
+
+  used : (s : List ℕ) (v : Point) → Known j v → (byte s v ≡ 0 → ⊥) → isUsed j s v ≡ true
+  used s v h ne = and-both (knownPoint j v) (not (eqb (byte s v) 0)) (known-test v h) (ap not (ne-eqb (byte s v) 0 ne))
+
+  unused : (s : List ℕ) (v : Point) → byte s v ≡ 0 → isUsed j s v ≡ false
+  unused s v e = ap (λ b. knownPoint j v && not b) (eq-eqb (byte s v) 0 e) ∙ and-false (knownPoint j v)
+
+  used-byte : (s : List ℕ) (v : Point) → isUsed j s v ≡ true → byte s v ≡ 0 → ⊥
+  used-byte s v h = eqb-false (byte s v) 0 (not-true (eqb (byte s v) 0) (and-right (knownPoint j v) (not (eqb (byte s v) 0)) h))
+
+  used-known : (s : List ℕ) (v : Point) → isUsed j s v ≡ true → Known j v
+  used-known s v h = test-known v (and-left (knownPoint j v) (not (eqb (byte s v) 0)) h)
+
+  -- The tests of use agree if they do at a known point.
+  used-same : (s s′ : List ℕ) (v : Point) → (Known j v → eqb (byte s′ v) 0 ≡ eqb (byte s v) 0) → isUsed j s′ v ≡ isUsed j s v
+  used-same s s′ v h = go (knownPoint j v) refl
+    where
+      go : (b : Bool) → knownPoint j v ≡ b → (b && not (eqb (byte s′ v) 0)) ≡ (b && not (eqb (byte s v) 0))
+      go true e = ap not (h (test-known v e))
+      go false e = refl
+
+  -- What the store holds once all is laid.
+  pub record Final (s s′ : List ℕ) (e : ℕ) : Type 0 where
+    pub start : byte s′ (posAt j s 0) ≡ 1
+    pub by : (m : ℕ) → m < e → byte s′ (viaAt j s m) ≡ useOf (nodes j) s m
+    pub kept : (v : Point) → Known j v → (v ≡ posAt j s 0 → ⊥) → ((m : ℕ) → m < e → v ≡ viaAt j s m → ⊥) → byte s′ v ≡ byte s v
+    pub next : (m : ℕ) → m < e → at (nodes j) s′ 2 (idx j (viaAt j s m)) ≡ posAt j s m .cell
+    pub next-kept : (v : Point) → Known j v → ((m : ℕ) → m < e → v ≡ viaAt j s m → ⊥) → at (nodes j) s′ 2 (idx j v) ≡ at (nodes j) s 2 (idx j v)
+    pub prev : (m : ℕ) → m < e → at (nodes j) s′ 3 (idx j (posAt j s m)) ≡ viaAt j s m .cell
+    pub prev-kept : (v : Point) → Known j v → ((m : ℕ) → m < e → v ≡ posAt j s m → ⊥) → at (nodes j) s′ 3 (idx j v) ≡ at (nodes j) s 3 (idx j v)
+
+  module _ (s s′ : List ℕ) (e : ℕ) (known : (i : ℕ) → i ≤ e → Known j (posAt j s i)) (ok : FlowIn j s)
+      (way : Way (graph j) (backLink j s) (onLink j s) (posAt j s 0) (hopsTo j s e)) (fin : Final s s′ e) where
+    abbrev x : Point
+    x = posAt j s 0
+
+    -- Where a hop leads on, its node is used then, and where it does not, it is not.
+    leads-used : (m : ℕ) → m < e → ltb (posAt j s m .step) (posAt j s (suc m) .step) ≡ false → byte s′ (viaAt j s m) ≡ 1
+    leads-used m l q = fin .by m l ∙ ap (λ b. cond b 0 1) q
+
+    frees-used : (m : ℕ) → m < e → ltb (posAt j s m .step) (posAt j s (suc m) .step) ≡ true → byte s′ (viaAt j s m) ≡ 0
+    frees-used m l q = fin .by m l ∙ ap (λ b. cond b 0 1) q
+
+    data Via (v : Point) : Type 0 where
+      via : (m : ℕ) → m < e → v ≡ viaAt j s m → Via v
+      none : ((m : ℕ) → m < e → v ≡ viaAt j s m → ⊥) → Via v
+
+    look-via : (v : Point) → Via v
+    look-via v = go (dec-in dec-point v (vias (hopsTo j s e)))
+      where
+        hop : (u : Point) × (y : Point) × On x (hopsTo j s e) u v y → Via v
+        hop (u, y, o) = let r = hop-on j s e u v y o in via (r .0) (r .1) (r .3)
+
+        go : Dec (In v (vias (hopsTo j s e))) → Via v
+        go (yes i) = hop (via-on x (hopsTo j s e) v i)
+        go (no h) = none (λ m l q. h (rw q (via-in j s ok e way m l)))
+
+    -- A position that was used and is not dropped is used then.
+    stays : (i : ℕ) → i ≤ e → (i < e → Earlier j (posAt j s i) (viaAt j s i)) → (byte s (posAt j s i) ≡ 0 → ⊥) → byte s′ (posAt j s i) ≡ 0 → ⊥
+    stays i l h u z = go (dec-point (posAt j s i) x) (look-via (posAt j s i))
+      where
+        met : (m : ℕ) → m < e → posAt j s i ≡ viaAt j s m → Form j s m → ⊥
+        met m k q (frees f g) =
+            let r : i ≡ m = place-once j s ok e way i m l (omega arith) (q ∙ g) in
+            let k′ : i < e = omega arith in
+            let t : posAt j s i .step ≡ suc (viaAt j s i .step) = h k′ .falls in
+            let t′ : posAt j s i ≡ viaAt j s i = rw r (sym g) in
+            omega (arith, point-step t′)
+        met m k q (leads f g) = let t : byte s′ (viaAt j s m) ≡ 1 = leads-used m k f in omega (arith, ap (byte s′) q, z)
+
+        go : Dec (posAt j s i ≡ x) → Via (posAt j s i) → ⊥
+        go (yes q) w = let t : byte s′ x ≡ 1 = fin .start in omega (arith, ap (byte s′) q, z)
+        go (no q) (via m k f) = met m k f (form j s ok e way m k)
+        go (no q) (none f) = u (sym (fin .kept (posAt j s i) (known i l) q f) ∙ z)
+
+    -- A hop arrives at an unused node and goes on from there, or at a used one and goes back along the flow.
+    entered : (m : ℕ) → m < e → (posAt j s (suc m) ≡ viaAt j s m) ⊎ (onLink j s (viaAt j s m) ≡ to (posAt j s (suc m)))
+    entered m l = ⊎-elim (λ (q : (posAt j s (suc m) ≡ viaAt j s m) × (backLink j s (viaAt j s m) ≡ off)). inl (q .0)) inr (hop-arcs j s ok e way m l .1)
+
+    position-used : (i : ℕ) → i ≤ e → (i < e → Earlier j (posAt j s i) (viaAt j s i)) → byte s′ (posAt j s i) ≡ 0 → ⊥
+    position-used zero l h z = let t : byte s′ x ≡ 1 = fin .start in omega arith
+    position-used (suc m) l h z = go (form j s ok e way m l) (entered m l)
+      where
+        go : Form j s m → (posAt j s (suc m) ≡ viaAt j s m) ⊎ (onLink j s (viaAt j s m) ≡ to (posAt j s (suc m))) → ⊥
+        go (frees f g) (inl q) = places-apart j s ok e way m (suc m) (omega arith) l (sym (q ∙ g))
+        go (leads f g) (inl q) = let t : byte s′ (viaAt j s m) ≡ 1 = leads-used m l f in omega (arith, ap (byte s′) q, z)
+        go f (inr q) =
+            let r = ok .back (posAt j s (suc m)) (viaAt j s m) q in
+            stays (suc m) l h (used-byte s (posAt j s (suc m)) (link-used (isUsed j s (posAt j s (suc m))) _ (viaAt j s m) r)) z
+
+    -- A node that is no position is used then as it was before.
+    other-used : (v : Point) → (In v (x ∷ ats (hopsTo j s e)) → ⊥) → isUsed j s′ v ≡ isUsed j s v
+    other-used v h = go (look-via v)
+      where
+        both : (m : ℕ) → m < e → v ≡ viaAt j s m → Form j s m → (posAt j s (suc m) ≡ viaAt j s m) ⊎ (onLink j s (viaAt j s m) ≡ to (posAt j s (suc m)))
+            → eqb (byte s′ v) 0 ≡ eqb (byte s v) 0
+        both m l q (frees f g) r = absurd (h (rw (q ∙ g) (place-in j s ok e way m (omega arith))))
+        both m l q (leads f g) (inl r) = absurd (h (rw (q ∙ sym r) (place-in j s ok e way (suc m) l)))
+        both m l q (leads f g) (inr r) =
+            let t : byte s′ v ≡ 1 = rw q (leads-used m l f) in
+            let u : byte s v ≡ 0 → ⊥ = rw q (used-byte s (viaAt j s m) (link-used (isUsed j s (viaAt j s m)) _ (posAt j s (suc m)) r)) in
+            ne-eqb (byte s′ v) 0 (λ z. omega arith) ∙ sym (ne-eqb (byte s v) 0 u)
+
+        go : Via v → isUsed j s′ v ≡ isUsed j s v
+        go (via m l q) = used-same s s′ v (λ _. both m l q (form j s ok e way m l) (entered m l))
+        go (none f) = used-same s s′ v (λ k. ap (λ b. eqb b 0) (fin .kept v k (λ q. h (inl q)) f))
+
+    pub back-laid : (v : Point) → backLink j s′ v ≡ nextBy dec-point x (hopsTo j s e) (backLink j s) v
+    back-laid v = go (dec-in dec-point v (x ∷ ats (hopsTo j s e)))
+      where
+        kept : (In v (x ∷ ats (hopsTo j s e)) → ⊥) → backLink j s′ v ≡ backLink j s v
+        kept h =
+            link-same (isUsed j s′ v) (isUsed j s v) (eqb (v .step) 0) _ _ (other-used v h)
+            (λ u. ap (λ c. point c (v .step - 1)) (fin .prev-kept v (used-known s′ v u) (λ m l q. h (rw q (place-in j s ok e way m (omega arith))))))
+
+        last : v ≡ lastAt x (hopsTo j s e) → backLink j s′ v ≡ nextBy dec-point x (hopsTo j s e) (backLink j s) v
+        last q =
+            let q′ : v ≡ posAt j s e = q ∙ last-hops j s e in
+            let z : v .step ≡ 0 = point-step q ∙ way .goal .0 in
+            let u : isUsed j s′ v ≡ true = used s′ v (rw q′ (known e (omega arith))) (rw q′ (position-used e (omega arith) (λ l. absurd (omega arith)))) in
+            link-end (isUsed j s′ v) (eqb (v .step) 0) _ u (eq-eqb (v .step) 0 z) ∙ sym (rw q (next-last dec-point (backLink j s) x (hopsTo j s e) (way .once)))
+
+        hop : (m : ℕ) → m < e → Form j s m → backLink j s′ (posAt j s m) ≡ join dec-point (posAt j s m) (viaAt j s m)
+        hop m l (frees f g) = link-off _ _ (unused s′ (posAt j s m) (ap (byte s′) (sym g) ∙ frees-used m l f)) ∙ sym (join-same dec-point (posAt j s m) (viaAt j s m) (sym g))
+        hop m l (leads f g) =
+            let t = g .falls in
+            let u : isUsed j s′ (posAt j s m) ≡ true = used s′ (posAt j s m) (known m (omega arith)) (position-used m (omega arith) (λ _. g)) in
+            link-to (isUsed j s′ (posAt j s m)) (eqb (posAt j s m .step) 0) _ u (ne-eqb (posAt j s m .step) 0 (λ z. omega arith))
+            ∙ ap to (point-eq (fin .prev m l) (omega arith))
+            ∙ sym (join-other dec-point (posAt j s m) (viaAt j s m) (λ q. let t′ = point-step q in omega arith))
+
+        hops : (w : Point) × (y : Point) × On x (hopsTo j s e) v w y → backLink j s′ v ≡ nextBy dec-point x (hopsTo j s e) (backLink j s) v
+        hops (w, y, o) =
+            let r = hop-on j s e v w y o in
+            let g : join dec-point v w ≡ join dec-point (posAt j s (r .0)) (viaAt j s (r .0)) = join-eq (r .2) (r .3) in
+            ap (backLink j s′) (r .2) ∙ hop (r .0) (r .1) (form j s ok e way (r .0) (r .1)) ∙ sym g ∙ sym (next-hop dec-point (backLink j s) x (hopsTo j s e) v w y (way .once) o)
+
+        go : Dec (In v (x ∷ ats (hopsTo j s e))) → backLink j s′ v ≡ nextBy dec-point x (hopsTo j s e) (backLink j s) v
+        go (no h) = kept h ∙ sym (next-kept dec-point (backLink j s) x (hopsTo j s e) v h)
+        go (yes i) = ⊎-elim last hops (on-out x (hopsTo j s e) v i)
+
+    pub on-laid : (v : Point) → onLink j s′ v ≡ prevBy dec-point x (hopsTo j s e) (onLink j s) v
+    on-laid v = go (dec-in dec-point v (x ∷ vias (hopsTo j s e)))
+      where
+        kept : (In v (x ∷ vias (hopsTo j s e)) → ⊥) → onLink j s′ v ≡ onLink j s v
+        kept h =
+            let no : (m : ℕ) → m < e → v ≡ viaAt j s m → ⊥ = λ m l q. h (inr (rw q (via-in j s ok e way m l))) in
+            link-same (isUsed j s′ v) (isUsed j s v) (isLift j v) _ _ (used-same s s′ v (λ k. ap (λ b. eqb b 0) (fin .kept v k (λ q. h (inl q)) no)))
+            (λ u. ap (λ c. point c (v .step + 1)) (fin .next-kept v (used-known s′ v u) no))
+
+        first : onLink j s′ x ≡ end
+        first = let t = fin .start in link-end (isUsed j s′ x) (isLift j x) _ (used s′ x (known 0 (omega arith)) (λ z. omega arith)) (way .start)
+
+        hop : (m : ℕ) → m < e → Form j s m → onLink j s′ (viaAt j s m) ≡ join dec-point (viaAt j s m) (posAt j s m)
+        hop m l (frees f g) = link-off _ _ (unused s′ (viaAt j s m) (frees-used m l f)) ∙ sym (join-same dec-point (viaAt j s m) (posAt j s m) g)
+        hop m l (leads f g) =
+            let t = g .falls in
+            let b = leads-used m l f in
+            let u : isUsed j s′ (viaAt j s m) ≡ true = used s′ (viaAt j s m) (known-via j s ok e way known m l) (λ z. omega arith) in
+            link-to (isUsed j s′ (viaAt j s m)) (isLift j (viaAt j s m)) _ u (g .leaves)
+            ∙ ap to (point-eq (fin .next m l) (omega arith))
+            ∙ sym (join-other dec-point (viaAt j s m) (posAt j s m) (λ q. let t′ = point-step q in omega arith))
+
+        hops : (u : Point) × (y : Point) × On x (hopsTo j s e) u v y → onLink j s′ v ≡ prevBy dec-point x (hopsTo j s e) (onLink j s) v
+        hops (u, y, o) =
+            let r = hop-on j s e u v y o in
+            let g : join dec-point v u ≡ join dec-point (viaAt j s (r .0)) (posAt j s (r .0)) = join-eq (r .3) (r .2) in
+            ap (onLink j s′) (r .3) ∙ hop (r .0) (r .1) (form j s ok e way (r .0) (r .1)) ∙ sym g ∙ sym (prev-hop dec-point (onLink j s) x (hopsTo j s e) u v y (via-once ok way) o)
+
+        go : Dec (In v (x ∷ vias (hopsTo j s e))) → onLink j s′ v ≡ prevBy dec-point x (hopsTo j s e) (onLink j s) v
+        go (no h) = kept h ∙ sym (prev-kept dec-point (onLink j s) x (hopsTo j s e) v h)
+        go (yes (inl q)) = ap (onLink j s′) q ∙ first ∙ sym (rw q (prev-start dec-point (onLink j s) x (hopsTo j s e)))
+        go (yes (inr i)) = hops (via-on x (hopsTo j s e) v i)
+
+    pub flow-laid : FlowIn j s′
+    flow-laid = flow-same back-laid on-laid (augmented dec-point ok way)
+
+    pub serves-laid : (v : Point) → (onLink j s′ v ≡ end) ↔ ((onLink j s v ≡ end) ⊎ (v ≡ x))
+    serves-laid v = rw (on-laid v) (starts-more dec-point ok way v)
+
+module _ (j : Job) (s s′ : List ℕ) (e : ℕ) (room : 8 * nodes j ≤ length s) (known : (i : ℕ) → i ≤ e → Known j (posAt j s i)) (ok : FlowIn j s)
+    (way : Way (graph j) (backLink j s) (onLink j s) (posAt j s 0) (hopsTo j s e)) (done : Laid (j .cells) (nodes j) s s′ 0 e) where
+  abbrev p : ℕ
+  p = idx j (posAt j s 0)
+
+  abbrev s₁ : List ℕ
+  s₁ = set s′ (0 * nodes j + p) 1
+
+  abbrev s₂ : List ℕ
+  s₂ = set s₁ (1 * nodes j + p) 0
+
+  small : p < nodes j
+  small = idx-below j (known 0 (omega arith))
+
+  long₁ : length s₁ ≡ length s
+  long₁ = length-set s′ (0 * nodes j + p) 1 ∙ done .long
+
+  past₂ : (q v : ℕ) → v < nodes j → (q ≡ 1 → ⊥) → at (nodes j) s₂ q v ≡ at (nodes j) s₁ q v
+  past₂ q v l h = at-other (nodes j) s₁ 1 p 0 q v small l (λ f _. h f)
+
+  past : (q v : ℕ) → v < nodes j → (q ≡ 1 → ⊥) → (q ≡ 0 → v ≡ p → ⊥) → at (nodes j) s₂ q v ≡ at (nodes j) s′ q v
+  past q v l h g = past₂ q v l h ∙ at-other (nodes j) s′ 0 p 1 q v small l g
+
+  via-known : (m : ℕ) → m < e → Known j (viaAt j s m)
+  via-known m l = known-via j s ok e way known m l
+
+  not-via : (v : Point) → Known j v → ((m : ℕ) → m < e → v ≡ viaAt j s m → ⊥) → (m : ℕ) → 0 ≤ m → m < e → idx j v ≡ idx j (viaAt j s m) → ⊥
+  not-via v k h m z l q = h m l (idx-one j k (via-known m l) q)
+
+  final : Final j s s₂ e
+  final = record {
+    start = past₂ 0 p small (λ f. omega arith) ∙ at-same (nodes j) s′ 0 p 1 (omega (arith, done .long, small));
+    by = λ m l. past 0 (idx j (viaAt j s m)) (idx-below j (via-known m l)) (λ f. omega arith) (λ _ q. via-late j s ok e way m l (idx-one j (via-known m l) (known 0 (omega arith)) q))
+        ∙ done .used .new m (omega arith) l;
+    kept = λ v k h g. past 0 (idx j v) (idx-below j k) (λ f. omega arith) (λ _ q. h (idx-one j k (known 0 (omega arith)) q)) ∙ done .used .old (idx j v) (idx-below j k) (not-via v k g);
+    next = λ m l. past 2 (idx j (viaAt j s m)) (idx-below j (via-known m l)) (λ f. omega arith) (λ f _. omega arith) ∙ done .next .new m (omega arith) l;
+    next-kept = λ v k g. past 2 (idx j v) (idx-below j k) (λ f. omega arith) (λ f _. omega arith) ∙ done .next .old (idx j v) (idx-below j k) (not-via v k g);
+    prev = λ m l. past 3 (idx j (posAt j s m)) (idx-below j (known m (omega arith))) (λ f. omega arith) (λ f _. omega arith) ∙ done .prev .new m (omega arith) l;
+    prev-kept = λ v k g. past 3 (idx j v) (idx-below j k) (λ f. omega arith) (λ f _. omega arith)
+        ∙ done .prev .old (idx j v) (idx-below j k) (λ m z l q. g m l (idx-one j k (known m (omega arith)) q));
+  }
+
+  mark : (v : ℕ) → v < nodes j → (at (nodes j) s₂ 1 v ≡ at (nodes j) s 1 v) ⊎ (at (nodes j) s₂ 1 v ≡ 0)
+  mark v l = go (dec-eq v p)
+    where
+      go : Dec (v ≡ p) → (at (nodes j) s₂ 1 v ≡ at (nodes j) s 1 v) ⊎ (at (nodes j) s₂ 1 v ≡ 0)
+      go (yes q) = inr (rw q (at-same (nodes j) s₁ 1 p 0 (omega (arith, long₁, small))))
+      go (no h) =
+          let f : at (nodes j) s₂ 1 v ≡ at (nodes j) s′ 1 v = at-other (nodes j) s₁ 1 p 0 1 v small l (λ _ q. h q) ∙ at-other (nodes j) s′ 0 p 1 1 v small l (λ q _. omega arith) in
+          ⊎-elim (λ q. inl (f ∙ q)) (λ q. inr (f ∙ q)) (done .marks v l)
+
+  pub all-laid : Augmented j s s₂ (posAt j s 0)
+  all-laid = record {
+    long = length-set s₁ (1 * nodes j + p) 0 ∙ long₁;
+    flow = flow-laid j s s₂ e known ok way final;
+    serves = serves-laid j s s₂ e known ok way final;
+    marks = mark;
+  }

@@ -1,0 +1,13 @@
+pub mod AugmentLinks
+pub mod AugmentLoop
+pub mod Laid
+pub mod LayHop
+pub mod SearchBytes
+pub mod SearchCount
+pub mod SearchFinds
+pub mod SearchHops
+pub mod SearchRuns
+pub mod SearchStack
+pub mod SearchTurn
+pub mod Stack
+pub mod ServeLaws

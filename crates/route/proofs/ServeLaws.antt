@@ -1,0 +1,56 @@
+-- What a call's search and augmentation leave, put together: a search keeps the flow, so the next search or the augmentation may start from its store, and
+-- what is served is told from the store at entry. Marks stay at most the stamp, so that the stamp after it is on none of them. Assumes nothing.
+use Prim.Native.Nat.{ℕ, _+_, _<_, _≤_}
+use mathlib.Core.Path.{_≡_, _∙_, ap, subst₂}
+use mathlib.Core.List.{List}
+use mathlib.Core.Logic.{_⊎_, _↔_, ⊎-elim}
+use native.Mathlib.Omega.{arith}
+use Rattle.model.specs.Job.{Job}
+use Rattle.model.specs.Choke.{Point}
+use Rattle.flow.specs.Flow.{Link, off, end}
+use Rattle.network.specs.Store.{nodes, Spacious}
+use Rattle.network.specs.Links.{FlowIn, backLink, onLink, posAt}
+use Rattle.route.specs.Search.{Fresh, Searched, Augmented}
+use Rattle.route.specs.Serve.{MarksUpTo}
+use Rattle.route.proofs.SearchRuns.{back-same, on-same, flow-kept}
+use Rattle.route.proofs.AugmentLoop.{Handed}
+
+module _ {j : Job} {s t : List ℕ} {stamp : ℕ} {x : Point} {r : ℕ} (f : Searched j s t stamp x r) where
+  pub room-kept : Spacious j s → Spacious j t
+  room-kept h = omega (arith, h, f .same .long)
+
+  pub still-flow : FlowIn j s → FlowIn j t
+  still-flow = flow-kept j s t (f .same)
+
+  pub still-idle : backLink j s x ≡ off → backLink j t x ≡ off
+  still-idle e = ap (λ (l : Point → Link Point). l x) (back-same j s t (f .same)) ∙ e
+
+  pub same-on : onLink j t ≡ onLink j s
+  same-on = on-same j s t (f .same)
+
+  pub marks-search : (n : ℕ) → n ≤ stamp → MarksUpTo j s n → MarksUpTo j t stamp
+  marks-search n l h v b = ⊎-elim (λ e. omega (arith, e, h v b)) (λ e. omega (arith, e)) (f .marks v b)
+
+  pub fresh-next : MarksUpTo j s stamp → Fresh j t (stamp + 1)
+  fresh-next h v b e = omega (arith, e, marks-search stamp (omega arith) h v b)
+
+  -- The way that was found may be laid.
+  pub handed : (k : ℕ) → k ≡ nodes j → Spacious j s → FlowIn j s → 0 < r → Handed j t k r
+  handed k size room ok some =
+      let e : posAt j t 0 ≡ x = f .first some in
+      record {
+        size = size;
+        room = room-kept room;
+        ok = still-flow ok;
+        deep = some;
+        fit = omega (arith, size, f .deep);
+        known = f .known;
+        way = rw e (f .way some);
+      }
+
+module _ {j : Job} {t u : List ℕ} {x : Point} (a : Augmented j t u x) where
+  pub marks-augment : (n : ℕ) → MarksUpTo j t n → MarksUpTo j u n
+  marks-augment n h v b = ⊎-elim (λ e. omega (arith, e, h v b)) (λ e. omega (arith, e)) (a .marks v b)
+
+  pub serves-too : (s : List ℕ) (y : Point) → onLink j t ≡ onLink j s → x ≡ y → (v : Point) → (onLink j u v ≡ end) ↔ ((onLink j s v ≡ end) ⊎ (v ≡ y))
+  serves-too s y o e v = subst₂ (λ (l : Point → Link Point) (z : Point). (onLink j u v ≡ end) ↔ ((l v ≡ end) ⊎ (v ≡ z))) o e (a .serves v)

@@ -1,0 +1,4 @@
+pub mod Search
+pub mod Finds
+pub mod Lay
+pub mod Serve

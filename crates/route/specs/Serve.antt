@@ -1,0 +1,22 @@
+-- What serving one call answers and leaves.
+use Prim.Native.Nat.{ℕ, _+_, _<_, _≤_}
+use mathlib.Core.Path.{_≡_}
+use mathlib.Core.List.{List}
+use mathlib.Core.Logic.{_⊎_, _↔_}
+use Rattle.model.specs.Job.{Job}
+use Rattle.model.specs.Choke.{Point}
+use Rattle.flow.specs.Flow.{end}
+use Rattle.network.specs.Store.{nodes, at, isMarked}
+use Rattle.network.specs.Links.{backLink, onLink}
+use Rattle.network.specs.Stuck.{Stuck}
+use Rattle.route.specs.declared.serve.Served.{Served}
+use Rattle.route.specs.declared.serve.Served.the-variants.{Yes, No}
+
+-- No mark is above the stamp.
+abbrev pub MarksUpTo : Job → List ℕ → ℕ → Type 0
+MarksUpTo j s stamp = (v : ℕ) → v < nodes j → at (nodes j) s 1 v ≤ stamp
+
+-- The call's node x is served now, or it cannot be: the marks with the stamp show why.
+abbrev pub ServedBy : Job → List ℕ → List ℕ → ℕ → Point → Served → Type 0
+ServedBy j s s′ stamp x (Yes n) = (n ≤ stamp + 1) × (stamp ≤ n) × MarksUpTo j s′ n × ((v : Point) → (onLink j s′ v ≡ end) ↔ ((onLink j s v ≡ end) ⊎ (v ≡ x)))
+ServedBy j s s′ stamp x (No n) = (n ≤ stamp + 1) × Stuck j (backLink j s′) (onLink j s′) (isMarked j s′ n) x

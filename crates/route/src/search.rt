@@ -1,0 +1,224 @@
+// One search: from a call's node back in time to a free cart, depth first, with the way so far as a stack in the store.
+use job::state::Job;
+ghost use mathlib.Core.Path.{_≡_};
+ghost use mathlib.Core.Bool.{true};
+ghost use Prim.Native.Nat.{ℕ, _+_, _*_, _<_, _≤_};
+ghost use lib.ListN.{length, getD};
+ghost use Rattle.model.specs.Choke.{point, Known};
+ghost use Rattle.model.specs.Ready.{Ready};
+ghost use Rattle.job.specs.Arrays.{jobOf, Sized};
+ghost use Rattle.flow.specs.Flow.{off};
+ghost use Rattle.network.specs.Graph.{isLift};
+ghost use Rattle.network.specs.Store.{nodes, Spacious};
+ghost use Rattle.network.specs.Links.{FlowIn, backLink};
+ghost use Rattle.network.specs.Tables.{Near, Due, CartOn};
+ghost use Rattle.route.specs.Search.{Searched};
+ghost use Rattle.route.specs.Finds.{Held, Rows, By, ByRow, Down, From, Stamped, Answers, Pushed};
+
+// Where a position leads: nowhere new, or to another position, by way of a cell.
+pub enum Found {
+    Nothing,
+    Push {
+        cell: usize,
+        step: usize,
+        via: usize,
+    },
+}
+
+fn wide(x: u8) -> usize
+    ensures { λ r. ⌜ (r ≡ x) × (r < 256) ⌝ }
+{
+    x as usize
+}
+
+// From a position at step t by way of the cell x one step earlier: to that node where it is free, to its successor where it is used,
+// whose place in the flow is then taken over. Nothing comes from a call's node.
+fn look(store: &[u8], due: &[u16], n: usize, k: usize, t: usize, x: usize, stamp: u8) -> Found
+    requires { ⌜ Held n k (now store) (now due) × (x < n) × (0 < t) × (t * n + n ≤ k) ⌝ }
+    ensures { λ r. ⌜ Answers (By n k (now (store .entry)) (now (due .entry)) t x) (Stamped n k (now (store .entry)) stamp) r ⌝ }
+{
+    if due[x] as usize == t {
+        return Found::Nothing;
+    }
+    let u = (t - 1) * n + x;
+    if store[u] == 0 {
+        if store[k + u] == stamp {
+            return Found::Nothing;
+        }
+        return Found::Push {
+            cell: x,
+            step: t - 1,
+            via: x,
+        };
+    }
+    let y = wide(store[2 * k + u]);
+    if store[k + t * n + y] == stamp {
+        return Found::Nothing;
+    }
+    Found::Push {
+        cell: y,
+        step: t,
+        via: x,
+    }
+}
+
+// The first of the m cells of row c that leads on.
+fn scan(
+    store: &[u8],
+    near: &[u8],
+    due: &[u16],
+    n: usize,
+    k: usize,
+    c: usize,
+    m: usize,
+    t: usize,
+    stamp: u8,
+) -> Found
+    requires { ⌜ Held n k (now store) (now due) × (length (now near) ≡ 65536) × (c < n) × (m ≤ 256) × ((i : ℕ) → i < m → getD (now near) (c * 256 + i) 0 < n) × (0 < t) × (t * n + n ≤ k) ⌝ }
+    ensures { λ r. ⌜ Answers (ByRow n k (now (store .entry)) (now (due .entry)) (now (near .entry)) c m t) (Stamped n k (now (store .entry)) stamp) r ⌝ }
+{
+    let mut i = 0;
+    while i < m {
+        let x = wide(near[c * 256 + i]);
+        let found = look(store, due, n, k, t, x, stamp);
+        if let Found::Push {
+            cell: _,
+            step: _,
+            via: _,
+        } = found {
+            return found;
+        }
+        i += 1;
+    }
+    Found::Nothing
+}
+
+// To the successor of a used node, which then falls out of the flow.
+fn drop_out(store: &[u8], due: &[u16], n: usize, k: usize, c: usize, t: usize, stamp: u8) -> Found
+    requires { ⌜ Held n k (now store) (now due) × (c < n) × (t * n + n ≤ k) ⌝ }
+    ensures { λ r. ⌜ Answers (Down n k (now (store .entry)) (now (due .entry)) c t) (Stamped n k (now (store .entry)) stamp) r ⌝ }
+{
+    let v = t * n + c;
+    if store[v] == 0 {
+        return Found::Nothing;
+    }
+    if due[c] as usize == t + 1 {
+        return Found::Nothing;
+    }
+    let y = wide(store[2 * k + v]);
+    if store[k + v - c + n + y] == stamp {
+        return Found::Nothing;
+    }
+    Found::Push {
+        cell: y,
+        step: t + 1,
+        via: c,
+    }
+}
+
+// Where the position (c, t) leads: first as the hint says, which is a guess that only saves time.
+fn find(
+    store: &[u8],
+    near: &[u8],
+    degree: &[u16],
+    due: &[u16],
+    hint: &[u8],
+    n: usize,
+    k: usize,
+    c: usize,
+    t: usize,
+    stamp: u8,
+) -> Found
+    requires { ⌜ Held n k (now store) (now due) × Rows n (now near) (now degree) (now hint) × (c < n) × (t * n + n ≤ k) ⌝ }
+    ensures { λ r. ⌜ Answers (From n k (now (store .entry)) (now (near .entry)) (now (degree .entry)) (now (due .entry)) c t) (Stamped n k (now (store .entry)) stamp) r ⌝ }
+{
+    if 0 < t {
+        let m = degree[c] as usize;
+        let h = wide(hint[c]);
+        if h < m {
+            let x = wide(near[c * 256 + h]);
+            let found = look(store, due, n, k, t, x, stamp);
+            if let Found::Push {
+                cell: _,
+                step: _,
+                via: _,
+            } = found {
+                return found;
+            }
+        }
+        let found = scan(store, near, due, n, k, c, m, t, stamp);
+        if let Found::Push {
+            cell: _,
+            step: _,
+            via: _,
+        } = found {
+            return found;
+        }
+    }
+    drop_out(store, due, n, k, c, t, stamp)
+}
+
+// Marks a position and puts it on the stack.
+fn push(
+    store: &mut [u8],
+    n: usize,
+    k: usize,
+    depth: usize,
+    cell: usize,
+    step: usize,
+    via: usize,
+    stamp: u8,
+)
+    requires { ⌜ (8 * k ≤ length (now store)) × (k ≤ 65536) × (step * n + cell < k) × (depth < k) × (cell < 256) × (step < 256) × (via < 256) ⌝ }
+    ensures { λ _. ⌜ Pushed k (now (store .entry)) (now (store .exit)) (step * n + cell) depth cell step via stamp ⌝ }
+{
+    store[k + step * n + cell] = stamp;
+    store[4 * k + depth] = cell as u8;
+    store[5 * k + depth] = step as u8;
+    store[6 * k + depth] = via as u8;
+}
+
+pub fn search(
+    job: Job,
+    near: &[u8],
+    degree: &[u16],
+    due: &[u16],
+    cart_on: &[u8],
+    hint: &[u8],
+    store: &mut [u8],
+    k: usize,
+    cell: usize,
+    step: usize,
+    stamp: u8,
+) -> usize
+    requires { ⌜ Ready (jobOf job) × Sized job × (k ≡ nodes (jobOf job)) × Near (jobOf job) (now near) (now degree) × Due (jobOf job) (now due) × CartOn (jobOf job) (now «cart_on») × (length (now hint) ≡ 256) × Spacious (jobOf job) (now store) × FlowIn (jobOf job) (now store) × Known (jobOf job) (point cell step) × (isLift (jobOf job) (point cell step) ≡ true) × (backLink (jobOf job) (now store) (point cell step) ≡ off) × (0 < stamp) ⌝ }
+    ensures { λ r. ⌜ Searched (jobOf job) (now (store .entry)) (now (store .exit)) stamp (point cell step) r ⌝ }
+{
+    push(store, job.cells, k, 0, cell, step, 0, stamp);
+    let mut depth = 1;
+    while 0 < depth {
+        let c = wide(store[4 * k + depth - 1]);
+        let t = wide(store[5 * k + depth - 1]);
+        if t == 0 && cart_on[c] != 0 {
+            return depth;
+        }
+        let Found::Push { cell, step, via } = find(
+            store,
+            near,
+            degree,
+            due,
+            hint,
+            job.cells,
+            k,
+            c,
+            t,
+            stamp,
+        ) else {
+            depth -= 1;
+            continue;
+        };
+        push(store, job.cells, k, depth, cell, step, via, stamp);
+        depth += 1;
+    }
+    0
+}
