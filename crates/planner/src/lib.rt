@@ -1,0 +1,2 @@
+// The planner: a plan, or a true choke list.
+pub mod solve;
