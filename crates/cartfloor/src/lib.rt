@@ -1,0 +1,5 @@
+// The calls that the controller makes, and what they share.
+pub mod check;
+pub mod plan;
+pub mod refuse;
+pub mod wipe;

@@ -1,0 +1,34 @@
+// Plans the job on standard input: writes the sheet, or one line that says why the job is refused.
+use libc::STDIN_FILENO;
+use libc::STDOUT_FILENO;
+
+fn refuse(number: u64, line: u64) {
+    io::write_all(STDOUT_FILENO, b"REFUSED\t");
+    io::print_decimal(STDOUT_FILENO, number);
+    io::write_all(STDOUT_FILENO, b"\t");
+    io::print_decimal(STDOUT_FILENO, line);
+    io::write_all(STDOUT_FILENO, b"\n");
+}
+
+fn plan(text: &[u8]) {
+    let mut store = [0u8; 65536];
+    let mut sheet = [0u8; 65536];
+    let r = cartfloor::plan::cartfloor_plan(text, &mut store, &mut sheet);
+    let value = r / 256;
+    if 1 < r % 256 {
+        refuse(r % 256, value);
+        return;
+    }
+    // A sheet is never longer than its buffer.
+    if value <= 65536 {
+        let n = value as usize;
+        io::write_all(STDOUT_FILENO, &sheet[0..n]);
+    }
+}
+
+// One byte more than a job text may have tells one that is too long.
+fn main() {
+    let mut input = [0u8; 16385];
+    let n = io::read_full(STDIN_FILENO, &mut input);
+    plan(&input[0..n]);
+}
