@@ -5,10 +5,10 @@
  * different threads may call them at the same time on buffers of their own.
  *
  *     uint8_t sheet[65536], store[65536];
- *     uint64_t r = cartfloor_check(job, job_len, store, sizeof store, sheet, sheet_len);
+ *     uint64_t r = cartfloor_plan(job, job_len, store, sizeof store, sheet, sizeof sheet);
  *     switch (CARTFLOOR_ANSWER(r)) {
- *     case CARTFLOOR_PLAN:   puts("a plan");      break;
- *     case CARTFLOOR_CANNOT: puts("no plan can be"); break;
+ *     case CARTFLOOR_PLAN:   fwrite(sheet, 1, CARTFLOOR_VALUE(r), stdout); break;
+ *     case CARTFLOOR_CANNOT: fwrite(sheet, 1, CARTFLOOR_VALUE(r), stdout); break;
  *     default: printf("refused: %u at line %llu\n", CARTFLOOR_ANSWER(r), (unsigned long long)CARTFLOOR_VALUE(r));
  *     }
  *
@@ -64,7 +64,7 @@ enum {
 #define CARTFLOOR_STORE_MOST CARTFLOOR_STORE_LEAST(CARTFLOOR_DEADLINE_MAX, CARTFLOOR_CELLS_MAX, CARTFLOOR_TRACKS_MAX)
 #define CARTFLOOR_SHEET_MOST CARTFLOOR_SHEET_LEAST(CARTFLOOR_DEADLINE_MAX, CARTFLOOR_CARTS_MAX)
 
-/* Plans a job. (Coming: not in the library yet.)
+/* Plans a job.
  *   job, job_len      the job text; it is left alone
  *   store, store_len  work store, of at least CARTFLOOR_STORE_LEAST bytes, with anything in it. After PLAN or CANNOT every byte of it is 0,
  *                     also past the least length; after a refusal it is as lent

@@ -1,2 +1,3 @@
 pub mod Verdicts
 pub mod Sheets
+pub mod Rule3

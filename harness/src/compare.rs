@@ -1,0 +1,51 @@
+//! One call held against the model: the answer, and every byte of every buffer.
+
+#[cfg(feature = "plan")]
+mod planner;
+
+#[cfg(feature = "plan")]
+pub use planner::plan;
+
+use crate::ffi::{self, Checker, Library};
+use crate::gen::cases::Case;
+use crate::gen::Rng;
+use crate::model::answer::unpack;
+use crate::model::check::{self, store_after};
+
+/// The answer, if it is the model's and all bytes are as they must be; else what differs.
+pub fn check(checker: &dyn Checker, case: &Case, rng: &mut Rng) -> Result<u64, String> {
+    let expected = check::check(&case.job, case.store_len, &case.sheet);
+    let found = ffi::check(checker, &case.job, case.store_len, &case.sheet, rng).map_err(|what| report(&what, case))?;
+    if found.answer != expected {
+        let what = format!("answers {:?}, not {:?}", unpack(found.answer), unpack(expected));
+        return Err(report(&what, case));
+    }
+    if found.store != store_after(expected, &found.lent) {
+        let what = format!("store not as it must be after {:?}", unpack(expected));
+        return Err(report(&what, case));
+    }
+    Ok(expected)
+}
+
+/// The library's answer; panics where anything differs from the model.
+pub fn library_on(case: &Case, rng: &mut Rng) -> u64 {
+    check(&Library, case, rng).unwrap_or_else(|difference| panic!("{difference}"))
+}
+
+/// The library's answer and line; panics where anything differs from the model.
+pub fn library(job: &[u8], store_len: usize, sheet: &[u8]) -> (u64, usize) {
+    let case = Case { job: job.to_vec(), store_len, sheet: sheet.to_vec() };
+    let seed = job.len() as u64 ^ (sheet.len() as u64) << 32;
+    unpack(library_on(&case, &mut Rng::new(seed)))
+}
+
+fn report(what: &str, case: &Case) -> String {
+    let (job, sheet) = (show(&case.job), show(&case.sheet));
+    format!("{what}\nstore of {} bytes, job\n{job}\nsheet\n{sheet}", case.store_len)
+}
+
+/// A text for the eye, the beginning of a long one.
+pub fn show(text: &[u8]) -> String {
+    let beginning = &text[..text.len().min(2000)];
+    beginning.escape_ascii().to_string().replace("\\n", "\\n\n")
+}

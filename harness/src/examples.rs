@@ -1,0 +1,67 @@
+//! The examples that document 01 files. Tabs are shown as spaces, as there.
+
+/// A text with its tabs.
+pub fn tabs(text: &str) -> Vec<u8> {
+    text.replace(' ', "\t").into_bytes()
+}
+
+/// A job with the only sheet it has, and the answer that goes with it.
+pub struct Example {
+    pub name: &'static str,
+    pub job: &'static str,
+    pub sheet: &'static str,
+    pub answer: u64,
+}
+
+pub const EXAMPLES: [Example; 6] = [A, B, C, D, F, G];
+
+pub const A: Example = Example {
+    name: "A",
+    job: "FLOOR 3\nTRACK 0 1\nTRACK 1 2\nCART 0\nCART 1\nCALL 2 1\nCALL 1 1\n",
+    sheet: "PLAN 2\nPATH 1 0 1 2\nPATH 0 1 0 1\n",
+    answer: 0,
+};
+
+pub const B: Example = Example {
+    name: "B",
+    job: "FLOOR 3\nTRACK 0 1\nTRACK 1 2\nCART 0\nCART 1\nCALL 2 1\nCALL 1 0\n",
+    sheet: "CANNOT 1\nCHOKE 1 0\n",
+    answer: 1,
+};
+
+pub const C: Example = Example { name: "C", job: "FLOOR 1\n", sheet: "PLAN 0\n", answer: 0 };
+
+pub const D: Example =
+    Example { name: "D", job: "FLOOR 1\nCART 0\nCALL 0 0\n", sheet: "PLAN 1\nPATH 0 0 0\n", answer: 0 };
+
+/// D with deadline 255, which has 256 zeros in its path: job and sheet.
+pub fn e() -> (Vec<u8>, Vec<u8>) {
+    let sheet = format!("PLAN 1\nPATH 0 0{}\n", " 0".repeat(256));
+    (tabs("FLOOR 1\nCART 0\nCALL 0 255\n"), tabs(&sheet))
+}
+
+pub const F: Example = Example {
+    name: "F",
+    job: "FLOOR 2\nTRACK 0 1\nCART 0\nCART 1\nCALL 0 1\nCALL 1 1\n",
+    sheet: "PLAN 2\nPATH 0 0 0 0\nPATH 1 1 1 1\n",
+    answer: 0,
+};
+
+/// F with the carts trading places.
+pub const F_TRADED: &str = "PLAN 2\nPATH 1 0 1 0\nPATH 0 1 0 1\n";
+
+pub const G: Example = Example { name: "G", job: "FLOOR 2\nCART 0\nCALL 1 5\n", sheet: "CANNOT 0\n", answer: 1 };
+
+/// Jobs that are turned back: text, number, line.
+pub const REFUSED: [(&str, u64, usize); 10] = [
+    ("", 3, 1),
+    ("FLOOR 0\n", 5, 1),
+    ("FLOOR 257\n", 5, 1),
+    ("FLOOR 1\nCART 0\nCALL 0 256\n", 5, 3),
+    ("FLOOR 2\nTRACK 0 0\n", 7, 2),
+    ("FLOOR 1\nTRACK 0 0\n", 7, 2),
+    ("FLOOR 2\nTRACK 0 1\nTRACK 1 0\n", 7, 3),
+    ("FLOOR 1\nCART 0\n", 8, 0),
+    ("FLOOR 1\nCART 00\nCALL 0 0\n", 4, 2),
+    ("FLOOR 1\nCART 1e0\nCALL 0 0\n", 4, 2),
+];

@@ -1,0 +1,121 @@
+//! A second check, into which one fault can be put. The tests of the harness see that the comparison finds each.
+//!
+//! It reads jobs as the model does, since the faults are about sheets. The rest goes other ways than the model: the
+//! sheet in one pass of bytes, conflicts by a table of who stands where, choke lists backwards from the calls.
+
+mod backwards;
+mod conflicts;
+mod form;
+
+use crate::ffi::Checker;
+use crate::model::answer::*;
+use crate::model::job::Job;
+use crate::model::limits::store_least;
+use crate::model::reader;
+use crate::model::sheet::{Choke, Path, Sheet};
+
+#[derive(Clone, Copy, Debug, PartialEq, Eq)]
+pub enum Fault {
+    None,
+    IgnoresTrades,
+    PassesAsManyPointsAsCalls,
+    PassesDoubledPoint,
+    FreesCellAtDeadline,
+    TouchesStoreBeforeRefusal,
+    PassesLinesOutOfOrder,
+    LiftsCrossingCart,
+    CountsCellsByPlace,
+    TakesLastCallForLargestDeadline,
+    WipesLeastLengthOnly,
+    WritesBehindStore,
+    WritesIntoJob,
+    WritesIntoSheet,
+}
+
+/// The faults, without `None`.
+pub const FAULTS: [Fault; 13] = [
+    Fault::IgnoresTrades,
+    Fault::PassesAsManyPointsAsCalls,
+    Fault::PassesDoubledPoint,
+    Fault::FreesCellAtDeadline,
+    Fault::TouchesStoreBeforeRefusal,
+    Fault::PassesLinesOutOfOrder,
+    Fault::LiftsCrossingCart,
+    Fault::CountsCellsByPlace,
+    Fault::TakesLastCallForLargestDeadline,
+    Fault::WipesLeastLengthOnly,
+    Fault::WritesBehindStore,
+    Fault::WritesIntoJob,
+    Fault::WritesIntoSheet,
+];
+
+/// The second check with a fault.
+pub struct Faulty(pub Fault);
+
+impl Checker for Faulty {
+    unsafe fn check(&self, job: (*const u8, usize), store: (*mut u8, usize), sheet: (*const u8, usize)) -> u64 {
+        match self.0 {
+            Fault::WritesBehindStore => *store.0.add(store.1) ^= 1,
+            Fault::WritesIntoJob if job.1 > 0 => *job.0.cast_mut() ^= 1,
+            Fault::WritesIntoSheet if sheet.1 > 0 => *sheet.0.cast_mut() ^= 1,
+            _ => (),
+        }
+        self.answer(
+            std::slice::from_raw_parts(job.0, job.1),
+            std::slice::from_raw_parts_mut(store.0, store.1),
+            std::slice::from_raw_parts(sheet.0, sheet.1),
+        )
+    }
+}
+
+impl Faulty {
+    fn answer(&self, job: &[u8], store: &mut [u8], sheet: &[u8]) -> u64 {
+        let job = match reader::read(job) {
+            Ok(job) => job,
+            Err(refusal) => return pack(refusal.number, refusal.line),
+        };
+        let least = store_least(&job);
+        if store.len() < least {
+            return pack(STORE_TOO_SHORT, 0);
+        }
+        let (number, right) = match form::read(sheet, &job, self.0) {
+            Err(line) => return pack(BAD_SHEET, line),
+            Ok(Sheet::Plan(paths)) => (PLAN, self.is_plan(&job, &paths)),
+            Ok(Sheet::Cannot(chokes)) => (CANNOT, self.is_true_list(&job, &chokes)),
+        };
+        if !right {
+            if self.0 == Fault::TouchesStoreBeforeRefusal {
+                store[0] ^= 1;
+            }
+            return pack(WRONG_SHEET, 0);
+        }
+        match self.0 {
+            Fault::WipesLeastLengthOnly => store[..least].fill(0),
+            _ => store.fill(0),
+        }
+        pack(number, 0)
+    }
+
+    fn is_plan(&self, job: &Job, paths: &[Path]) -> bool {
+        let mut paths = paths.to_vec();
+        if self.0 == Fault::PassesLinesOutOfOrder {
+            paths.sort_by_key(|p| (job.calls[p.call].deadline, p.call));
+        }
+        conflicts::in_order(job, &paths) && conflicts::none(job, &paths, self.0)
+    }
+
+    fn is_true_list(&self, job: &Job, chokes: &[Choke]) -> bool {
+        let mut chokes = chokes.to_vec();
+        if self.0 == Fault::PassesLinesOutOfOrder {
+            chokes.sort();
+        }
+        if self.0 == Fault::PassesDoubledPoint {
+            chokes.dedup();
+        }
+        let rising = (1..chokes.len()).all(|i| {
+            let (a, b) = (chokes[i - 1], chokes[i]);
+            a.step < b.step || (a.step == b.step && a.cell < b.cell)
+        });
+        rising && backwards::stops_every_walk(job, &chokes, self.0)
+    }
+}

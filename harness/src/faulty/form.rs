@@ -1,0 +1,92 @@
+//! The form of a sheet, in one pass over its bytes.
+
+use super::Fault;
+use crate::model::job::Job;
+use crate::model::sheet::{Choke, Path, Sheet};
+
+/// The bytes that are left to read.
+struct Rest<'a>(&'a [u8]);
+
+impl Rest<'_> {
+    fn bytes(&mut self, wanted: &[u8]) -> Option<()> {
+        self.0 = self.0.strip_prefix(wanted)?;
+        Some(())
+    }
+
+    /// A tab, and a number up to the next tab or LF.
+    fn field(&mut self) -> Option<usize> {
+        self.bytes(b"\t")?;
+        let digits = self.0.iter().take_while(|b| b.is_ascii_digit()).count();
+        let (number, rest) = self.0.split_at(digits);
+        self.0 = rest;
+        match number {
+            [b'0', _, ..] => None,
+            _ if digits > 3 => None,
+            _ => std::str::from_utf8(number).ok()?.parse().ok(),
+        }
+    }
+
+    fn field_below(&mut self, bound: usize) -> Option<usize> {
+        self.field().filter(|&n| n < bound)
+    }
+}
+
+/// The sheet, or its first bad line.
+pub fn read(sheet: &[u8], job: &Job, fault: Fault) -> Result<Sheet, usize> {
+    let mut rest = Rest(sheet);
+    let calls = job.calls.len();
+    let is_plan = sheet.starts_with(b"PLAN");
+    let count = head(&mut rest, is_plan).ok_or(1usize)?;
+    let right = match is_plan {
+        true => count == calls,
+        false if fault == Fault::PassesAsManyPointsAsCalls => count <= calls,
+        false => count < calls,
+    };
+    if !right {
+        return Err(1);
+    }
+    let (mut paths, mut chokes) = (Vec::new(), Vec::new());
+    for i in 0..count {
+        match is_plan {
+            true => paths.push(path(&mut rest, job, i, fault).ok_or(i + 2)?),
+            false => chokes.push(choke(&mut rest, job, fault).ok_or(i + 2)?),
+        }
+    }
+    match rest.0 {
+        [] if is_plan => Ok(Sheet::Plan(paths)),
+        [] => Ok(Sheet::Cannot(chokes)),
+        _ => Err(count + 2),
+    }
+}
+
+fn head(rest: &mut Rest, is_plan: bool) -> Option<usize> {
+    rest.bytes(if is_plan { b"PLAN" } else { b"CANNOT" })?;
+    let count = rest.field()?;
+    rest.bytes(b"\n")?;
+    Some(count)
+}
+
+fn path(rest: &mut Rest, job: &Job, place: usize, fault: Fault) -> Option<Path> {
+    rest.bytes(b"PATH")?;
+    let cart = rest.field_below(job.carts.len())?;
+    let call = rest.field_below(job.calls.len())?;
+    let counting = if fault == Fault::CountsCellsByPlace { job.written_order()[place] } else { call };
+    let mut cells = Vec::new();
+    for _ in 0..=job.calls[counting].deadline {
+        cells.push(rest.field_below(job.cells)?);
+    }
+    rest.bytes(b"\n")?;
+    Some(Path { cart, call, cells })
+}
+
+fn choke(rest: &mut Rest, job: &Job, fault: Fault) -> Option<Choke> {
+    rest.bytes(b"CHOKE")?;
+    let cell = rest.field_below(job.cells)?;
+    let last = match (fault, job.calls.last()) {
+        (Fault::TakesLastCallForLargestDeadline, Some(call)) => call.deadline,
+        _ => job.last(),
+    };
+    let step = rest.field_below(last + 1)?;
+    rest.bytes(b"\n")?;
+    Some(Choke { step, cell })
+}

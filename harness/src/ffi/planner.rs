@@ -1,0 +1,52 @@
+//! The planner's call, made with buffers that stand between guard bytes.
+
+use super::lent::Lent;
+use crate::gen::Rng;
+
+extern "C" {
+    fn cartfloor_plan(
+        job: *const u8,
+        job_len: usize,
+        store: *mut u8,
+        store_len: usize,
+        sheet: *mut u8,
+        sheet_len: usize,
+    ) -> u64;
+}
+
+/// The call alone, on slices.
+pub fn plan_into(job: &[u8], store: &mut [u8], sheet: &mut [u8]) -> u64 {
+    let (store, store_len) = (store.as_mut_ptr(), store.len());
+    let (sheet, sheet_len) = (sheet.as_mut_ptr(), sheet.len());
+    // Safety: slices do not overlap and are as long as they say.
+    unsafe { cartfloor_plan(job.as_ptr(), job.len(), store, store_len, sheet, sheet_len) }
+}
+
+/// What the planner gave back: its answer, and store and sheet as they were lent and as they are now.
+pub struct Planned {
+    pub answer: u64,
+    pub store_lent: Vec<u8>,
+    pub store: Vec<u8>,
+    pub sheet_lent: Vec<u8>,
+    pub sheet: Vec<u8>,
+}
+
+/// Plans a job. Store and sheet are full of noise. `Err` says which byte was changed that may not be.
+pub fn plan(job: &[u8], store_len: usize, sheet_len: usize, rng: &mut Rng) -> Result<Planned, String> {
+    let store_lent = rng.noise(store_len);
+    let sheet_lent = rng.noise(sheet_len);
+    let mut job_buffer = Lent::new(job, rng);
+    let mut store_buffer = Lent::new(&store_lent, rng);
+    let mut sheet_buffer = Lent::new(&sheet_lent, rng);
+    // Safety: three buffers of their own, each as long as it says.
+    let answer = unsafe {
+        let (job, job_len) = job_buffer.parts();
+        let (store, store_len) = store_buffer.parts();
+        let (sheet, sheet_len) = sheet_buffer.parts();
+        cartfloor_plan(job, job_len, store, store_len, sheet, sheet_len)
+    };
+    job_buffer.is_unchanged("job", job)?;
+    let store = store_buffer.take("store")?;
+    let sheet = sheet_buffer.take("sheet")?;
+    Ok(Planned { answer, store_lent, store, sheet_lent, sheet })
+}

@@ -1,0 +1,13 @@
+//! Jobs and sheets to try, all from seeds, so that a failing case comes again.
+
+pub mod cases;
+pub mod damage;
+pub mod floors;
+pub mod large;
+pub mod lists;
+pub mod plans;
+mod rng;
+pub mod small;
+pub mod wrong;
+
+pub use rng::Rng;

@@ -1,0 +1,125 @@
+//! What is tried on a small job: right plans, wrong ones, choke lists, damaged sheets, damaged jobs, short stores.
+
+use super::damage::damaged;
+use super::plans::plans;
+use super::{lists, wrong, Rng};
+use crate::model::job::Job;
+use crate::model::limits::store_least;
+use crate::model::reader;
+use crate::model::sheet::{Choke, Path, Sheet};
+use crate::model::walks::{all_walks, Walk};
+
+/// One call of the check.
+pub struct Case {
+    pub job: Vec<u8>,
+    pub store_len: usize,
+    pub sheet: Vec<u8>,
+}
+
+/// A small job with its walks, its plans (the first 300) and its true choke lists.
+pub struct Known {
+    pub job: Job,
+    pub walks: Vec<Vec<Vec<Walk>>>,
+    pub plans: Vec<Vec<Path>>,
+    pub lists: Vec<Vec<Choke>>,
+}
+
+impl Known {
+    pub fn of(job: Job) -> Known {
+        Known { walks: all_walks(&job), plans: plans(&job, 300), lists: lists::true_lists(&job), job }
+    }
+
+    /// A right sheet of the job: it has a plan or a true choke list, whichever it is.
+    fn right_sheet(&self, rng: &mut Rng) -> Sheet {
+        match self.plans.is_empty() {
+            false => Sheet::Plan(rng.pick(&self.plans).clone()),
+            true => Sheet::Cannot(rng.pick(&self.lists).clone()),
+        }
+    }
+
+    /// The sheet with a store that is long enough, often just so.
+    fn case(&self, sheet: Vec<u8>, rng: &mut Rng) -> Case {
+        let more = if rng.once_in(3) { rng.below(100) } else { 0 };
+        Case { job: self.job.text(), store_len: store_least(&self.job) + more, sheet }
+    }
+}
+
+/// A kind of cases: some of them for a job.
+pub type Kind = fn(&Known, &mut Rng) -> Vec<Case>;
+
+pub const KINDS: [Kind; 6] = [right_sheets, wrong_plans, choke_lists, damaged_sheets, damaged_jobs, stores];
+
+pub fn right_sheets(known: &Known, rng: &mut Rng) -> Vec<Case> {
+    (0..8).map(|_| known.case(known.right_sheet(rng).text(), rng)).collect()
+}
+
+/// Plans that conflict or not as chance has it, and right ones with one thing changed, where there are any.
+pub fn wrong_plans(known: &Known, rng: &mut Rng) -> Vec<Case> {
+    let mut all = Vec::new();
+    for _ in 0..8 {
+        let loose = wrong::loose_plan(&known.job, &known.walks, rng);
+        let near = if known.plans.is_empty() { &loose } else { rng.pick(&known.plans) };
+        all.push(wrong::tampered_plan(&known.job, near, rng));
+        all.push(loose);
+    }
+    all.into_iter().map(|paths| known.case(Sheet::Plan(paths).text(), rng)).collect()
+}
+
+/// True lists and untrue ones, as short as can be and longer, below the calls, as many as they are, and more.
+pub fn choke_lists(known: &Known, rng: &mut Rng) -> Vec<Case> {
+    let (job, calls) = (&known.job, known.job.calls.len());
+    let mut all = vec![Vec::new(), lists::ends(job), lists::longer(job, &lists::ends(job), calls + 1, rng)];
+    for _ in 0..4 {
+        let count = rng.below(calls + 2);
+        all.push(lists::some_points(job, count, rng));
+    }
+    if let Some(shortest) = known.lists.first() {
+        let any = rng.pick(&known.lists).clone();
+        all.extend(lists_near(job, shortest, rng));
+        all.extend(lists_near(job, &any, rng));
+    }
+    let changed: Vec<_> = all.iter().map(|list| wrong::tampered_list(job, list, rng)).collect();
+    all.extend(changed);
+    all.into_iter().map(|list| known.case(Sheet::Cannot(list).text(), rng)).collect()
+}
+
+/// A true list as it is, longer but still below the calls, as long as them, and with a point twice.
+fn lists_near(job: &Job, list: &[Choke], rng: &mut Rng) -> Vec<Vec<Choke>> {
+    let calls = job.calls.len();
+    vec![
+        list.to_vec(),
+        lists::longer(job, list, calls - 1, rng),
+        lists::longer(job, list, calls, rng),
+        wrong::doubled_point(list, rng),
+    ]
+}
+
+/// Damage to right sheets and to wrong ones.
+pub fn damaged_sheets(known: &Known, rng: &mut Rng) -> Vec<Case> {
+    let mut all = Vec::new();
+    for _ in 0..8 {
+        let loose = Sheet::Plan(wrong::loose_plan(&known.job, &known.walks, rng));
+        all.push(damaged(&known.right_sheet(rng).text(), rng));
+        all.push(damaged(&loose.text(), rng));
+    }
+    all.into_iter().map(|sheet| known.case(sheet, rng)).collect()
+}
+
+/// Damage to the job, with a right sheet of the whole one. The store is long enough if the job is still one.
+pub fn damaged_jobs(known: &Known, rng: &mut Rng) -> Vec<Case> {
+    let case = |_| {
+        let job = damaged(&known.job.text(), rng);
+        let store_len = reader::read(&job).map_or(4096, |job| store_least(&job));
+        let sheet = known.right_sheet(rng).text();
+        Case { job, store_len, sheet }
+    };
+    (0..16).map(case).collect()
+}
+
+/// Stores of just the least length, shorter and longer.
+pub fn stores(known: &Known, rng: &mut Rng) -> Vec<Case> {
+    let least = store_least(&known.job);
+    let lengths = [0, 1, 4095, 4096, least - 1, least, least + 1, 2 * least];
+    let case = |store_len| Case { job: known.job.text(), store_len, sheet: known.right_sheet(rng).text() };
+    lengths.into_iter().map(case).collect()
+}

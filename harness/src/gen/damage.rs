@@ -1,0 +1,166 @@
+//! Damaged texts, jobs and sheets alike: bytes, lines and fields changed, lost or added.
+
+use super::Rng;
+use crate::model::lines::{LF, TAB};
+
+type Damage = fn(&[u8], &mut Rng) -> Vec<u8>;
+
+const BYTES: [Damage; 5] = [changed_byte, lost_byte, added_byte, cut_off, trailing];
+const LINES: [Damage; 4] = [lost_line, doubled_line, swapped_lines, other_word];
+const FIELDS: [Damage; 5] = [other_number, leading_zero, lost_field, added_field, other_count];
+
+/// A text with one damage, now and then with more. A changed number comes most often, since it mostly leaves the form
+/// whole and so gets furthest.
+pub fn damaged(text: &[u8], rng: &mut Rng) -> Vec<u8> {
+    let kinds: [&[Damage]; 4] = [&BYTES, &LINES, &FIELDS, &[other_number]];
+    let kind = rng.pick(&kinds);
+    let once = rng.pick(kind)(text, rng);
+    if rng.once_in(4) {
+        return damaged(&once, rng);
+    }
+    once
+}
+
+/// Bytes that could stand in a text, and some that could not.
+fn any_byte(rng: &mut Rng) -> u8 {
+    *rng.pick(b"\t\t\n\n00123456789ACFHKLNOPRT \r-+x\0\xff")
+}
+
+fn changed_byte(text: &[u8], rng: &mut Rng) -> Vec<u8> {
+    let mut text = text.to_vec();
+    if !text.is_empty() {
+        let at = rng.below(text.len());
+        text[at] = if rng.once_in(2) { any_byte(rng) } else { text[at] ^ (1 << rng.below(8)) };
+    }
+    text
+}
+
+fn lost_byte(text: &[u8], rng: &mut Rng) -> Vec<u8> {
+    let mut text = text.to_vec();
+    if !text.is_empty() {
+        text.remove(rng.below(text.len()));
+    }
+    text
+}
+
+fn added_byte(text: &[u8], rng: &mut Rng) -> Vec<u8> {
+    let mut text = text.to_vec();
+    text.insert(rng.below(text.len() + 1), any_byte(rng));
+    text
+}
+
+/// Often only the last LF is lost.
+fn cut_off(text: &[u8], rng: &mut Rng) -> Vec<u8> {
+    let lost = if rng.once_in(2) { 1 } else { rng.below(text.len() + 1) };
+    text[..text.len().saturating_sub(lost)].to_vec()
+}
+
+fn trailing(text: &[u8], rng: &mut Rng) -> Vec<u8> {
+    let more: Vec<u8> = (0..=rng.below(3)).map(|_| any_byte(rng)).collect();
+    [text, &more].concat()
+}
+
+/// The lines with their LF.
+fn lines(text: &[u8]) -> Vec<Vec<u8>> {
+    text.split_inclusive(|&b| b == LF).map(<[u8]>::to_vec).collect()
+}
+
+fn lost_line(text: &[u8], rng: &mut Rng) -> Vec<u8> {
+    let mut lines = lines(text);
+    if !lines.is_empty() {
+        lines.remove(rng.below(lines.len()));
+    }
+    lines.concat()
+}
+
+fn doubled_line(text: &[u8], rng: &mut Rng) -> Vec<u8> {
+    let mut lines = lines(text);
+    if !lines.is_empty() {
+        let line = rng.pick(&lines).clone();
+        lines.insert(rng.below(lines.len() + 1), line);
+    }
+    lines.concat()
+}
+
+fn swapped_lines(text: &[u8], rng: &mut Rng) -> Vec<u8> {
+    let mut lines = lines(text);
+    if !lines.is_empty() {
+        let (one, other) = (rng.below(lines.len()), rng.below(lines.len()));
+        lines.swap(one, other);
+    }
+    lines.concat()
+}
+
+/// The parts of a line between tabs, the word first; the last one keeps the LF.
+fn on_parts(text: &[u8], rng: &mut Rng, change: fn(&mut Vec<Vec<u8>>, &mut Rng)) -> Vec<u8> {
+    let mut lines = lines(text);
+    if !lines.is_empty() {
+        let at = rng.below(lines.len());
+        let mut parts: Vec<Vec<u8>> = lines[at].split(|&b| b == TAB).map(<[u8]>::to_vec).collect();
+        change(&mut parts, rng);
+        lines[at] = parts.join(&TAB);
+    }
+    lines.concat()
+}
+
+fn other_word(text: &[u8], rng: &mut Rng) -> Vec<u8> {
+    on_parts(text, rng, |parts, rng| {
+        let words = ["FLOOR", "TRACK", "CART", "CALL", "PLAN", "PATH", "CANNOT", "CHOKE", "", "Path", "CARTS"];
+        parts[0] = rng.pick(&words).as_bytes().to_vec();
+    })
+}
+
+/// Small numbers mostly, so that many are known carts, calls, cells and steps; and the numbers about the limits.
+fn any_number(rng: &mut Rng) -> usize {
+    match rng.once_in(3) {
+        true => *rng.pick(&[9, 10, 63, 64, 65, 99, 100, 254, 255, 256, 257, 511, 512, 513, 999, 1000]),
+        false => rng.below(6),
+    }
+}
+
+/// Puts digits for those of a part and leaves the LF behind them.
+fn set_digits(part: &mut Vec<u8>, digits: &str) {
+    part.retain(|&b| b == LF);
+    part.splice(0..0, digits.bytes());
+}
+
+fn other_number(text: &[u8], rng: &mut Rng) -> Vec<u8> {
+    on_parts(text, rng, |parts, rng| {
+        let at = rng.below(parts.len()).max(1);
+        let number = any_number(rng).to_string();
+        if let Some(part) = parts.get_mut(at) {
+            set_digits(part, &number);
+        }
+    })
+}
+
+fn leading_zero(text: &[u8], rng: &mut Rng) -> Vec<u8> {
+    on_parts(text, rng, |parts, rng| {
+        let at = rng.below(parts.len()).max(1);
+        if let Some(part) = parts.get_mut(at) {
+            part.insert(0, b'0');
+        }
+    })
+}
+
+/// Any part, the word and the last one too, which takes the LF with it.
+fn lost_field(text: &[u8], rng: &mut Rng) -> Vec<u8> {
+    on_parts(text, rng, |parts, rng| drop(parts.remove(rng.below(parts.len()))))
+}
+
+fn added_field(text: &[u8], rng: &mut Rng) -> Vec<u8> {
+    on_parts(text, rng, |parts, rng| {
+        let field = if rng.once_in(4) { String::new() } else { any_number(rng).to_string() };
+        parts.insert(rng.below(parts.len()), field.into_bytes());
+    })
+}
+
+/// The first line counts: the cells of a job, the lines of a sheet.
+fn other_count(text: &[u8], rng: &mut Rng) -> Vec<u8> {
+    let mut lines = lines(text);
+    if let Some(first) = lines.first_mut() {
+        let word: Vec<u8> = first.iter().copied().take_while(u8::is_ascii_alphabetic).collect();
+        *first = [word.as_slice(), format!("\t{}\n", any_number(rng)).as_bytes()].concat();
+    }
+    lines.concat()
+}

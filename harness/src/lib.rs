@@ -1,0 +1,18 @@
+//! Tests of the library `cartfloor` from outside, through its C interface.
+//!
+//! `model` says what document 01 asks for; `ffi` calls the library between guard bytes; `gen` makes jobs and sheets;
+//! `compare` holds one call against the model. `faulty` is a second check, into which faults can be put to see that the
+//! comparison finds them. The tests themselves are in `tests/`.
+
+pub mod compare;
+pub mod examples;
+pub mod faulty;
+pub mod ffi;
+pub mod gen;
+pub mod model;
+pub mod tally;
+
+#[cfg(feature = "plan")]
+pub mod baseline;
+#[cfg(feature = "plan")]
+pub mod shortcuts;

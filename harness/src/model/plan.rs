@@ -1,0 +1,52 @@
+//! Whether paths are a plan of a job, in the written order.
+
+use super::job::Job;
+use super::sheet::Path;
+
+/// The paths have as many cells as their calls ask for: the reader of sheets has seen to that.
+pub fn is_plan(job: &Job, paths: &[Path]) -> bool {
+    is_in_order(job, paths) && carts_differ(paths) && are_walks(job, paths) && are_apart(paths)
+}
+
+/// One path for each call, and the paths as their lines go.
+pub fn is_in_order(job: &Job, paths: &[Path]) -> bool {
+    paths.iter().map(|p| p.call).eq(job.written_order())
+}
+
+/// No cart has two paths.
+pub fn carts_differ(paths: &[Path]) -> bool {
+    let mut carts: Vec<usize> = paths.iter().map(|p| p.cart).collect();
+    carts.sort();
+    carts.windows(2).all(|pair| pair[0] != pair[1])
+}
+
+/// Each path starts on its cart's cell, ends on its call's cell, and at each step stands or goes along one track.
+pub fn are_walks(job: &Job, paths: &[Path]) -> bool {
+    let near = job.within_a_step();
+    let is_walk = |p: &Path| {
+        p.cells.first() == Some(&job.carts[p.cart])
+            && p.cells.last() == Some(&job.calls[p.call].cell)
+            && p.cells.windows(2).all(|step| near[step[0]].contains(&step[1]))
+    };
+    paths.iter().all(is_walk)
+}
+
+/// No two carts share a cell or trade the ends of a track.
+pub fn are_apart(paths: &[Path]) -> bool {
+    paths.iter().enumerate().all(|(i, p)| {
+        let earlier = &paths[..i];
+        earlier.iter().all(|q| !share(&p.cells, &q.cells) && !trade(&p.cells, &q.cells))
+    })
+}
+
+/// Both on one cell at one step. A walk has the steps up to its deadline, that one included; `zip` ends with the
+/// shorter walk, whose cart is off the floor from then on.
+pub fn share(one: &[usize], other: &[usize]) -> bool {
+    one.iter().zip(other).any(|(a, b)| a == b)
+}
+
+/// Each on the other's cell one step later.
+pub fn trade(one: &[usize], other: &[usize]) -> bool {
+    let mut steps = one.windows(2).zip(other.windows(2));
+    steps.any(|(a, b)| a[0] != a[1] && a[0] == b[1] && a[1] == b[0])
+}

@@ -1,0 +1,47 @@
+//! The filed examples of document 01, as far as the check answers them.
+
+use harness::compare::library;
+use harness::examples::{e, tabs, D, EXAMPLES, F, F_TRADED, REFUSED};
+
+/// The buffers of the program `floorplan`.
+const STORE: usize = 65_536;
+
+#[test]
+fn the_filed_sheets_pass() {
+    for example in &EXAMPLES {
+        let found = library(&tabs(example.job), STORE, &tabs(example.sheet));
+        assert_eq!(found, (example.answer, 0), "job {}", example.name);
+    }
+}
+
+#[test]
+fn job_d_needs_a_store_of_4128_bytes() {
+    let (job, sheet) = (tabs(D.job), tabs(D.sheet));
+    assert_eq!(library(&job, 4128, &sheet), (0, 0));
+    assert_eq!(library(&job, 4127, &sheet), (9, 0));
+}
+
+#[test]
+fn job_e_has_256_zeros() {
+    let (job, sheet) = e();
+    assert_eq!(library(&job, STORE, &sheet), (0, 0));
+    let short = [&sheet[..sheet.len() - 3], b"\n"].concat();
+    assert_eq!(library(&job, STORE, &short), (11, 2));
+}
+
+#[test]
+fn job_f_with_a_trade_is_refused() {
+    assert_eq!(library(&tabs(F.job), STORE, &tabs(F_TRADED)), (12, 0));
+}
+
+#[test]
+fn refused_jobs() {
+    for (job, number, line) in REFUSED {
+        assert_eq!(library(&tabs(job), STORE, b"PLAN\t0\n"), (number, line), "{job:?}");
+    }
+}
+
+#[test]
+fn a_floor_of_256_cells_passes() {
+    assert_eq!(library(&tabs("FLOOR 256\n"), STORE, b"PLAN\t0\n"), (0, 0));
+}

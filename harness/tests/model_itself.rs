@@ -1,0 +1,63 @@
+//! The model itself: what it says in two ways agrees, and the filed sheets are the only ones.
+
+use harness::examples::{tabs, EXAMPLES};
+use harness::gen::lists::{lists, true_lists};
+use harness::gen::plans::{has_plan, plans};
+use harness::gen::small::small;
+use harness::gen::Rng;
+use harness::model::plan::is_plan;
+use harness::model::sheet::Sheet;
+use harness::model::{choke, reader, sheet, walks};
+
+#[test]
+fn what_is_written_is_read() {
+    let mut rng = Rng::new(1);
+    for _ in 0..2000 {
+        let job = small(&mut rng);
+        assert_eq!(reader::read(&job.text()), Ok(job.clone()));
+        for paths in plans(&job, 10) {
+            assert!(is_plan(&job, &paths));
+            let written = Sheet::Plan(paths);
+            assert_eq!(sheet::read(&written.text(), &job), Ok(written));
+        }
+    }
+}
+
+#[test]
+fn layers_and_walks_agree_on_choke_lists() {
+    let mut rng = Rng::new(2);
+    let mut stopped = 0;
+    for _ in 0..2000 {
+        let job = small(&mut rng);
+        let lists = lists(&job);
+        for _ in 0..lists.len().min(10) {
+            let list = rng.pick(&lists);
+            let by_layers = choke::stops_every_walk(&job, list);
+            assert_eq!(by_layers, walks::stops_every_walk(&job, list), "{list:?} for {job:?}");
+            stopped += usize::from(by_layers);
+        }
+    }
+    assert!(stopped > 500, "only {stopped} lists were true");
+}
+
+/// A plan needs a cart of its own for each call, so fewer points than calls cannot stop all its walks; and where there
+/// is no plan, there is a list (Menger's theorem).
+#[test]
+fn a_job_has_either_a_plan_or_a_true_choke_list() {
+    let mut rng = Rng::new(3);
+    for _ in 0..5000 {
+        let job = small(&mut rng);
+        assert_ne!(has_plan(&job), !true_lists(&job).is_empty(), "{job:?}");
+    }
+}
+
+#[test]
+fn the_filed_sheets_are_the_only_ones() {
+    for example in &EXAMPLES {
+        let job = reader::read(&tabs(example.job)).expect("a filed job");
+        let plans = plans(&job, usize::MAX).into_iter().map(Sheet::Plan);
+        let lists = true_lists(&job).into_iter().map(Sheet::Cannot);
+        let sheets: Vec<Vec<u8>> = plans.chain(lists).map(|sheet| sheet.text()).collect();
+        assert_eq!(sheets, [tabs(example.sheet)], "job {}", example.name);
+    }
+}

@@ -1,0 +1,50 @@
+//! The filed examples of document 01, as the planner answers them: numbers and bytes.
+#![cfg(feature = "plan")]
+
+use harness::compare::plan;
+use harness::examples::{e, tabs, D, EXAMPLES, REFUSED};
+use harness::ffi;
+use harness::gen::Rng;
+use harness::model::answer::unpack;
+
+/// The buffers of the program `floorplan`.
+const BUFFER: usize = 65_536;
+
+fn planned(job: &[u8]) -> (u64, Vec<u8>) {
+    plan(job, BUFFER, BUFFER, &mut Rng::new(1))
+}
+
+#[test]
+fn the_filed_sheets_are_written() {
+    for example in &EXAMPLES {
+        let expected = (example.answer, tabs(example.sheet));
+        assert_eq!(planned(&tabs(example.job)), expected, "job {}", example.name);
+    }
+}
+
+#[test]
+fn job_d_needs_a_store_of_4128_bytes() {
+    let mut rng = Rng::new(2);
+    assert_eq!(plan(&tabs(D.job), 4128, BUFFER, &mut rng), (0, tabs(D.sheet)));
+    assert_eq!(plan(&tabs(D.job), 4127, BUFFER, &mut rng), (9, Vec::new()));
+}
+
+#[test]
+fn job_e_has_256_zeros() {
+    let (job, sheet) = e();
+    assert_eq!(planned(&job), (0, sheet));
+}
+
+#[test]
+fn refused_jobs() {
+    for (job, number, line) in REFUSED {
+        let found = ffi::plan(&tabs(job), BUFFER, BUFFER, &mut Rng::new(3)).expect("no byte changed");
+        assert_eq!(unpack(found.answer), (number, line), "{job:?}");
+        assert_eq!(planned(&tabs(job)), (number, Vec::new()), "{job:?}");
+    }
+}
+
+#[test]
+fn a_floor_of_256_cells_passes() {
+    assert_eq!(planned(&tabs("FLOOR 256\n")), (0, tabs("PLAN 0\n")));
+}

@@ -1,0 +1,69 @@
+//! The shortcuts that lose a lane: for each a job on which it is wrong, and the planner is right.
+#![cfg(feature = "plan")]
+
+use harness::compare::{library, plan};
+use harness::examples::{tabs, A};
+use harness::gen::plans::has_plan;
+use harness::gen::Rng;
+use harness::model::answer::*;
+use harness::model::job::Job;
+use harness::model::reader;
+use harness::model::sheet::Sheet;
+use harness::shortcuts::*;
+
+const BUFFER: usize = 65_536;
+
+fn job(text: &str) -> Job {
+    reader::read(&tabs(text)).expect("a job")
+}
+
+/// The planner's answer, which the exhaustive search confirms.
+fn right_answer(job: &Job) -> u64 {
+    let (answer, _) = plan(&job.text(), BUFFER, BUFFER, &mut Rng::new(1));
+    assert_eq!(answer == PLAN, has_plan(job));
+    answer
+}
+
+#[test]
+fn the_nearest_pair_first() {
+    // Cart 1 is given to cell 1, where it stands, and cart 0 cannot come to cell 2.
+    let job = job(A.job);
+    assert!(!nearest_pair_first(&job));
+    assert_eq!(right_answer(&job), PLAN);
+}
+
+#[test]
+fn never_taking_back_a_path() {
+    // Cart 0 stands on the first call's cell and is taken for it, though only cart 0 can come to the second.
+    let job = job("FLOOR 3\nTRACK 0 1\nTRACK 1 2\nCART 1\nCART 0\nCALL 1 1\nCALL 2 1\n");
+    assert!(!never_taking_back(&job));
+    assert_eq!(right_answer(&job), PLAN);
+}
+
+#[test]
+fn freeing_a_lift_cell_at_its_deadline() {
+    // Both carts have to be on cell 1 at step 1, one to be lifted, one to go on to cell 2.
+    let job = job("FLOOR 4\nTRACK 0 1\nTRACK 1 2\nTRACK 1 3\nCART 0\nCART 3\nCALL 1 1\nCALL 2 2\n");
+    assert!(freeing_at_the_deadline(&job));
+    assert_eq!(right_answer(&job), CANNOT);
+}
+
+#[test]
+fn lifting_a_cart_that_crosses_a_calls_cell() {
+    // The only way to cell 2 leads over cell 1, whose call is due later.
+    let job = job("FLOOR 4\nTRACK 3 0\nTRACK 0 1\nTRACK 1 2\nCART 0\nCART 3\nCALL 2 2\nCALL 1 3\n");
+    assert!(!lifting_crossing_carts(&job));
+    assert_eq!(right_answer(&job), PLAN);
+}
+
+#[test]
+fn chokes_for_the_walks_seen() {
+    // Three carts go through cell 0 in two steps. The soonest walks are all there at step 1, yet a cart can wait.
+    let job = job("FLOOR 7\nTRACK 0 1\nTRACK 0 2\nTRACK 0 3\nTRACK 0 4\nTRACK 0 5\nTRACK 0 6\n\
+        CART 1\nCART 2\nCART 3\nCALL 4 3\nCALL 5 3\nCALL 6 3\n");
+    let list = stopping_seen_walks(&job).expect("a list");
+    let sheet = Sheet::Cannot(list).text();
+    assert_eq!(sheet, tabs("CANNOT 1\nCHOKE 0 1\n"));
+    assert_eq!(library(&job.text(), BUFFER, &sheet), (WRONG_SHEET, 0));
+    assert_eq!(right_answer(&job), CANNOT);
+}
