@@ -23,13 +23,13 @@ fn judge_sheet(job: Job, sheet: &[u8]) -> u64
             return 11 + 256 * line as u64;
         }
         Form::Plan => {
-            if judge::plan::is_plan(job, &first, &second, &rows) {
+            if planjudge::plan::is_plan(job, &first, &second, &rows) {
                 return 0;
             }
             return 12;
         }
         Form::Cannot { points } => {
-            if judge::choke::is_choke_list(job, &first, &second, points) {
+            if chokejudge::choke::is_choke_list(job, &first, &second, points) {
                 return 1;
             }
             return 12;

@@ -1,0 +1,3 @@
+pub mod ChokeLaws
+pub mod ChokeWalks
+pub mod ChokeLayers

@@ -1,0 +1,2 @@
+// Whether choke points are a true choke list.
+pub mod choke;

@@ -1,2 +1,0 @@
-pub mod ChokeLayers
-pub mod PlanTests

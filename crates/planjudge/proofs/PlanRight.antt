@@ -1,0 +1,259 @@
+-- The tests of `plan`, put together, are what makes paths a plan in the written order, both ways. Different numbers of paths stand for different
+-- carts: on one side because they do not share a cell at step 0, on the other because no cart has two paths. Assumes nothing.
+use Prim.Native.Nat.{ℕ, suc, _+_, _≤_, _<_}
+use mathlib.Core.Path.{_≡_, sym, ap, _∙_}
+use mathlib.Core.List.{List, map}
+use mathlib.Core.Logic.{inl, inr}
+use mathlib.Core.Bool.{true}
+use native.Mathlib.Omega.{arith}
+use native.Mathlib.Numerals.{add-one}
+use lib.ListN.{length, getD}
+use Rattle.model.specs.Lists.{In, NoDup}
+use Rattle.model.specs.Job.{track, cartCell, callOf}
+use Rattle.model.specs.Walk.{Step}
+use Rattle.model.specs.Plan.{Path, Leads, Plan, Before, PlanInOrder, Share, Trade}
+use Rattle.model.specs.Ready.{Ready}
+use Rattle.model.specs.ReadSheet.{knownPath}
+use Rattle.model.specs.Contracts.{RightPlan}
+use Rattle.model.proofs.Decide.{dec-eq, dec-le}
+use Rattle.model.proofs.Lists.{place-of}
+use Rattle.model.proofs.Decisions.{track-eq, track-parts}
+use Rattle.job.specs.Arrays.{jobOf, Sized}
+use Rattle.job.specs.declared.state.Job.{Job}
+use Rattle.job.specs.Held.{pathAt, pathsOf}
+use Rattle.planjudge.specs.PlanTests.{cellOf, Listed, Lasts, Precedes, Ordered, Marks, Goes, AllLed, Apart, Untraded, Clear}
+use Rattle.job.proofs.Arrays.{Long, whole, calls-count, carts-count, call-at, cart-at, in-tracks}
+use Rattle.planjudge.proofs.PlanLaws.{Ranged, known-ranged, nodup-of, rising-of, rising-at, paths-length, path-at, in-paths, paths-in, cell-at}
+use Rattle.planjudge.proofs.PlanSteps.{before-later}
+
+-- What is given: the job as its arrays have it, and paths whose numbers are known.
+pub record Given (s : Job) (carts calls rows : List ℕ) : Type 0 where
+  pub ready : Ready (jobOf s)
+  pub sized : Sized s
+  pub full : Long s
+  pub known : (p : Path) → In p (pathsOf (jobOf s) carts calls rows) → knownPath (jobOf s) p ≡ true
+
+module _ {s : Job} {carts calls rows : List ℕ} (g : Given s carts calls rows) where
+  abbrev P : ℕ → Path
+  P k = pathAt (jobOf s) carts calls rows k
+
+  abbrev Ps : List Path
+  Ps = pathsOf (jobOf s) carts calls rows
+
+  size : length (jobOf s .calls) ≡ s .calls
+  size = calls-count s (whole s (g .sized) (g .full))
+
+  in-plan : (k : ℕ) → k < s .calls → In (P k) Ps
+  in-plan k h = in-paths (jobOf s) carts calls rows (length (jobOf s .calls)) k (omega (arith, size))
+
+  plan-in : (p : Path) → In p Ps → (k : ℕ) × (k < s .calls) × (p ≡ P k)
+  plan-in p h = let (k, l, e) = paths-in (jobOf s) carts calls rows (length (jobOf s .calls)) p h in (k, omega (arith, size), e)
+
+  plan-length : length Ps ≡ s .calls
+  plan-length = paths-length (jobOf s) carts calls rows (length (jobOf s .calls)) ∙ size
+
+  plan-at : (k : ℕ) → k < s .calls → getD Ps k (P 0) ≡ P k
+  plan-at k h = path-at (jobOf s) carts calls rows (length (jobOf s .calls)) k (P 0) (omega (arith, size))
+
+  -- No two paths have one number, by the numbers of the paths.
+  module _ (f : Path → ℕ) where
+    own-of : ((i k : ℕ) → i < s .calls → k < s .calls → f (P i) ≡ f (P k) → i ≡ k) → NoDup (map f Ps)
+    own-of h = nodup-of (P 0) f Ps (λ i k a b e.
+        let a′ : i < s .calls = omega (arith, plan-length) in
+        let b′ : k < s .calls = omega (arith, plan-length) in
+        h i k a′ b′ (sym (ap f (plan-at i a′)) ∙ e ∙ ap f (plan-at k b′)))
+
+    own-at : NoDup (map f Ps) → (i k : ℕ) → i < s .calls → k < s .calls → f (P i) ≡ f (P k) → i ≡ k
+    own-at nd i k a b e = place-of f Ps nd i k (P 0) (omega (arith, plan-length)) (omega (arith, plan-length)) (ap f (plan-at i a) ∙ e ∙ sym (ap f (plan-at k b)))
+
+  ranged : (k : ℕ) → k < s .calls → Ranged (jobOf s) (P k)
+  ranged k h = known-ranged (jobOf s) (P k) (g .known (P k) (in-plan k h))
+
+  pub known-call : (k : ℕ) → k < s .calls → getD calls k 0 < s .calls
+  known-call k h = omega (arith, ranged k h .call, size)
+
+  pub known-cart : (k : ℕ) → k < s .calls → getD carts k 0 < s .carts
+  known-cart k h = omega (arith, ranged k h .cart, carts-count s (whole s (g .sized) (g .full)))
+
+  module _ (last : List ℕ) (due : Lasts (s .deadlines) calls last (s .calls)) where
+    deadline : (k : ℕ) → k < s .calls → callOf (jobOf s) (getD calls k 0) .deadline ≡ getD last k 0
+    deadline k h = ap (λ q. q .deadline) (call-at s (whole s (g .sized) (g .full)) (getD calls k 0) (known-call k h)) ∙ sym (due k h)
+
+    long : (k : ℕ) → k < s .calls → length (P k .cells) ≡ suc (getD last k 0)
+    long k h = ranged k h .size ∙ ap suc (deadline k h)
+
+    at : (k t : ℕ) → k < s .calls → t ≤ getD last k 0 → getD (P k .cells) t 0 ≡ cellOf rows k t
+    at k t h l = cell-at (jobOf s) carts calls rows k t (omega (arith, deadline k h))
+
+    next-at : (k t : ℕ) → k < s .calls → t < getD last k 0 → getD (P k .cells) (suc t) 0 ≡ cellOf rows k (t + 1)
+    next-at k t h l = rw add-one (at k (suc t) h (omega arith))
+
+    end-at : (k : ℕ) → k < s .calls → getD (P k .cells) (callOf (jobOf s) (getD calls k 0) .deadline) 0 ≡ cellOf rows k (getD last k 0)
+    end-at k h = ap (λ t. getD (P k .cells) t 0) (deadline k h) ∙ at k (getD last k 0) h (omega arith)
+
+    small : (k t : ℕ) → k < s .calls → t ≤ getD last k 0 → cellOf rows k t < 256
+    small k t h l = omega (arith, ranged k h .cells t (omega (arith, long k h)), at k t h l, g .ready .fit .few-cells)
+
+    -- Order.
+    before : (k m : ℕ) → k < s .calls → m < s .calls → Precedes last calls k m → Before (jobOf s) (P k) (P m)
+    before k m a b (inl l) = inl (omega (arith, deadline k a, deadline m b))
+    before k m a b (inr l) = inr (omega (arith, deadline k a, deadline m b), l .1)
+
+    precedes : (k m : ℕ) → k < s .calls → m < s .calls → Before (jobOf s) (P k) (P m) → Precedes last calls k m
+    precedes k m a b (inl l) = inl (omega (arith, deadline k a, deadline m b))
+    precedes k m a b (inr l) = inr (omega (arith, deadline k a, deadline m b), l .1)
+
+    in-order : Ordered last calls (s .calls) → PlanInOrder (jobOf s) Ps
+    in-order o = rising-of (P 0) (Before (jobOf s)) Ps (λ k h.
+        let a : k < s .calls = omega (arith, plan-length) in
+        let b : suc k < s .calls = omega (arith, plan-length) in
+        rw (plan-at k a, plan-at (suc k) b) (before k (suc k) a b (rw add-one at (o k (omega arith)))))
+
+    pub right-ordered : PlanInOrder (jobOf s) Ps → Ordered last calls (s .calls)
+    right-ordered r k h =
+        let a : k < s .calls = omega arith in
+        let b : suc k < s .calls = omega arith in
+        rw add-one (precedes k (suc k) a b (rw (plan-at k a, plan-at (suc k) b) at (rising-at (P 0) (Before (jobOf s)) Ps r k (omega (arith, plan-length)))))
+
+    -- Rising lines have no call twice.
+    other-call : Ordered last calls (s .calls) → (i k : ℕ) → i < k → k < s .calls → getD calls i 0 ≡ getD calls k 0 → ⊥
+    other-call o i k a b e = go (before-later last calls (s .calls) o k i a b)
+      where
+        same : getD last i 0 ≡ getD last k 0
+        same = due i (omega arith) ∙ ap (λ q. getD (s .deadlines) q 0) e ∙ sym (due k b)
+
+        go : Precedes last calls i k → ⊥
+        go (inl l) = omega (arith, same)
+        go (inr l) = omega arith
+
+    own-call : Ordered last calls (s .calls) → (i k : ℕ) → i < s .calls → k < s .calls → getD calls i 0 ≡ getD calls k 0 → i ≡ k
+    own-call o i k a b e = go (dec-le i k) (dec-le k i)
+      where
+        go : Dec (i ≤ k) → Dec (k ≤ i) → i ≡ k
+        go (yes l) (yes m) = omega arith
+        go (yes l) (no m) = absurd (other-call o i k (omega arith) b e)
+        go (no l) m = absurd (other-call o k i (omega arith) a (sym e))
+
+    -- No two paths in one place.
+    pub plan-clear : Plan (jobOf s) Ps → (t : ℕ) → Clear last rows (s .calls) t
+    plan-clear p t = (apart, untraded)
+      where
+        apart : Apart last rows (s .calls) t
+        apart k m a b c d e = own-at (λ p. p .cart) (p .own-cart) k m a b (p .no-share (P k) (P m) (in-plan k a) (in-plan m b) t
+            (cellOf rows k t, (omega (arith, long k a), at k t a c), (omega (arith, long m b), at m t b d ∙ sym e)))
+
+        untraded : Untraded last rows (s .calls) t
+        untraded k a c (m, b, n, d, e, f) = n (own-at (λ p. p .cart) (p .own-cart) m k b a (p .no-trade (P m) (P k) (in-plan m b) (in-plan k a) t (
+          cellOf rows m t,
+          cellOf rows m (t + 1),
+          (omega (arith, long m b), at m t b (omega arith)),
+          (omega (arith, long m b), next-at m t b d),
+          (omega (arith, long k a), at k t a (omega arith) ∙ sym f),
+          (omega (arith, long k a), next-at k t a c ∙ sym e),
+        )))
+
+    -- Walks.
+    track-listed : (u v : ℕ) → In (track u v) (jobOf s .tracks) → Listed (s .from) (s .to) (s .tracks) u v
+    track-listed u v h =
+        let (i, l, e) = in-tracks s (whole s (g .sized) (g .full)) (track u v) .0 h in (i, l, sym (track-parts e .0), sym (track-parts e .1))
+
+    listed-track : (u v : ℕ) → Listed (s .from) (s .to) (s .tracks) u v → In (track u v) (jobOf s .tracks)
+    listed-track u v (i, l, e, f) = in-tracks s (whole s (g .sized) (g .full)) (track u v) .1 (i, l, track-eq (sym e, sym f))
+
+    module _ {table : List ℕ} (marks : Marks (s .from) (s .to) (s .tracks) table) where
+      goes : (t u v : ℕ) → u < 256 → v < 256 → Step (jobOf s) t u v → Goes table u v
+      goes t u v a b (inl e) = inl e
+      goes t u v a b (inr (inl x)) = inr (inl (marks .all u v a b (track-listed u v x)))
+      goes t u v a b (inr (inr x)) = inr (inr (marks .all v u b a (track-listed v u x)))
+
+      step : (t u v : ℕ) → u < 256 → v < 256 → Goes table u v → Step (jobOf s) t u v
+      step t u v a b (inl e) = inl e
+      step t u v a b (inr (inl x)) = inr (inl (listed-track u v (marks .only u v a b x)))
+      step t u v a b (inr (inr x)) = inr (inr (listed-track v u (marks .only v u b a x)))
+
+      start : (k : ℕ) → k < s .calls → cartCell (jobOf s) (getD carts k 0) ≡ getD (s .starts) (getD carts k 0) 0
+      start k h = cart-at s (whole s (g .sized) (g .full)) (getD carts k 0) (known-cart k h)
+
+      lift : (k : ℕ) → k < s .calls → callOf (jobOf s) (getD calls k 0) .cell ≡ getD (s .lifts) (getD calls k 0) 0
+      lift k h = ap (λ q. q .cell) (call-at s (whole s (g .sized) (g .full)) (getD calls k 0) (known-call k h))
+
+      abbrev All : Type 0
+      All = AllLed table rows last carts (s .starts) calls (s .lifts) (s .calls)
+
+      pub plan-led : ((p : Path) → In p Ps → Leads (jobOf s) p) → All
+      plan-led f k h =
+          let l = f (P k) (in-plan k h) in
+          record {
+            starts = sym (at k 0 h (omega arith)) ∙ l .walks .starts .1 ∙ start k h;
+            walks = λ t b. goes t (cellOf rows k t) (cellOf rows k (t + 1)) (small k t h (omega arith)) (small k (t + 1) h (omega arith))
+                (rw (at k t h (omega arith), next-at k t h b) at (l .walks .steps t (omega (arith, long k h))));
+            ends = sym (end-at k h) ∙ l .serves .ends ∙ lift k h;
+          }
+
+      leads : All → (k : ℕ) → k < s .calls → Leads (jobOf s) (P k)
+      leads f k h = record {
+        known-cart = ranged k h .cart;
+        known-call = ranged k h .call;
+        walks = record {
+          starts = (omega (arith, long k h), at k 0 h (omega arith) ∙ f k h .starts ∙ sym (start k h));
+          steps = λ t l.
+              let b : t < getD last k 0 = omega (arith, long k h) in
+              rw (at k t h (omega arith), next-at k t h b) (step t (cellOf rows k t) (cellOf rows k (t + 1)) (small k t h (omega arith)) (small k (t + 1) h (omega arith)) (f k h .walks t b));
+        };
+        serves = record {
+          size = ranged k h .size;
+          ends = end-at k h ∙ f k h .ends ∙ sym (lift k h);
+        };
+      }
+
+      module _ (h : ℕ) (top : (k : ℕ) → k < s .calls → getD last k 0 ≤ h) (clear : (t : ℕ) → t ≤ h → Clear last rows (s .calls) t) where
+        one-share : (k m t : ℕ) → k < s .calls → m < s .calls → Share (P k .cells) (P m .cells) t → k ≡ m
+        one-share k m t a b (v, x, y) =
+            let c : t ≤ getD last k 0 = omega (arith, long k a, x .0) in
+            let d : t ≤ getD last m 0 = omega (arith, long m b, y .0) in
+            clear t (omega (arith, top k a)) .0 k m a b c d (sym (at k t a c) ∙ x .1 ∙ sym (y .1) ∙ at m t b d)
+
+        one-trade : (k m t : ℕ) → k < s .calls → m < s .calls → Trade (P k .cells) (P m .cells) t → k ≡ m
+        one-trade k m t a b (u, v, x, x′, y, y′) = go (dec-eq m k)
+          where
+            c : t < getD last k 0
+            c = omega (arith, long k a, x′ .0)
+
+            d : t < getD last m 0
+            d = omega (arith, long m b, y′ .0)
+
+            go : Dec (m ≡ k) → k ≡ m
+            go (yes e) = sym e
+            go (no n) = absurd (clear t (omega (arith, top k a, c)) .1 k a c (
+              m,
+              b,
+              n,
+              d,
+              sym (at m t b (omega (arith, d))) ∙ y .1 ∙ sym (x′ .1) ∙ next-at k t a c,
+              sym (next-at m t b d) ∙ y′ .1 ∙ sym (x .1) ∙ at k t a (omega (arith, c)),
+            ))
+
+        -- what is one path has one cart
+        no-pair : (C : List ℕ → List ℕ → ℕ → Type 0) → ((k m t : ℕ) → k < s .calls → m < s .calls → C (P k .cells) (P m .cells) t → k ≡ m)
+            → (p q : Path) → In p Ps → In q Ps → (t : ℕ) → C (p .cells) (q .cells) t → p .cart ≡ q .cart
+        no-pair C one p q i j t w =
+            let (k, a, e) = plan-in p i in
+            let (m, b, f) = plan-in q j in
+            ap (λ p. p .cart) e ∙ ap (λ x. getD carts x 0) (one k m t a b (rw (e, f) at w)) ∙ sym (ap (λ p. p .cart) f)
+
+        own-cart : All → (i k : ℕ) → i < s .calls → k < s .calls → getD carts i 0 ≡ getD carts k 0 → i ≡ k
+        own-cart f i k a b e =
+            clear 0 (omega arith) .0 i k a b (omega arith) (omega arith) (f i a .starts ∙ ap (λ c. getD (s .starts) c 0) e ∙ sym (f k b .starts))
+
+        pub tests-right : Ordered last calls (s .calls) → All → RightPlan (jobOf s) Ps
+        tests-right o f = (
+          record {
+            size = paths-length (jobOf s) carts calls rows (length (jobOf s .calls));
+            leads = λ p i. let (k, a, e) = plan-in p i in rw e (leads f k a);
+            own-call = own-of (λ p. p .call) (own-call o);
+            own-cart = own-of (λ p. p .cart) (own-cart f);
+            no-share = no-pair Share one-share;
+            no-trade = no-pair Trade one-trade;
+          },
+          in-order o,
+        )

@@ -1,0 +1,200 @@
+-- What each turn of the loops of `plan` keeps, over plain lists and numbers. Assumes nothing.
+use Prim.Native.Nat.{ℕ, zero, suc, _+_, _*_, _≤_, _<_}
+use mathlib.Core.Path.{_≡_, sym, _∙_, ap}
+use mathlib.Core.List.{List}
+use mathlib.Core.Logic.{inl, inr}
+use mathlib.Core.Bool.{Bool, true, false, false≢true}
+use native.Mathlib.Omega.{arith}
+use lib.Dec.{ltb, eqb}
+use lib.ListN.{length, getD, set}
+use lib.Seq.{getD-set-same, getD-set-other}
+use borrow.Author.Tests.{ltb-true, ltb-false, eqb-true, eqb-false}
+use Rattle.model.proofs.Decide.{dec-eq}
+use Rattle.job.specs.Held.{Decides}
+use Rattle.planjudge.specs.PlanTests.{cellOf, Lasts, Precedes, Ordered, Listed, Marks, Goes, Apart, Meets, Standing}
+
+-- Answers.
+pub told : {P : Type 0} → P → Decides true P
+told p = ((λ e. p), λ e. absurd (false≢true (sym e)))
+
+pub denied : {P : Type 0} → (P → ⊥) → Decides false P
+denied n = ((λ e. absurd (false≢true e)), λ e. n)
+
+pub by-less : {P : Type 0} (a b : ℕ) → (a < b → P) → (P → a < b) → Decides (ltb a b) P
+by-less a b f g = ((λ e. f (ltb-true a b e)), λ e p. omega (arith, g p, ltb-false a b e))
+
+pub by-equal : {P : Type 0} (a b : ℕ) → (a ≡ b → P) → (P → a ≡ b) → Decides (eqb a b) P
+by-equal a b f g = ((λ e. f (eqb-true a b e)), λ e p. eqb-false a b e (g p))
+
+pub same-answer : {P Q : Type 0} {r : Bool} → (P → Q) → (Q → P) → Decides r P → Decides r Q
+same-answer f g d = ((λ e. f (d .0 e)), λ e q. d .1 e (g q))
+
+-- What holds of every number below i, and of i, holds of every one below i + 1.
+module _ {P : ℕ → Type 0} where
+  pub all-more : (i : ℕ) → ((k : ℕ) → k < i → P k) → P i → (k : ℕ) → k < i + 1 → P k
+  all-more i f p k h = go (dec-eq k i)
+    where
+      go : Dec (k ≡ i) → P k
+      go (yes e) = rw e p
+      go (no n) = f k (omega arith)
+
+-- Order.
+module _ (last calls : List ℕ) where
+  pub before-next : (k m l : ℕ) → Precedes last calls k m → Precedes last calls m l → Precedes last calls k l
+  before-next k m l (inl a) (inl b) = inl (omega arith)
+  before-next k m l (inl a) (inr b) = inl (omega arith)
+  before-next k m l (inr a) (inl b) = inl (omega arith)
+  before-next k m l (inr a) (inr b) = inr (omega arith, omega arith)
+
+  pub before-later : (n : ℕ) → Ordered last calls n → (m k : ℕ) → k < m → m < n → Precedes last calls k m
+  before-later n o zero k h l = absurd (omega arith)
+  before-later n o (suc m) k h l = go (dec-eq k m) (λ h′. before-later n o m k h′ (omega arith))
+    where
+      next : Precedes last calls m (suc m)
+      next = let e : m + 1 ≡ suc m = omega arith in rw e at (o m (omega arith))
+
+      go : Dec (k ≡ m) → (k < m → Precedes last calls k m) → Precedes last calls k (suc m)
+      go (yes e) f = rw e next
+      go (no n) f = before-next k m (suc m) (f (omega arith)) next
+
+  pub not-later : (k m : ℕ) → Precedes last calls k m → getD last k 0 ≤ getD last m 0
+  not-later k m (inl a) = omega arith
+  not-later k m (inr a) = omega arith
+
+  -- the last path has the latest deadline
+  pub latest-last : (n : ℕ) → Ordered last calls n → (m k : ℕ) → k ≤ m → m < n → getD last k 0 ≤ getD last m 0
+  latest-last n o m k h l = go (dec-eq k m)
+    where
+      go : Dec (k ≡ m) → getD last k 0 ≤ getD last m 0
+      go (yes e) = rw e (omega arith)
+      go (no d) = not-later k m (before-later n o m k (omega arith) l)
+
+  -- where deadlines are equal the calls decide
+  pub by-calls : (k m : ℕ) → getD last m 0 ≤ getD last k 0 → Precedes last calls k m → getD calls k 0 < getD calls m 0
+  by-calls k m h (inl a) = absurd (omega arith)
+  by-calls k m h (inr a) = a .1
+
+  pub never-before : (k m : ℕ) → getD last m 0 < getD last k 0 → Precedes last calls k m → ⊥
+  never-before k m h (inl a) = omega arith
+  never-before k m h (inr a) = omega arith
+
+-- The next entry of a list of deadlines.
+pub lasts-more : (deadlines calls last : List ℕ) (k : ℕ) → k < length last → Lasts deadlines calls last k
+    → Lasts deadlines calls (set last k (getD deadlines (getD calls k 0) 0)) (k + 1)
+lasts-more deadlines calls last k h l = all-more k
+    (λ m d. getD-set-other last k m (getD deadlines (getD calls k 0) 0) 0 (λ e. omega arith) ∙ l m d)
+    (getD-set-same last k (getD deadlines (getD calls k 0) 0) 0 h)
+
+-- Tracks.
+module _ (from to : List ℕ) where
+  pub marks-none : (table : List ℕ) → ((x : ℕ) → x < 65536 → getD table x 0 ≡ 0) → Marks from to 0 table
+  marks-none table z = record {
+    all = λ u v a b w. absurd (omega (arith, w .1));
+    only = λ u v a b e. absurd (omega (arith, z (u * 256 + v) (omega arith)));
+  }
+
+  module _ (i : ℕ) (table : List ℕ) (size : length table ≡ 65536) (a : getD from i 0 < 256) (b : getD to i 0 < 256) (m : Marks from to i table) where
+    abbrev at : ℕ
+    at = getD from i 0 * 256 + getD to i 0
+
+    more-all : (u v : ℕ) → u < 256 → v < 256 → Listed from to (i + 1) u v → getD (set table at 1) (u * 256 + v) 0 ≡ 1
+    more-all u v c d (x, h, e, f) = go (dec-eq (u * 256 + v) at)
+      where
+        go : Dec (u * 256 + v ≡ at) → getD (set table at 1) (u * 256 + v) 0 ≡ 1
+        go (yes q) = rw q (getD-set-same table at 1 0 (omega arith))
+        go (no n) = getD-set-other table at (u * 256 + v) 1 0 n ∙ m .all u v c d (x, earlier (dec-eq x i), e, f)
+          where
+            earlier : Dec (x ≡ i) → x < i
+            earlier (yes q) = absurd (n (omega (arith, rw q at e, rw q at f)))
+            earlier (no k) = omega arith
+
+    more-only : (u v : ℕ) → u < 256 → v < 256 → getD (set table at 1) (u * 256 + v) 0 ≡ 1 → Listed from to (i + 1) u v
+    more-only u v c d e = go (dec-eq (u * 256 + v) at)
+      where
+        older : Listed from to i u v → Listed from to (i + 1) u v
+        older (x, h, f, g) = (x, omega arith, f, g)
+
+        go : Dec (u * 256 + v ≡ at) → Listed from to (i + 1) u v
+        go (yes q) = (i, omega arith, omega arith, omega arith)
+        go (no n) = older (m .only u v c d (sym (getD-set-other table at (u * 256 + v) 1 0 n) ∙ e))
+
+    pub marks-more : Marks from to (i + 1) (set table at 1)
+    marks-more = record { all = more-all; only = more-only }
+
+-- Steps by the table: neither the same cell nor marked either way is no step.
+pub no-go : (table : List ℕ) (u v : ℕ) → (u ≡ v → ⊥) → (getD table (u * 256 + v) 0 ≡ 1 → ⊥) → Goes table u v → getD table (v * 256 + u) 0 ≡ 1
+no-go table u v a b (inl e) = absurd (a e)
+no-go table u v a b (inr (inl e)) = absurd (b e)
+no-go table u v a b (inr (inr e)) = e
+
+-- Who is on which cell at a step.
+module _ (last rows : List ℕ) (t : ℕ) where
+  pub standing-none : (on : List ℕ) → ((c : ℕ) → c < 256 → getD on c 0 ≡ 64) → Standing last rows 0 t on
+  standing-none on z = record {
+    there = λ k h. absurd (omega arith);
+    back = λ c h l. absurd (omega (arith, z c h));
+  }
+
+  -- path k has left the floor
+  pub standing-left : (k : ℕ) (on : List ℕ) → getD last k 0 < t → Standing last rows k t on → Standing last rows (k + 1) t on
+  standing-left k on h s = record {
+    there = all-more k (s .there) (λ l. absurd (omega arith));
+    back = λ c l f. let b = s .back c l f in (omega (arith, b .0), b .1, b .2);
+  }
+
+  -- path k is put on a free cell
+  module _ (k : ℕ) (on : List ℕ) (size : length on ≡ 256) (small : k < 64) (known : cellOf rows k t < 256) (lives : t ≤ getD last k 0)
+      (free : 64 ≤ getD on (cellOf rows k t) 0) (s : Standing last rows k t on) where
+    abbrev on′ : List ℕ
+    on′ = set on (cellOf rows k t) k
+
+    put-there : (m : ℕ) → m < k → t ≤ getD last m 0 → getD on′ (cellOf rows m t) 0 ≡ m
+    put-there m h l =
+        let e = s .there m h l in
+        getD-set-other on (cellOf rows k t) (cellOf rows m t) k 0 (λ q. omega (arith, rw q at e)) ∙ e
+
+    put-back : (c : ℕ) → c < 256 → getD on′ c 0 < 64 → (getD on′ c 0 < k + 1) × (t ≤ getD last (getD on′ c 0) 0) × (cellOf rows (getD on′ c 0) t ≡ c)
+    put-back c h f = go (dec-eq c (cellOf rows k t))
+      where
+        go : Dec (c ≡ cellOf rows k t) → (getD on′ c 0 < k + 1) × (t ≤ getD last (getD on′ c 0) 0) × (cellOf rows (getD on′ c 0) t ≡ c)
+        go (yes q) =
+            let e : getD on′ c 0 ≡ k = rw q (getD-set-same on (cellOf rows k t) k 0 (omega arith)) in
+            rw e (omega arith, lives, sym q)
+        go (no n) =
+            let e : getD on′ c 0 ≡ getD on c 0 = getD-set-other on (cellOf rows k t) c k 0 n in
+            let b = s .back c h (rw e at f) in
+            rw e (omega (arith, b .0), b .1, b .2)
+
+    pub standing-more : Standing last rows (k + 1) t on′
+    standing-more = record {
+      there = all-more k put-there (λ l. getD-set-same on (cellOf rows k t) k 0 (omega arith));
+      back = put-back;
+    }
+
+  pub standing-apart : (n : ℕ) (on : List ℕ) → Standing last rows n t on → Apart last rows n t
+  standing-apart n on s k m a b h l e = sym (s .there k a h) ∙ ap (λ c. getD on c 0) e ∙ s .there m b l
+
+  -- the cell of path k is taken by an earlier path
+  pub standing-taken : (n k : ℕ) (on : List ℕ) → Standing last rows k t on → k < n → cellOf rows k t < 256 → t ≤ getD last k 0
+      → getD on (cellOf rows k t) 0 < 64 → Apart last rows n t → ⊥
+  standing-taken n k on s h c l f a =
+      let (m, d, e) = s .back (cellOf rows k t) c f in
+      omega (arith, a (getD on (cellOf rows k t) 0) k (omega arith) h d l e)
+
+  -- Who meets path k is the path o that is on the cell that it goes to.
+  pub record Met (k o : ℕ) : Type 0 where
+    pub known : o < 64
+    pub other : o ≡ k → ⊥
+    pub lives : t < getD last o 0
+    pub back : cellOf rows o (t + 1) ≡ cellOf rows k t
+
+  module _ (n k : ℕ) (on : List ℕ) (few : n ≤ 64) (s : Standing last rows n t on) (o : ℕ) (e : o ≡ getD on (cellOf rows k (t + 1)) 0) where
+    pub met : Meets last rows n t k → Met k o
+    met (m, h, d, l, f, f′) =
+        let q : o ≡ m = e ∙ ap (λ c. getD on c 0) (sym f) ∙ s .there m h (omega arith) in
+        rw q (record { known = omega arith; other = d; lives = l; back = f′ })
+
+    pub meets-of : cellOf rows k (t + 1) < 256 → Met k o → Meets last rows n t k
+    meets-of c m =
+        let b = s .back (cellOf rows k (t + 1)) c (rw e at (m .known)) in
+        (o, rw e (b .0), m .other, m .lives, rw e (b .2), m .back)

@@ -1,0 +1,109 @@
+-- `all_lead` decides whether each path leads from its cart to its call. Invariant: those below k do. The measure is the paths left.
+-- Assumes nothing.
+use Rattle.job.specs.Held.{Decides}
+use Rattle.planjudge.specs.PlanTests.{AllLed, Led}
+use Prim.Native.Nat.{_-_, _≤_}
+use mathlib.Core.Path.{_∙_, _≡_, ap}
+use Rattle.planjudge.proofs.PlanSteps.{all-more, denied, told}
+use native.Mathlib.Omega.{arith}
+use lib.ListN.{getD}
+use borrow.Author.Needs.{needs}
+use borrow.Author.Tests.{not-false, not-true}
+use denote.Ref.{now}
+use Rattle.planjudge.proofs.plan.all_lead.Statement.{statement}
+use Rattle.planjudge.proofs.plan.all_lead.Tie as tie
+
+abbrev Inv-loop : tie.InvT-loop
+Inv-loop table rows last carts starts calls lifts n k₀ k = (k ≤ n) × AllLed table rows last carts starts calls lifts k
+
+abbrev μ-loop : tie.MeasureT-loop
+μ-loop table rows last carts starts calls lifts n k₀ k = n - k
+
+-- what `leads` answers, by the path's cart and call
+answer : (c : tie.After-leads Inv-loop μ-loop) → let a = c .before .before .before .before .before .before .before .before .before .before .before .before .before .before .before .before .args in let k = c .before .before .before .before .before .before .before .before .before .before .before .before .loop .k in
+    Decides (c .leads .result) (Led (now (a .table)) (now (a .rows)) k (getD (now (a .last)) k 0)
+    (getD (now (a .starts)) (getD (now (a .carts)) k 0) 0) (getD (now (a .lifts)) (getD (now (a .calls)) k 0) 0))
+answer c =
+    let a = c .before .before .before .before .before .before .before .before .before .before .before .before .before .before .before .before .args in
+    let k = c .before .before .before .before .before .before .before .before .before .before .before .before .loop .k in
+    let starts = now (a .starts) in
+    let lifts = now (a .lifts) in
+    let d : c .before .before .before .before .before .wide3 .result ≡ getD (now (a .last)) k 0 = c .before .before .before .before .before .wide3 .ensures .0 in
+    let s : c .before .before .before .wide4 .result ≡ getD starts (getD (now (a .carts)) k 0) 0 = c .before .before .before .wide4 .ensures .0 ∙ ap (λ x. getD starts x 0) (c .before .before .before .before .before .before .before .before .before .wide .ensures .0) in
+    let l : c .before .wide5 .result ≡ getD lifts (getD (now (a .calls)) k 0) 0 = c .before .wide5 .ensures .0 ∙ ap (λ x. getD lifts x 0) (c .before .before .before .before .before .before .before .wide2 .ensures .0) in
+    rw (d, s, l) at (c .leads .ensures)
+
+loop-holds : tie.Need-loop-holds Inv-loop μ-loop
+loop-holds c = (omega arith, λ s l. absurd (omega arith))
+
+shared-slice-read-wide : tie.Need-shared-slice-read-wide Inv-loop μ-loop
+shared-slice-read-wide c = search needs
+
+wide-requires : tie.Need-wide-requires Inv-loop μ-loop
+wide-requires c κs = search needs
+
+shared-slice-read-wide-2 : tie.Need-shared-slice-read-wide-2 Inv-loop μ-loop
+shared-slice-read-wide-2 c = search needs
+
+wide-requires-2 : tie.Need-wide-requires-2 Inv-loop μ-loop
+wide-requires-2 c κs = search needs
+
+element-copy-out-wide : tie.Need-element-copy-out-wide Inv-loop μ-loop
+element-copy-out-wide c = search needs
+
+wide-requires-3 : tie.Need-wide-requires-3 Inv-loop μ-loop
+wide-requires-3 c κs = search needs
+
+element-copy-out-wide-2 : tie.Need-element-copy-out-wide-2 Inv-loop μ-loop
+element-copy-out-wide-2 c = omega (arith, c .before .before .before .before .wide .ensures .0, c .before .before .before .before .before .before .before .before .before .before .before .pre .4 (c .before .before .before .before .before .before .before .loop .k) (omega arith))
+
+wide-requires-4 : tie.Need-wide-requires-4 Inv-loop μ-loop
+wide-requires-4 c κs = search needs
+
+element-copy-out-wide-3 : tie.Need-element-copy-out-wide-3 Inv-loop μ-loop
+element-copy-out-wide-3 c = omega (arith, c .before .before .before .before .wide2 .ensures .0, c .before .before .before .before .before .before .before .before .before .before .before .before .before .pre .5 (c .before .before .before .before .before .before .before .before .before .loop .k) (omega arith))
+
+wide-requires-5 : tie.Need-wide-requires-5 Inv-loop μ-loop
+wide-requires-5 c κs = search needs
+
+leads-requires : tie.Need-leads-requires Inv-loop μ-loop
+leads-requires c κs = (c .before .before .before .before .before .before .before .before .before .before .before .before .before .before .before .pre .0, omega arith, c .before .before .before .before .wide3 .ensures .1)
+
+returns : tie.Need-returns Inv-loop μ-loop
+returns c = denied (λ f. answer (c .before) .1 (not-true _ (c .if1 .taken)) (f (c .before .before .before .before .before .before .before .before .before .before .before .before .before .loop .k) (c .before .before .before .before .before .before .before .before .before .before .before .before .loop-test .taken)))
+
+add-k : tie.Need-add-k Inv-loop μ-loop
+add-k c = search needs
+
+loop-less : tie.Need-loop-less Inv-loop μ-loop
+loop-less c = search needs
+
+loop-again : tie.Need-loop-again Inv-loop μ-loop
+loop-again c = (omega arith, all-more (c .before .before .before .before .before .before .before .before .before .before .before .before .before .loop .k) (c .before .before .before .before .before .before .before .before .before .before .before .before .before .loop .inv .1) (answer (c .before) .0 (not-false _ (c .if1 .left))))
+
+returns-2 : tie.Need-returns-2 Inv-loop μ-loop
+returns-2 c = told (λ k h. c .before .loop .inv .1 k (omega arith))
+
+pub all-lead-spec : {M : Type 1} → statement M
+all-lead-spec =
+    tie.close
+    (tie.spec
+    Inv-loop
+    μ-loop
+    loop-holds
+    shared-slice-read-wide
+    wide-requires
+    shared-slice-read-wide-2
+    wide-requires-2
+    element-copy-out-wide
+    wide-requires-3
+    element-copy-out-wide-2
+    wide-requires-4
+    element-copy-out-wide-3
+    wide-requires-5
+    leads-requires
+    returns
+    add-k
+    loop-less
+    loop-again
+    returns-2)

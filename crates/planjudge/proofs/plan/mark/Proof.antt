@@ -1,0 +1,83 @@
+-- `mark` marks the tracks. Invariant: the table has a 1 for each track below i, and for no other pair. The measure is the tracks left. Assumes nothing.
+use native.Mathlib.Omega.{arith}
+use Rattle.planjudge.proofs.PlanSteps.{marks-more, marks-none}
+use denote.Ref.{now}
+use Rattle.planjudge.specs.PlanTests.{Marks}
+use Prim.Native.Nat.{_-_, _≤_}
+use mathlib.Core.Path.{_≡_}
+use lib.ListN.{length, getD, length-set}
+use borrow.Author.Needs.{needs}
+use Rattle.planjudge.proofs.plan.mark.Statement.{statement}
+use Rattle.planjudge.proofs.plan.mark.Tie as tie
+
+abbrev Inv-loop : tie.InvT-loop
+Inv-loop from to n table₀ i₀ table i = (i ≤ n) × (length table ≡ 65536) × Marks from to i table
+
+abbrev μ-loop : tie.MeasureT-loop
+μ-loop from to n table₀ i₀ table i = n - i
+
+loop-holds : tie.Need-loop-holds Inv-loop μ-loop
+loop-holds c =
+    let a = c .args in
+    (omega arith, c .pre .1, marks-none (now (a .from)) (now (a .to)) (now (a .table)) (c .pre .2))
+
+element-copy-out-wide : tie.Need-element-copy-out-wide Inv-loop μ-loop
+element-copy-out-wide c = search needs
+
+wide-requires : tie.Need-wide-requires Inv-loop μ-loop
+wide-requires c κs = search needs
+
+element-copy-out-wide-2 : tie.Need-element-copy-out-wide-2 Inv-loop μ-loop
+element-copy-out-wide-2 c = search needs
+
+wide-requires-2 : tie.Need-wide-requires-2 Inv-loop μ-loop
+wide-requires-2 c κs = search needs
+
+mul-table : tie.Need-mul-table Inv-loop μ-loop
+mul-table c = search needs
+
+add-table : tie.Need-add-table Inv-loop μ-loop
+add-table c = search needs
+
+element-write-table : tie.Need-element-write-table Inv-loop μ-loop
+element-write-table c = search needs
+
+add-i : tie.Need-add-i Inv-loop μ-loop
+add-i c = search needs
+
+loop-less : tie.Need-loop-less Inv-loop μ-loop
+loop-less c = search needs
+
+loop-again : tie.Need-loop-again Inv-loop μ-loop
+loop-again c =
+    let a = c .before .before .before .before .before .before .args in
+    let l = c .before .before .before .before .before .loop in
+    let from = now (a .from) in
+    let to = now (a .to) in
+    let u : c .before .before .wide .result ≡ getD from (l .i) 0 = c .before .before .wide .ensures .0 in
+    let v : c .wide2 .result ≡ getD to (l .i) 0 = c .wide2 .ensures .0 in
+    (omega arith, simp length-set (l .inv .1), rw (u, v) (marks-more from to (l .i) (l .table) (l .inv .1) (omega arith) (omega arith) (l .inv .2)))
+
+returns : tie.Need-returns Inv-loop μ-loop
+returns c =
+    let e : c .before .loop .i ≡ c .before .before .args .n = omega arith in
+    rw e at (c .before .loop .inv .2)
+
+pub mark-spec : {M : Type 1} → statement M
+mark-spec =
+    tie.close
+    (tie.spec
+    Inv-loop
+    μ-loop
+    loop-holds
+    element-copy-out-wide
+    wide-requires
+    element-copy-out-wide-2
+    wide-requires-2
+    mul-table
+    add-table
+    element-write-table
+    add-i
+    loop-less
+    loop-again
+    returns)

@@ -1,0 +1,113 @@
+-- `stand` decides whether two paths share a cell at a step, and otherwise leaves in `on` who is on which. Invariant: `on` has the paths below k,
+-- each on its own cell. The measure is the paths left. Assumes nothing.
+use Rattle.planjudge.specs.PlanTests.{Standing, cellOf}
+use Prim.Native.Nat.{_-_, _<_, _≤_}
+use mathlib.Core.Path.{_≡_, _∙_}
+use native.Mathlib.Omega.{arith}
+use Rattle.planjudge.proofs.PlanSteps.{denied, standing-apart, standing-none, standing-taken, told, standing-left, standing-more}
+use mathlib.Core.Bool.{false≢true}
+use lib.ListN.{getD, length, length-set, set}
+use borrow.Author.Needs.{needs}
+use denote.Ref.{now}
+use mathlib.Core.Logic.{⊎-elim}
+use Rattle.planjudge.proofs.plan.stand.Statement.{statement}
+use Rattle.planjudge.proofs.plan.stand.Tie as tie
+
+abbrev Inv-loop : tie.InvT-loop
+Inv-loop last rows n t on₀ k₀ on k = (k ≤ n) × (length on ≡ 256) × Standing last rows k t on
+
+abbrev μ-loop : tie.MeasureT-loop
+μ-loop last rows n t on₀ k₀ on k = n - k
+
+loop-holds : tie.Need-loop-holds Inv-loop μ-loop
+loop-holds c =
+    let a = c .before .args in
+    (omega arith, c .before .pre .3, standing-none (now (a .last)) (now (a .rows)) (a .t) (now (a .on)) (c .before .pre .4))
+
+element-copy-out-wide : tie.Need-element-copy-out-wide Inv-loop μ-loop
+element-copy-out-wide c = search needs
+
+wide-requires : tie.Need-wide-requires Inv-loop μ-loop
+wide-requires c κs = search needs
+
+cell-requires : tie.Need-cell-requires Inv-loop μ-loop
+cell-requires c κs = search needs
+
+element-copy-out-if2 : tie.Need-element-copy-out-if2 Inv-loop μ-loop
+element-copy-out-if2 c = search needs
+
+returns : tie.Need-returns Inv-loop μ-loop
+returns c =
+    let a = c .before .before .before .before .before .before .before .before .before .args in
+    let l = c .before .before .before .before .before .before .before .loop in
+    let last = now (a .last) in
+    let rows = now (a .rows) in
+    let x : c .before .before .cell .result ≡ cellOf rows (l .k) (a .t) = c .before .before .cell .ensures .0 in
+    let d : c .before .before .before .before .wide .result ≡ getD last (l .k) 0 = c .before .before .before .before .wide .ensures .0 in
+    let f : getD (l .on) (c .before .before .cell .result) 0 < 64 = c .if2 .taken in (
+      denied (standing-taken last rows (a .t) (a .n) (l .k) (l .on) (l .inv .2) (c .before .before .before .before .before .before .loop-test .taken) (omega (arith, x, c .before .before .cell .ensures .1))
+          (omega (arith, d, c .before .before .before .if1 .taken)) (rw x at f)),
+      λ e. absurd (false≢true e),
+    )
+
+cast-on : tie.Need-cast-on Inv-loop μ-loop
+cast-on c = search needs
+
+element-write-on : tie.Need-element-write-on Inv-loop μ-loop
+element-write-on c = search needs
+
+add-k : tie.Need-add-k Inv-loop μ-loop
+add-k c = search needs
+
+loop-less : tie.Need-loop-less Inv-loop μ-loop
+loop-less c = search needs
+
+loop-again : tie.Need-loop-again Inv-loop μ-loop
+loop-again c =
+    let a = c .before .before .before .before .before .before .args in
+    let l = c .before .before .before .before .loop in
+    let last = now (a .last) in
+    let rows = now (a .rows) in
+    let d : c .before .wide .result ≡ getD last (l .k) 0 = c .before .wide .ensures .0 in
+    ⊎-elim
+    (λ w.
+    let x : w .1 .result ≡ cellOf rows (l .k) (a .t) = w .1 .ensures .0 in
+    let e : c .if1 .on ≡ set (l .on) (w .1 .result) (l .k) = w .4 in
+    let f : 64 ≤ getD (l .on) (w .1 .result) 0 = w .3 .left in
+    rw (e, x) (
+      omega arith,
+      length-set (l .on) (cellOf rows (l .k) (a .t)) (l .k) ∙ l .inv .1,
+      standing-more last rows (a .t) (l .k) (l .on) (l .inv .1) (omega arith)
+          (omega (arith, x, w .1 .ensures .1)) (omega (arith, d, w .0 .taken)) (rw x at f) (l .inv .2),
+    ))
+    (λ w.
+    let e : c .if1 .on ≡ l .on = w .1 in
+    rw e (omega arith, l .inv .1, standing-left last rows (a .t) (l .k) (l .on) (omega (arith, d, w .0 .left)) (l .inv .2)))
+    (c .if1 .came)
+
+returns-2 : tie.Need-returns-2 Inv-loop μ-loop
+returns-2 c =
+    let a = c .before .before .before .args in
+    let l = c .before .loop in
+    let e : l .k ≡ a .n = omega arith in
+    let s : Standing (now (a .last)) (now (a .rows)) (a .n) (a .t) (l .on) = rw e at (l .inv .2) in
+    (told (standing-apart (now (a .last)) (now (a .rows)) (a .t) (a .n) (l .on) s), λ e. s)
+
+pub stand-spec : {M : Type 1} → statement M
+stand-spec =
+    tie.close
+    (tie.spec
+    Inv-loop
+    μ-loop
+    loop-holds
+    element-copy-out-wide
+    wide-requires
+    cell-requires
+    element-copy-out-if2
+    returns
+    cast-on
+    element-write-on
+    add-k
+    loop-less
+    loop-again
+    returns-2)

@@ -1,0 +1,77 @@
+-- `walks` decides whether a path is a walk. Invariant: its steps below t are steps of a cart. The measure is the steps left. Assumes nothing.
+use Rattle.job.specs.Held.{Decides}
+use Rattle.planjudge.specs.PlanTests.{Goes, cellOf}
+use Prim.Native.Nat.{_+_, _-_, _<_, _≤_, ℕ}
+use mathlib.Core.Path.{_≡_}
+use Rattle.planjudge.proofs.PlanSteps.{all-more, denied, told}
+use native.Mathlib.Omega.{arith}
+use borrow.Author.Needs.{needs}
+use borrow.Author.Tests.{not-false, not-true}
+use denote.Ref.{now}
+use Rattle.planjudge.proofs.plan.walks.Statement.{statement}
+use Rattle.planjudge.proofs.plan.walks.Tie as tie
+
+abbrev Inv-loop : tie.InvT-loop
+Inv-loop table rows k d t₀ t = (t ≤ d) × ((s : ℕ) → s < t → Goes table (cellOf rows k s) (cellOf rows k (s + 1)))
+
+abbrev μ-loop : tie.MeasureT-loop
+μ-loop table rows k d t₀ t = d - t
+
+-- what `goes` answers, by the path's cells
+answer : (c : tie.After-goes Inv-loop μ-loop) → let a = c .before .before .before .before .before .before .args in let t = c .before .before .before .before .loop .t in
+    Decides (c .goes .result) (Goes (now (a .table)) (cellOf (now (a .rows)) (a .k) t) (cellOf (now (a .rows)) (a .k) (t + 1)))
+answer c =
+    let a = c .before .before .before .before .before .before .args in
+    let t = c .before .before .before .before .loop .t in
+    let u : c .before .before .cell .result ≡ cellOf (now (a .rows)) (a .k) t = c .before .before .cell .ensures .0 in
+    let v : c .before .cell2 .result ≡ cellOf (now (a .rows)) (a .k) (t + 1) = c .before .cell2 .ensures .0 in
+    rw (u, v) at (c .goes .ensures)
+
+loop-holds : tie.Need-loop-holds Inv-loop μ-loop
+loop-holds c = (omega arith, λ s h. absurd (omega arith))
+
+cell-requires : tie.Need-cell-requires Inv-loop μ-loop
+cell-requires c κs = search needs
+
+add-cell : tie.Need-add-cell Inv-loop μ-loop
+add-cell c = search needs
+
+cell-requires-2 : tie.Need-cell-requires-2 Inv-loop μ-loop
+cell-requires-2 c κs = search needs
+
+goes-requires : tie.Need-goes-requires Inv-loop μ-loop
+goes-requires c κs = (c .before .cell .ensures .1, c .cell2 .ensures .1)
+
+returns : tie.Need-returns Inv-loop μ-loop
+returns c =
+    let t = c .before .before .before .before .before .loop .t in
+    denied (λ w. answer (c .before) .1 (not-true _ (c .if1 .taken)) (w t (omega arith)))
+
+add-t : tie.Need-add-t Inv-loop μ-loop
+add-t c = search needs
+
+loop-less : tie.Need-loop-less Inv-loop μ-loop
+loop-less c = search needs
+
+loop-again : tie.Need-loop-again Inv-loop μ-loop
+loop-again c = (omega arith, all-more (c .before .before .before .before .before .loop .t) (c .before .before .before .before .before .loop .inv .1) (answer (c .before) .0 (not-false _ (c .if1 .left))))
+
+returns-2 : tie.Need-returns-2 Inv-loop μ-loop
+returns-2 c = told (λ s h. c .before .loop .inv .1 s (omega arith))
+
+pub walks-spec : {M : Type 1} → statement M
+walks-spec =
+    tie.close
+    (tie.spec
+    Inv-loop
+    μ-loop
+    loop-holds
+    cell-requires
+    add-cell
+    cell-requires-2
+    goes-requires
+    returns
+    add-t
+    loop-less
+    loop-again
+    returns-2)

@@ -1,0 +1,2 @@
+// Whether paths are a plan.
+pub mod plan;

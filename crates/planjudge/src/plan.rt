@@ -1,0 +1,316 @@
+// Whether paths are a plan in the order of the sheet: each a walk of its cart to its call, no two sharing a cell or trading places.
+use job::state::Job;
+use model::Limits;
+ghost use Prim.Native.Nat.{ℕ, _+_, _<_, _≤_};
+ghost use mathlib.Core.Path.{_≡_};
+ghost use mathlib.Core.Bool.{true};
+ghost use lib.ListN.{length, getD};
+ghost use Rattle.model.specs.Lists.{In};
+ghost use Rattle.model.specs.Plan.{Path};
+ghost use Rattle.model.specs.Ready.{Ready};
+ghost use Rattle.model.specs.ReadSheet.{knownPath};
+ghost use Rattle.model.specs.Contracts.{RightPlan};
+ghost use Rattle.job.specs.Arrays.{jobOf, Sized};
+ghost use Rattle.job.specs.Held.{Room, pathsOf, Decides};
+ghost use Rattle.planjudge.specs.PlanTests.{cellOf, Known, Lasts, Precedes, Ordered, Marks, Goes, Walks, Led, AllLed, Apart, Meets, Untraded, Clear, Standing};
+
+// In the place of a path's number: no path.
+const NONE: u8 = 64;
+
+fn wide(x: u8) -> usize
+    ensures { λ r. ⌜ (r ≡ x) × (r < 256) ⌝ }
+{
+    x as usize
+}
+
+// The cell of path k at the step t.
+fn cell(rows: &[u8], k: usize, t: usize) -> usize
+    requires { ⌜ (length (now rows) ≡ 16384) × (k < 64) × (t < 256) ⌝ }
+    ensures { λ r. ⌜ (r ≡ cellOf (now (rows .entry)) k t) × (r < 256) ⌝ }
+{
+    wide(rows[k * Limits::STEPS + t])
+}
+
+// The last step of each path: the deadline of its call.
+fn lasts(calls: &[u8], deadlines: &[u8; Limits::CALLS], n: usize) -> [u8; Limits::CALLS]
+    requires { ⌜ (length (now calls) ≡ 64) × (n ≤ 64) × Known (now calls) n ⌝ }
+    ensures { λ r. ⌜ Lasts (now (deadlines .entry)) (now (calls .entry)) r n ⌝ }
+{
+    let mut last = [0u8; Limits::CALLS];
+    let mut k = 0;
+    while k < n {
+        let call = wide(calls[k]);
+        last[k] = deadlines[call];
+        k += 1;
+    }
+    last
+}
+
+// Whether path k stands before the next: its deadline is earlier, or the same and its call the earlier one.
+fn precedes(calls: &[u8], last: &[u8; Limits::CALLS], k: usize) -> bool
+    requires { ⌜ (length (now calls) ≡ 64) × (k < 63) ⌝ }
+    ensures { λ r. ⌜ Decides r (Precedes (now (last .entry)) (now (calls .entry)) k (k + 1)) ⌝ }
+{
+    if last[k] < last[k + 1] {
+        return true;
+    }
+    if last[k + 1] < last[k] {
+        return false;
+    }
+    calls[k] < calls[k + 1]
+}
+
+// Whether each of the first n paths stands before the next.
+fn in_order(calls: &[u8], last: &[u8; Limits::CALLS], n: usize) -> bool
+    requires { ⌜ (length (now calls) ≡ 64) × (n ≤ 64) ⌝ }
+    ensures { λ r. ⌜ Decides r (Ordered (now (last .entry)) (now (calls .entry)) n) ⌝ }
+{
+    let mut k = 0;
+    while k + 1 < n {
+        if !precedes(calls, last, k) {
+            return false;
+        }
+        k += 1;
+    }
+    true
+}
+
+// Marks each track in the table, the way that its line has it.
+fn mark<'a>(
+    from: &'a [u8; Limits::TRACKS],
+    to: &'a [u8; Limits::TRACKS],
+    n: usize,
+    table: &mut [u8; Limits::CELLS * Limits::CELLS],
+)
+    requires { ⌜ (n ≤ 512) × (length (now table) ≡ 65536) × ((x : ℕ) → x < 65536 → getD (now table) x 0 ≡ 0) ⌝ }
+    ensures { λ r. ⌜ Marks (now (from .entry)) (now (to .entry)) n (now (table .exit)) ⌝ }
+{
+    let mut i = 0;
+    while i < n {
+        let u = wide(from[i]);
+        let v = wide(to[i]);
+        table[u * Limits::CELLS + v] = 1;
+        i += 1;
+    }
+}
+
+// Whether a cart may go from u to v in a step.
+fn goes(table: &[u8; Limits::CELLS * Limits::CELLS], u: usize, v: usize) -> bool
+    requires { ⌜ (u < 256) × (v < 256) ⌝ }
+    ensures { λ r. ⌜ Decides r (Goes (now (table .entry)) u v) ⌝ }
+{
+    if u == v {
+        return true;
+    }
+    if table[u * Limits::CELLS + v] == 1 {
+        return true;
+    }
+    table[v * Limits::CELLS + u] == 1
+}
+
+// Whether path k is a walk up to the step d.
+fn walks(table: &[u8; Limits::CELLS * Limits::CELLS], rows: &[u8], k: usize, d: usize) -> bool
+    requires { ⌜ (length (now rows) ≡ 16384) × (k < 64) × (d < 256) ⌝ }
+    ensures { λ r. ⌜ Decides r (Walks (now (table .entry)) (now (rows .entry)) k d) ⌝ }
+{
+    let mut t = 0;
+    while t < d {
+        if !goes(table, cell(rows, k, t), cell(rows, k, t + 1)) {
+            return false;
+        }
+        t += 1;
+    }
+    true
+}
+
+// Whether path k is a walk from the cell a to the cell b, and there at the step d.
+fn leads(
+    table: &[u8; Limits::CELLS * Limits::CELLS],
+    rows: &[u8],
+    k: usize,
+    d: usize,
+    a: usize,
+    b: usize,
+) -> bool
+    requires { ⌜ (length (now rows) ≡ 16384) × (k < 64) × (d < 256) ⌝ }
+    ensures { λ r. ⌜ Decides r (Led (now (table .entry)) (now (rows .entry)) k d a b) ⌝ }
+{
+    if cell(rows, k, 0) != a {
+        return false;
+    }
+    if cell(rows, k, d) != b {
+        return false;
+    }
+    walks(table, rows, k, d)
+}
+
+// Whether each of the first n paths leads from its cart to its call.
+fn all_lead<'a>(
+    table: &[u8; Limits::CELLS * Limits::CELLS],
+    rows: &[u8],
+    last: &[u8; Limits::CALLS],
+    carts: &[u8],
+    starts: &'a [u8; Limits::CARTS],
+    calls: &[u8],
+    lifts: &'a [u8; Limits::CALLS],
+    n: usize,
+) -> bool
+    requires { ⌜ (length (now rows) ≡ 16384) × (length (now carts) ≡ 64) × (length (now calls) ≡ 64) × (n ≤ 64) × Known (now carts) n × Known (now calls) n ⌝ }
+    ensures { λ r. ⌜ Decides r (AllLed (now (table .entry)) (now (rows .entry)) (now (last .entry)) (now (carts .entry)) (now (starts .entry)) (now (calls .entry)) (now (lifts .entry)) n) ⌝ }
+{
+    let mut k = 0;
+    while k < n {
+        let cart = wide(carts[k]);
+        let call = wide(calls[k]);
+        if !leads(
+            table,
+            rows,
+            k,
+            wide(last[k]),
+            wide(starts[cart]),
+            wide(lifts[call]),
+        ) {
+            return false;
+        }
+        k += 1;
+    }
+    true
+}
+
+// Puts each path on its cell at the step t, until one is taken already.
+fn stand(
+    last: &[u8; Limits::CALLS],
+    rows: &[u8],
+    n: usize,
+    t: usize,
+    on: &mut [u8; Limits::CELLS],
+) -> bool
+    requires { ⌜ (length (now rows) ≡ 16384) × (n ≤ 64) × (t < 256) × (length (now on) ≡ 256) × ((c : ℕ) → c < 256 → getD (now on) c 0 ≡ 64) ⌝ }
+    ensures { λ r. ⌜ Decides r (Apart (now (last .entry)) (now (rows .entry)) n t) × (r ≡ true → Standing (now (last .entry)) (now (rows .entry)) n t (now (on .exit))) ⌝ }
+{
+    let mut k: usize = 0;
+    while k < n {
+        if t <= wide(last[k]) {
+            let c = cell(rows, k, t);
+            if on[c] < NONE {
+                return false;
+            }
+            on[c] = k as u8;
+        }
+        k += 1;
+    }
+    true
+}
+
+// Whether the path on the cell that path k goes to is going to the cell that path k leaves.
+fn meets(
+    last: &[u8; Limits::CALLS],
+    rows: &[u8],
+    n: usize,
+    t: usize,
+    on: &[u8; Limits::CELLS],
+    k: usize,
+) -> bool
+    requires { ⌜ (length (now rows) ≡ 16384) × (n ≤ 64) × (t < 255) × (k < n) × Standing (now last) (now rows) n t (now on) ⌝ }
+    ensures { λ r. ⌜ Decides r (Meets (now (last .entry)) (now (rows .entry)) n t k) ⌝ }
+{
+    let m = wide(on[cell(rows, k, t + 1)]);
+    if Limits::CALLS <= m {
+        return false;
+    }
+    if m == k {
+        return false;
+    }
+    if wide(last[m]) <= t {
+        return false;
+    }
+    cell(rows, m, t + 1) == cell(rows, k, t)
+}
+
+// Whether none of the first n paths trades places from the step t to the next.
+fn untraded(
+    last: &[u8; Limits::CALLS],
+    rows: &[u8],
+    n: usize,
+    t: usize,
+    on: &[u8; Limits::CELLS],
+) -> bool
+    requires { ⌜ (length (now rows) ≡ 16384) × (n ≤ 64) × (t < 256) × Standing (now last) (now rows) n t (now on) ⌝ }
+    ensures { λ r. ⌜ Decides r (Untraded (now (last .entry)) (now (rows .entry)) n t) ⌝ }
+{
+    let mut k = 0;
+    while k < n {
+        if t < wide(last[k]) {
+            if meets(last, rows, n, t, on, k) {
+                return false;
+            }
+        }
+        k += 1;
+    }
+    true
+}
+
+// Whether the first n paths are in nobody's way at the step t.
+fn clear(last: &[u8; Limits::CALLS], rows: &[u8], n: usize, t: usize) -> bool
+    requires { ⌜ (length (now rows) ≡ 16384) × (n ≤ 64) × (t < 256) ⌝ }
+    ensures { λ r. ⌜ Decides r (Clear (now (last .entry)) (now (rows .entry)) n t) ⌝ }
+{
+    let mut on = [NONE; Limits::CELLS];
+    if !stand(last, rows, n, t, &mut on) {
+        return false;
+    }
+    untraded(last, rows, n, t, &on)
+}
+
+// Whether they are so at every step up to h.
+fn all_clear(last: &[u8; Limits::CALLS], rows: &[u8], n: usize, h: usize) -> bool
+    requires { ⌜ (length (now rows) ≡ 16384) × (n ≤ 64) × (h < 256) ⌝ }
+    ensures { λ r. ⌜ Decides r ((t : ℕ) → t ≤ h → Clear (now (last .entry)) (now (rows .entry)) n t) ⌝ }
+{
+    let mut t = 0;
+    while t <= h {
+        if !clear(last, rows, n, t) {
+            return false;
+        }
+        t += 1;
+    }
+    true
+}
+
+// The last step of all: that of the last path, since they rise by their deadlines.
+fn horizon(calls: &[u8], last: &[u8; Limits::CALLS], n: usize) -> usize
+    requires { ⌜ (n ≤ 64) × Ordered (now last) (now calls) n ⌝ }
+    ensures { λ r. ⌜ (r < 256) × ((k : ℕ) → k < n → getD (now (last .entry)) k 0 ≤ r) ⌝ }
+{
+    if n == 0 {
+        return 0;
+    }
+    wide(last[n - 1])
+}
+
+pub fn is_plan(job: Job, carts: &[u8], calls: &[u8], rows: &[u8]) -> bool
+    requires { ⌜ Ready (jobOf job) × Sized job × Room (now carts) (now calls) (now rows) × ((p : Path) → In p (pathsOf (jobOf job) (now carts) (now calls) (now rows)) → knownPath (jobOf job) p ≡ true) ⌝ }
+    ensures { λ r. ⌜ Decides r (RightPlan (jobOf job) (pathsOf (jobOf job) (now (carts .entry)) (now (calls .entry)) (now (rows .entry)))) ⌝ }
+{
+    let n = job.calls;
+    let last = lasts(calls, &job.deadlines, n);
+    if !in_order(calls, &last, n) {
+        return false;
+    }
+    let mut table = [0u8; Limits::CELLS * Limits::CELLS];
+    let tracks = job.tracks;
+    mark(&job.from, &job.to, tracks, &mut table);
+    if !all_lead(
+        &table,
+        rows,
+        &last,
+        carts,
+        &job.starts,
+        calls,
+        &job.lifts,
+        n,
+    ) {
+        return false;
+    }
+    all_clear(&last, rows, n, horizon(calls, &last, n))
+}
