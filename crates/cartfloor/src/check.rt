@@ -2,6 +2,7 @@
 use crate::refuse;
 use crate::wipe;
 use job::state::Job;
+use model::Limits;
 use sheet::form::Form;
 ghost use mathlib.Core.Path.{_≡_};
 ghost use Rattle.model.specs.Ready.{Ready};
@@ -14,9 +15,9 @@ fn judge_sheet(job: Job, sheet: &[u8]) -> u64
     requires { ⌜ Ready (jobOf job) × Sized job ⌝ }
     ensures { λ r. ⌜ Judged (jobOf job) (readSheet (jobOf job) (now (sheet .entry))) r ⌝ }
 {
-    let mut first = [0u8; 64];
-    let mut second = [0u8; 64];
-    let mut rows = [0u8; 16384];
+    let mut first = [0u8; Limits::CALLS];
+    let mut second = [0u8; Limits::CALLS];
+    let mut rows = [0u8; Limits::CALLS * Limits::STEPS];
     let form = sheet::form::read_sheet(job, sheet, &mut first, &mut second, &mut rows);
     match form {
         Form::Bad { line } => {

@@ -2,6 +2,7 @@
 use crate::refuse;
 use crate::wipe;
 use job::state::Job;
+use model::Limits;
 use planner::solve;
 use planner::solve::Outcome;
 ghost use mathlib.Core.Path.{_≡_};
@@ -18,9 +19,9 @@ fn plan_job(job: Job, store: &mut [u8], sheet: &mut [u8]) -> u64
     requires { ⌜ Ready (jobOf job) × Sized job × (storeLeast (jobOf job) ≤ length (now store)) × (sheetLeast (jobOf job) ≤ length (now sheet)) ⌝ }
     ensures { λ r. ⌜ (length (now (store .exit)) ≡ length (now (store .entry))) × Written (jobOf job) (now (sheet .entry)) (now (sheet .exit)) r ⌝ }
 {
-    let mut first = [0u8; 64];
-    let mut second = [0u8; 64];
-    let mut rows = [0u8; 16384];
+    let mut first = [0u8; Limits::CALLS];
+    let mut second = [0u8; Limits::CALLS];
+    let mut rows = [0u8; Limits::CALLS * Limits::STEPS];
     let outcome = solve::solve(job, store, &mut first, &mut second, &mut rows);
     match outcome {
         Outcome::Plan => {

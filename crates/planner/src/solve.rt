@@ -1,5 +1,6 @@
 // The calls one after the other by deadline, each served by a search; then the paths, or the choke list.
 use job::state::Job;
+use model::Limits;
 use route::serve::Served;
 ghost use mathlib.Core.Path.{_≡_};
 ghost use mathlib.Core.List.{_++_};
@@ -52,7 +53,7 @@ fn serve_all(
     requires { ⌜ Ready (jobOf job) × Sized job × (k ≡ nodes (jobOf job)) × Near (jobOf job) (now near) (now degree) × Due (jobOf job) (now due) × CartOn (jobOf job) (now «cart_on») × Order (jobOf job) (now order) × Spacious (jobOf job) (now store) × ((v : ℕ) → v < k → (at k (now store) 0 v ≡ 0) × (at k (now store) 1 v ≡ 0)) ⌝ }
     ensures { λ r. ⌜ (length (now (store .exit)) ≡ length (now (store .entry))) × FlowIn (jobOf job) (now (store .exit)) × ServedAll (jobOf job) (now (store .exit)) r ⌝ }
 {
-    let mut hint = [0u8; 256];
+    let mut hint = [0u8; Limits::CELLS];
     let mut stamp = 1u8;
     let calls = job.calls;
     let mut i = 0;
@@ -99,11 +100,11 @@ pub fn solve(
     let last = job::size::last_step(job);
     let k = (last + 1) * job.cells;
     clear(store, 2 * k);
-    let mut near = [0u8; 65536];
-    let mut degree = [0u16; 256];
-    let mut due = [0u16; 256];
-    let mut cart_on = [0u8; 256];
-    let mut order = [0u8; 64];
+    let mut near = [0u8; Limits::CELLS * Limits::CELLS];
+    let mut degree = [0u16; Limits::CELLS];
+    let mut due = [0u16; Limits::CELLS];
+    let mut cart_on = [0u8; Limits::CELLS];
+    let mut order = [0u8; Limits::CALLS];
     network::tables::neighbours(job, &mut near, &mut degree);
     network::tables::deadlines(job, &mut due);
     network::tables::carts(job, &mut cart_on);
