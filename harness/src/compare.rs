@@ -4,7 +4,7 @@
 mod planner;
 
 #[cfg(feature = "plan")]
-pub use planner::plan;
+pub use planner::{plan, planned};
 
 use crate::ffi::{self, Checker, Library};
 use crate::gen::cases::Case;
@@ -44,8 +44,8 @@ fn report(what: &str, case: &Case) -> String {
     format!("{what}\nstore of {} bytes, job\n{job}\nsheet\n{sheet}", case.store_len)
 }
 
-/// A text for the eye, the beginning of a long one.
+/// A text for the eye, whole unless it is longer than a job or a right sheet can be.
 pub fn show(text: &[u8]) -> String {
-    let beginning = &text[..text.len().min(2000)];
+    let beginning = &text[..text.len().min(100_000)];
     beginning.escape_ascii().to_string().replace("\\n", "\\n\n")
 }

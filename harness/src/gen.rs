@@ -7,6 +7,7 @@ pub mod large;
 pub mod lists;
 pub mod plans;
 mod rng;
+pub mod sizes;
 pub mod small;
 pub mod wrong;
 

@@ -2,7 +2,8 @@
 //!
 //! `model` says what document 01 asks for; `ffi` calls the library between guard bytes; `gen` makes jobs and sheets;
 //! `compare` holds one call against the model. `faulty` is a second check, into which faults can be put to see that the
-//! comparison finds them. The tests themselves are in `tests/`.
+//! comparison finds them; `painted` measures stacks. The tests themselves are in `tests/`, and `soak`, a program, tries
+//! as much as one has time for.
 
 pub mod compare;
 pub mod examples;
@@ -10,6 +11,7 @@ pub mod faulty;
 pub mod ffi;
 pub mod gen;
 pub mod model;
+pub mod painted;
 pub mod tally;
 
 #[cfg(feature = "plan")]

@@ -1,5 +1,7 @@
 //! How often each answer came, so that a test can see that it tried what it set out to try.
 
+use std::fmt;
+
 use crate::model::answer::unpack;
 
 #[derive(Clone, Debug, Default)]
@@ -24,5 +26,14 @@ impl Tally {
     pub fn assert_only(&self, answers: &[u64]) {
         let allowed: usize = answers.iter().map(|&a| self.0[a as usize]).sum();
         assert_eq!(allowed, self.total(), "answers other than {answers:?} came: {:?}", self.0);
+    }
+}
+
+/// Each answer that came, with how often.
+impl fmt::Display for Tally {
+    fn fmt(&self, f: &mut fmt::Formatter) -> fmt::Result {
+        let came = self.0.iter().enumerate().filter(|(_, &times)| times > 0);
+        let each: Vec<String> = came.map(|(answer, times)| format!("{answer}: {times}")).collect();
+        f.write_str(&each.join(", "))
     }
 }

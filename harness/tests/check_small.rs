@@ -45,6 +45,13 @@ fn choke_lists() {
 }
 
 #[test]
+fn doubled_points() {
+    let tally = try_out(cases::doubled_points, 7, 1500);
+    tally.assert_only(&[WRONG_SHEET]);
+    assert!(tally.total() >= 5_000);
+}
+
+#[test]
 fn damaged_sheets() {
     let tally = try_out(cases::damaged_sheets, 4, 1500);
     tally.assert_only(&[PLAN, CANNOT, BAD_SHEET, WRONG_SHEET]);

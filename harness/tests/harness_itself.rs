@@ -1,10 +1,11 @@
-//! The comparison itself: it finds each fault in a check, and blames no check that has none.
+//! The comparison itself: it finds each fault in a check, and blames no check that has none. And the measure of stacks.
 
 use harness::compare;
 use harness::faulty::{Fault, Faulty, FAULTS};
 use harness::gen::cases::{Known, KINDS};
 use harness::gen::small::small;
 use harness::gen::Rng;
+use harness::painted::depth_of;
 
 /// What the cases of `check_small` show of a fault on one job after the other: the first so many differences, or fewer
 /// if the jobs do not show more.
@@ -38,4 +39,21 @@ fn each_fault_is_found() {
         let found = differences(fault, 1000, 5).len();
         assert!(found >= 5, "{fault:?} was found {found} times");
     }
+}
+
+/// A call with a table of 100,000 bytes goes just so much deeper.
+#[test]
+fn the_depth_of_a_call_is_seen() {
+    #[inline(never)]
+    fn with_table<const LEN: usize>() -> u8 {
+        let mut table = [0; LEN];
+        for byte in std::hint::black_box(&mut table) {
+            *byte = 1;
+        }
+        table[LEN / 2]
+    }
+    let depth = |call: fn() -> u8| depth_of(|| assert_eq!(call(), 1));
+    let (little, much) = (depth(with_table::<1>), depth(with_table::<100_000>));
+    assert!(little < 4096, "{little}");
+    assert!((100_000..104_096).contains(&much), "{much}");
 }

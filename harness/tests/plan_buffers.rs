@@ -2,7 +2,7 @@
 #![cfg(feature = "plan")]
 
 use harness::compare::plan;
-use harness::examples::{tabs, EXAMPLES};
+use harness::examples::tabs;
 use harness::gen::floors::grid;
 use harness::gen::large::{full_text, scattered};
 use harness::gen::small::small;
@@ -55,20 +55,4 @@ fn refusals_of_the_job_come_before_those_of_the_buffers() {
     assert_eq!(plan(&[0; 16_385], 0, 0, &mut rng).0, TEXT_TOO_LONG);
     let one_more = [full_text(), tabs("CALL 0 0\n")].concat();
     assert_eq!(plan(&one_more, 0, 0, &mut rng).0, TOO_MANY);
-}
-
-/// The same job gives the same bytes, whatever is in the store and wherever the buffers stand.
-#[test]
-fn what_is_lent_does_not_show_in_the_sheet() {
-    let mut rng = Rng::new(4);
-    for example in &EXAMPLES {
-        for _ in 0..100 {
-            let (_, sheet) = plan(&tabs(example.job), 65_536, 65_536, &mut rng);
-            assert_eq!(sheet, tabs(example.sheet));
-        }
-    }
-    let job = scattered(grid(8, 8), 20, 30, &mut rng);
-    let mut sheets = (0..20).map(|_| plan(&job.text(), store_least(&job), sheet_least(&job), &mut rng).1);
-    let first = sheets.next();
-    assert!(sheets.all(|sheet| Some(sheet) == first));
 }

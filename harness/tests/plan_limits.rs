@@ -86,13 +86,8 @@ fn carts_with_no_step_to_go() {
 fn floors_of_every_size() {
     let mut rng = Rng::new(5);
     let mut tally = Tally::default();
-    for round in 0..400 {
-        let floor = match round % 4 {
-            0 => star(1 + rng.below(60)),
-            1 => line(2 + rng.below(60)),
-            2 => with_most_tracks(grid(6, 6), &mut rng),
-            _ => grid(2 + rng.below(7), 2 + rng.below(7)),
-        };
+    for _ in 0..400 {
+        let floor = some_floor(&mut rng);
         let carts = rng.below(floor.cells.min(limits::CARTS) + 1);
         let most = rng.below(24);
         let (walked, _) = moving(floor.clone(), carts, 0, most, &mut rng);

@@ -1,8 +1,8 @@
-//! The calls at the limits, each in a thread with a stack of 256 KiB.
+//! The calls at the limits: each in a thread with a stack of 256 KiB, and how much of a stack each writes to.
 
 use std::thread;
 
-use harness::ffi::{check, Library};
+use harness::ffi::{check, Checker, Library};
 use harness::gen::floors::*;
 use harness::gen::large::*;
 use harness::gen::Rng;
@@ -10,10 +10,13 @@ use harness::model::answer::*;
 use harness::model::job::Job;
 use harness::model::limits::{self, store_least};
 use harness::model::sheet::Sheet;
+use harness::painted::depth_of;
+
+const LITTLE: usize = 256 * 1024;
 
 /// Runs a call in a thread with little stack. Buffers are on the heap, so the stack is nearly the call's alone.
 fn with_little_stack<T: Send + 'static>(call: impl FnOnce() -> T + Send + 'static) -> T {
-    let thread = thread::Builder::new().stack_size(256 * 1024).spawn(call);
+    let thread = thread::Builder::new().stack_size(LITTLE).spawn(call);
     thread.expect("a thread").join().expect("an answer")
 }
 
@@ -22,26 +25,27 @@ fn check_with_little_stack(job: Vec<u8>, store_len: usize, sheet: Vec<u8>) -> (u
     unpack(with_little_stack(call).expect("no byte changed").answer)
 }
 
-fn answer(job: &Job, sheet: Sheet) -> (u64, usize) {
-    check_with_little_stack(job.text(), store_least(job), sheet.text())
-}
-
-#[test]
-fn plans_at_every_limit() {
-    let (job, paths) = standing(ring(), limits::CARTS, limits::DEADLINE);
-    assert_eq!(answer(&job, Sheet::Plan(paths)), (PLAN, 0));
+/// Jobs at the limits with a sheet that is right by the way they are made, and its answer.
+fn right_sheets() -> Vec<(Job, Sheet, u64)> {
+    let (still, still_paths) = standing(ring(), limits::CARTS, limits::DEADLINE);
     let floor = with_most_tracks(grid(16, 16), &mut Rng::new(2));
-    let (job, paths) = moving(floor, limits::CARTS, 200, limits::DEADLINE, &mut Rng::new(3));
-    assert_eq!(answer(&job, Sheet::Plan(paths)), (PLAN, 0));
+    let (moved, paths) = moving(floor, limits::CARTS, 200, limits::DEADLINE, &mut Rng::new(3));
+    let (crowded, middle) = crowded_star(255, limits::CARTS, limits::CARTS);
+    let (others, _) = moving(grid(15, 17), limits::CARTS - 1, 100, limits::DEADLINE, &mut Rng::new(4));
+    let (lost, ends) = with_lost_call(others);
+    vec![
+        (still, Sheet::Plan(still_paths), PLAN),
+        (moved, Sheet::Plan(paths), PLAN),
+        (crowded, Sheet::Cannot(middle), CANNOT),
+        (lost, Sheet::Cannot(ends), CANNOT),
+    ]
 }
 
 #[test]
-fn choke_lists_at_every_limit() {
-    let (job, list) = crowded_star(255, limits::CARTS, limits::CARTS);
-    assert_eq!(answer(&job, Sheet::Cannot(list)), (CANNOT, 0));
-    let (job, _) = moving(grid(15, 17), limits::CARTS - 1, 100, limits::DEADLINE, &mut Rng::new(4));
-    let (job, list) = with_lost_call(job);
-    assert_eq!(answer(&job, Sheet::Cannot(list)), (CANNOT, 0));
+fn plans_and_choke_lists_at_every_limit() {
+    for (job, sheet, number) in right_sheets() {
+        assert_eq!(check_with_little_stack(job.text(), store_least(&job), sheet.text()), (number, 0));
+    }
 }
 
 #[test]
@@ -55,29 +59,72 @@ fn refusals_at_the_limits() {
     assert_eq!(check_with_little_stack(one_more, store, Vec::new()), (TOO_MANY, 642));
 }
 
+/// Prints the most that any of the calls needs, and holds it under the limit.
+fn assert_high_water_mark(name: &str, depths: &[usize]) {
+    let mark = depths.iter().max().expect("a call");
+    println!("stack of {name}: {mark} bytes at the most, of {LITTLE}");
+    assert!(*mark < LITTLE, "{name} goes down {depths:?}");
+}
+
+/// How deep the check goes, and its answer.
+fn depth_of_check(job: &Job, sheet: &[u8]) -> (usize, u64) {
+    let (text, mut store) = (job.text(), vec![1; store_least(job)]);
+    let mut answer = 0;
+    let depth = depth_of(|| {
+        let store = (store.as_mut_ptr(), store.len());
+        // Safety: three buffers of their own, each as long as it says.
+        answer = unsafe { Library.check((text.as_ptr(), text.len()), store, (sheet.as_ptr(), sheet.len())) };
+    });
+    (depth, unpack(answer).0)
+}
+
+#[test]
+fn high_water_mark_of_the_check() {
+    let mut depths = Vec::new();
+    for (job, sheet, number) in right_sheets() {
+        let text = sheet.text();
+        for (sheet, expected) in [(text.as_slice(), number), (&text[..text.len() - 1], BAD_SHEET)] {
+            let (depth, answer) = depth_of_check(&job, sheet);
+            assert_eq!(answer, expected);
+            depths.push(depth);
+        }
+    }
+    assert_high_water_mark("cartfloor_check", &depths);
+}
+
 #[cfg(feature = "plan")]
 mod planner {
     use super::*;
-    use harness::ffi::plan;
+    use harness::ffi::{plan, plan_into};
     use harness::model::limits::sheet_least;
 
-    fn planned(job: &Job) -> u64 {
-        let (text, store, sheet) = (job.text(), store_least(job), sheet_least(job));
-        let call = move || plan(&text, store, sheet, &mut Rng::new(1));
-        unpack(with_little_stack(call).expect("no byte changed").answer).0
+    #[test]
+    fn plans_and_choke_lists_at_every_limit() {
+        for (job, _, number) in right_sheets() {
+            let call = move || plan(&job.text(), store_least(&job), sheet_least(&job), &mut Rng::new(1));
+            let planned = with_little_stack(call).expect("no byte changed");
+            assert_eq!(unpack(planned.answer).0, number);
+        }
+    }
+
+    /// How deep the planner goes, and its answer.
+    fn depth_of_plan(job: &[u8], store_len: usize, sheet_len: usize) -> (usize, u64) {
+        let (mut store, mut sheet) = (vec![1; store_len], vec![1; sheet_len]);
+        let mut answer = 0;
+        let depth = depth_of(|| answer = plan_into(job, &mut store, &mut sheet));
+        (depth, unpack(answer).0)
     }
 
     #[test]
-    fn plans_at_every_limit() {
-        assert_eq!(planned(&standing(ring(), limits::CARTS, limits::DEADLINE).0), PLAN);
-        let floor = with_most_tracks(grid(16, 16), &mut Rng::new(2));
-        assert_eq!(planned(&moving(floor, limits::CARTS, 200, limits::DEADLINE, &mut Rng::new(3)).0), PLAN);
-    }
-
-    #[test]
-    fn choke_lists_at_every_limit() {
-        assert_eq!(planned(&crowded_star(255, limits::CARTS, limits::CARTS).0), CANNOT);
-        let (job, _) = moving(grid(15, 17), limits::CARTS - 1, 100, limits::DEADLINE, &mut Rng::new(4));
-        assert_eq!(planned(&with_lost_call(job).0), CANNOT);
+    fn high_water_mark_of_the_planner() {
+        let mut depths = Vec::new();
+        for (job, _, number) in right_sheets() {
+            for (sheet_len, expected) in [(sheet_least(&job), number), (0, SHEET_TOO_SHORT)] {
+                let (depth, answer) = depth_of_plan(&job.text(), store_least(&job), sheet_len);
+                assert_eq!(answer, expected);
+                depths.push(depth);
+            }
+        }
+        assert_high_water_mark("cartfloor_plan", &depths);
     }
 }

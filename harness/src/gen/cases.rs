@@ -1,10 +1,11 @@
-//! What is tried on a small job: right plans, wrong ones, choke lists, damaged sheets, damaged jobs, short stores.
+//! What is tried on a job, mostly a small one: right plans, wrong ones, choke lists, damaged sheets, damaged jobs,
+//! short stores.
 
-use super::damage::damaged;
+use super::damage::{changed, damaged, Damage};
 use super::plans::plans;
 use super::{lists, wrong, Rng};
-use crate::model::job::Job;
-use crate::model::limits::store_least;
+use crate::model::job::{Call, Job};
+use crate::model::limits::{self, store_least};
 use crate::model::reader;
 use crate::model::sheet::{Choke, Path, Sheet};
 use crate::model::walks::{all_walks, Walk};
@@ -16,7 +17,7 @@ pub struct Case {
     pub sheet: Vec<u8>,
 }
 
-/// A small job with its walks, its plans (the first 300) and its true choke lists.
+/// A job with its walks, its plans (the first 300) and its true choke lists; if it is not small, with one of these.
 pub struct Known {
     pub job: Job,
     pub walks: Vec<Vec<Vec<Walk>>>,
@@ -27,6 +28,16 @@ pub struct Known {
 impl Known {
     pub fn of(job: Job) -> Known {
         Known { walks: all_walks(&job), plans: plans(&job, 300), lists: lists::true_lists(&job), job }
+    }
+
+    /// What is known of a larger job by one right sheet of it. No walk is written out.
+    pub fn by_sheet(job: Job, right: Sheet) -> Known {
+        let walks = vec![vec![Vec::new(); job.calls.len()]; job.carts.len()];
+        let (plans, lists) = match right {
+            Sheet::Plan(paths) => (vec![paths], Vec::new()),
+            Sheet::Cannot(list) => (Vec::new(), vec![list]),
+        };
+        Known { job, walks, plans, lists }
     }
 
     /// A right sheet of the job: it has a plan or a true choke list, whichever it is.
@@ -47,7 +58,8 @@ impl Known {
 /// A kind of cases: some of them for a job.
 pub type Kind = fn(&Known, &mut Rng) -> Vec<Case>;
 
-pub const KINDS: [Kind; 6] = [right_sheets, wrong_plans, choke_lists, damaged_sheets, damaged_jobs, stores];
+pub const KINDS: [Kind; 7] =
+    [right_sheets, wrong_plans, choke_lists, doubled_points, damaged_sheets, damaged_jobs, stores];
 
 pub fn right_sheets(known: &Known, rng: &mut Rng) -> Vec<Case> {
     (0..8).map(|_| known.case(known.right_sheet(rng).text(), rng)).collect()
@@ -94,21 +106,64 @@ fn lists_near(job: &Job, list: &[Choke], rng: &mut Rng) -> Vec<Vec<Choke>> {
     ]
 }
 
+/// Lists that are true but for a point that stands twice. Two calls more, which no cart can come to, leave room for it:
+/// so the count is below the calls, and nothing but the doubled point turns the sheet back.
+pub fn doubled_points(known: &Known, rng: &mut Rng) -> Vec<Case> {
+    let job = with_stranded_cart(with_stranded_cart(known.job.clone()));
+    if known.job.calls.is_empty() || job.cells > limits::CELLS || job.carts.len() > limits::CARTS {
+        return Vec::new();
+    }
+    let ends = lists::ends(&known.job);
+    let with_points: Vec<&Vec<Choke>> = known.lists.iter().chain([&ends]).filter(|list| !list.is_empty()).collect();
+    let case = |_| {
+        let true_list = *rng.pick(&with_points);
+        let list = wrong::doubled_point(true_list, rng);
+        Case { job: job.text(), store_len: store_least(&job), sheet: Sheet::Cannot(list).text() }
+    };
+    (0..4).map(case).collect()
+}
+
+/// The job with one cart more and one call more, each on a cell of its own that no track leads to.
+fn with_stranded_cart(mut job: Job) -> Job {
+    job.carts.push(job.cells);
+    job.calls.push(Call { cell: job.cells + 1, deadline: job.last() });
+    job.cells += 2;
+    job
+}
+
 /// Damage to right sheets and to wrong ones.
 pub fn damaged_sheets(known: &Known, rng: &mut Rng) -> Vec<Case> {
+    sheets_after(damaged, known, rng)
+}
+
+/// The same, where no sheet is left as it was.
+pub fn changed_sheets(known: &Known, rng: &mut Rng) -> Vec<Case> {
+    sheets_after(changed, known, rng)
+}
+
+fn sheets_after(damage: Damage, known: &Known, rng: &mut Rng) -> Vec<Case> {
     let mut all = Vec::new();
     for _ in 0..8 {
         let loose = Sheet::Plan(wrong::loose_plan(&known.job, &known.walks, rng));
-        all.push(damaged(&known.right_sheet(rng).text(), rng));
-        all.push(damaged(&loose.text(), rng));
+        all.push(damage(&known.right_sheet(rng).text(), rng));
+        all.push(damage(&loose.text(), rng));
     }
     all.into_iter().map(|sheet| known.case(sheet, rng)).collect()
 }
 
 /// Damage to the job, with a right sheet of the whole one. The store is long enough if the job is still one.
 pub fn damaged_jobs(known: &Known, rng: &mut Rng) -> Vec<Case> {
+    jobs_after(damaged, known, rng)
+}
+
+/// The same, where no job is left as it was.
+pub fn changed_jobs(known: &Known, rng: &mut Rng) -> Vec<Case> {
+    jobs_after(changed, known, rng)
+}
+
+fn jobs_after(damage: Damage, known: &Known, rng: &mut Rng) -> Vec<Case> {
     let case = |_| {
-        let job = damaged(&known.job.text(), rng);
+        let job = damage(&known.job.text(), rng);
         let store_len = reader::read(&job).map_or(4096, |job| store_least(&job));
         let sheet = known.right_sheet(rng).text();
         Case { job, store_len, sheet }

@@ -1,16 +1,17 @@
 //! Damaged texts, jobs and sheets alike: bytes, lines and fields changed, lost or added.
 
 use super::Rng;
+use crate::model::limits;
 use crate::model::lines::{LF, TAB};
 
-type Damage = fn(&[u8], &mut Rng) -> Vec<u8>;
+pub type Damage = fn(&[u8], &mut Rng) -> Vec<u8>;
 
-const BYTES: [Damage; 5] = [changed_byte, lost_byte, added_byte, cut_off, trailing];
+const BYTES: [Damage; 6] = [changed_byte, lost_byte, added_byte, cut_off, trailing, repeated];
 const LINES: [Damage; 4] = [lost_line, doubled_line, swapped_lines, other_word];
 const FIELDS: [Damage; 5] = [other_number, leading_zero, lost_field, added_field, other_count];
 
 /// A text with one damage, now and then with more. A changed number comes most often, since it mostly leaves the form
-/// whole and so gets furthest.
+/// whole and so gets furthest. It can be the same text: a number changed into itself, a line swapped with itself.
 pub fn damaged(text: &[u8], rng: &mut Rng) -> Vec<u8> {
     let kinds: [&[Damage]; 4] = [&BYTES, &LINES, &FIELDS, &[other_number]];
     let kind = rng.pick(&kinds);
@@ -19,6 +20,16 @@ pub fn damaged(text: &[u8], rng: &mut Rng) -> Vec<u8> {
         return damaged(&once, rng);
     }
     once
+}
+
+/// A damaged text that is not the same.
+pub fn changed(text: &[u8], rng: &mut Rng) -> Vec<u8> {
+    loop {
+        let other = damaged(text, rng);
+        if other != text {
+            return other;
+        }
+    }
 }
 
 /// Bytes that could stand in a text, and some that could not.
@@ -60,6 +71,11 @@ fn trailing(text: &[u8], rng: &mut Rng) -> Vec<u8> {
     [text, &more].concat()
 }
 
+/// The text over and over, past the longest job that is read.
+fn repeated(text: &[u8], _: &mut Rng) -> Vec<u8> {
+    text.repeat(limits::TEXT / text.len().max(1) + 1)
+}
+
 /// The lines with their LF.
 fn lines(text: &[u8]) -> Vec<Vec<u8>> {
     text.split_inclusive(|&b| b == LF).map(<[u8]>::to_vec).collect()
@@ -73,13 +89,20 @@ fn lost_line(text: &[u8], rng: &mut Rng) -> Vec<u8> {
     lines.concat()
 }
 
+/// Often behind the last line of its kind: there it is one too many, if the job is full.
 fn doubled_line(text: &[u8], rng: &mut Rng) -> Vec<u8> {
     let mut lines = lines(text);
     if !lines.is_empty() {
         let line = rng.pick(&lines).clone();
-        lines.insert(rng.below(lines.len() + 1), line);
+        let last_of_kind = lines.iter().rposition(|other| word(other) == word(&line));
+        let to = if rng.once_in(2) { last_of_kind.map_or(0, |at| at + 1) } else { rng.below(lines.len() + 1) };
+        lines.insert(to, line);
     }
     lines.concat()
+}
+
+fn word(line: &[u8]) -> Option<&[u8]> {
+    line.split(|&b| b == TAB).next()
 }
 
 fn swapped_lines(text: &[u8], rng: &mut Rng) -> Vec<u8> {

@@ -45,3 +45,13 @@ pub fn line(cells: usize) -> Job {
 pub fn loose(cells: usize) -> Job {
     Job { cells, ..Job::default() }
 }
+
+/// A floor of any shape and of up to some 60 cells.
+pub fn some_floor(rng: &mut Rng) -> Job {
+    match rng.below(4) {
+        0 => star(1 + rng.below(60)),
+        1 => line(2 + rng.below(60)),
+        2 => with_most_tracks(grid(6, 6), rng),
+        _ => grid(2 + rng.below(7), 2 + rng.below(7)),
+    }
+}

@@ -1,0 +1,170 @@
+//! Damaged jobs and sheets in great number, each call held against the model. The same seed tries the same texts.
+
+use std::env;
+use std::process::ExitCode;
+use std::time::{Duration, Instant, SystemTime};
+
+use harness::compare;
+use harness::ffi::Library;
+use harness::gen::cases::*;
+use harness::gen::sizes::{at_the_limits, medium};
+use harness::gen::small::small;
+use harness::gen::Rng;
+use harness::model::job::Job;
+use harness::model::limits::{sheet_least, store_least};
+use harness::model::{reader, sheet};
+use harness::tally::Tally;
+
+const USAGE: &str = "\
+soak [--seconds N] [--texts M] [--seed S] [--first T]
+  --seconds N  for N seconds (10)
+  --texts M    until M damaged texts, jobs and sheets, are tried, however long that takes;
+               1000000 take some 3 minutes of processor time
+  --seed S     which texts (else by the clock)
+  --first T    from turn T on: with the seed of a run that found a difference, the turn it was found in";
+
+/// Damaged texts come from the first two.
+const KINDS: [(&str, Kind); 7] = [
+    ("damaged jobs", changed_jobs),
+    ("damaged sheets", changed_sheets),
+    ("right sheets", right_sheets),
+    ("wrong plans", wrong_plans),
+    ("choke lists", choke_lists),
+    ("doubled choke points", doubled_points),
+    ("stores of any length", stores),
+];
+
+const SIZES: [&str; 3] = ["small", "medium", "at the limits"];
+
+/// What was tried, and what was answered.
+#[derive(Default)]
+struct Tried {
+    sizes: [usize; SIZES.len()],
+    kinds: [usize; KINDS.len()],
+    plans: Tally,
+    checks: Tally,
+}
+
+fn main() -> ExitCode {
+    let Some(run) = Run::from_arguments() else {
+        println!("{USAGE}");
+        return ExitCode::from(2);
+    };
+    println!("seed {}", run.seed);
+    let start = Instant::now();
+    let mut tried = Tried::default();
+    let mut turn = run.first;
+    while run.goes_on(&tried, start.elapsed()) {
+        if let Err(difference) = tried.turn(run.seed, turn) {
+            println!("seed {}, turn {turn}: {difference}", run.seed);
+            return ExitCode::FAILURE;
+        }
+        turn += 1;
+    }
+    tried.print(start.elapsed());
+    ExitCode::SUCCESS
+}
+
+struct Run {
+    seconds: u64,
+    texts: Option<usize>,
+    seed: u64,
+    first: u64,
+}
+
+impl Run {
+    /// Nothing if the arguments are not in order.
+    fn from_arguments() -> Option<Run> {
+        let clock = SystemTime::UNIX_EPOCH.elapsed().map_or(1, |since| since.as_secs());
+        let mut run = Run { seconds: 10, texts: None, seed: clock, first: 0 };
+        let mut arguments = env::args().skip(1);
+        while let Some(name) = arguments.next() {
+            let number: u64 = arguments.next()?.parse().ok()?;
+            match name.as_str() {
+                "--seconds" => run.seconds = number,
+                "--texts" => run.texts = Some(number as usize),
+                "--seed" => run.seed = number,
+                "--first" => run.first = number,
+                _ => return None,
+            }
+        }
+        Some(run)
+    }
+
+    fn goes_on(&self, tried: &Tried, elapsed: Duration) -> bool {
+        match self.texts {
+            Some(texts) => tried.damaged() < texts,
+            None => elapsed.as_secs() < self.seconds,
+        }
+    }
+}
+
+impl Tried {
+    /// A job, planned, and the kinds of cases it gives. Each turn has its own chance, so that it can be had alone.
+    fn turn(&mut self, seed: u64, turn: u64) -> Result<(), String> {
+        let mut rng = Rng::new(seed.wrapping_add(turn << 32));
+        // A call at the limits takes a thousand times as long as a small one.
+        let size = if turn % 100 == 9 { 2 } else { usize::from(turn % 10 == 4) };
+        self.sizes[size] += 1;
+        let job = [small, medium, at_the_limits][size](&mut rng);
+        let right = self.plan(&job.text(), store_least(&job), sheet_least(&job), &mut rng)?;
+        let known = match size {
+            0 => Known::of(job),
+            _ => known_by(job, &right),
+        };
+        match size {
+            2 => self.try_kind(rng.below(KINDS.len()), &known, &mut rng),
+            _ => (0..KINDS.len()).try_for_each(|kind| self.try_kind(kind, &known, &mut rng)),
+        }
+    }
+
+    fn try_kind(&mut self, kind: usize, known: &Known, rng: &mut Rng) -> Result<(), String> {
+        let planned = known.job.text();
+        for case in KINDS[kind].1(known, rng) {
+            self.kinds[kind] += 1;
+            self.checks.count(compare::check(&Library, &case, rng)?);
+            if case.job != planned {
+                self.plan_near(&case, rng)?;
+            }
+        }
+        Ok(())
+    }
+
+    /// Plans a case's job, with buffers just long enough or, now and then, one byte short.
+    fn plan_near(&mut self, case: &Case, rng: &mut Rng) -> Result<(), String> {
+        let sheet_len = reader::read(&case.job).map_or(64, |job| sheet_least(&job));
+        let (short_store, short_sheet) = (rng.once_in(8), rng.once_in(8));
+        let (store_len, sheet_len) = (case.store_len - usize::from(short_store), sheet_len - usize::from(short_sheet));
+        self.plan(&case.job, store_len, sheet_len, rng).map(drop)
+    }
+
+    fn plan(&mut self, job: &[u8], store_len: usize, sheet_len: usize, rng: &mut Rng) -> Result<Vec<u8>, String> {
+        let (answer, sheet) = compare::planned(job, store_len, sheet_len, rng)?;
+        self.plans.count(answer);
+        Ok(sheet)
+    }
+
+    /// Texts that differ from the whole ones.
+    fn damaged(&self) -> usize {
+        self.kinds[0] + self.kinds[1]
+    }
+
+    fn print(&self, elapsed: Duration) {
+        let counted = |names: &[&str], counts: &[usize]| {
+            let each: Vec<String> = names.iter().zip(counts).map(|(name, count)| format!("{count} {name}")).collect();
+            each.join(", ")
+        };
+        println!("turns: {}", counted(&SIZES, &self.sizes));
+        println!("cases: {}", counted(&KINDS.map(|kind| kind.0), &self.kinds));
+        println!("answers of the planner: {}", self.plans);
+        println!("answers of the check: {}", self.checks);
+        let (texts, seconds) = (self.damaged(), elapsed.as_secs_f64());
+        println!("{texts} damaged texts in {seconds:.1} s, {:.0} a second: no difference", texts as f64 / seconds);
+    }
+}
+
+/// The planner's sheet has passed the model's check.
+fn known_by(job: Job, sheet: &[u8]) -> Known {
+    let right = sheet::read(sheet, &job).expect("a sheet in the form");
+    Known::by_sheet(job, right)
+}
