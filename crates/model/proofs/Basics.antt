@@ -18,3 +18,6 @@ and-right false y e = nope (cc)
 
 pub and-both : (x y : Bool) → x ≡ true → y ≡ true → (x && y) ≡ true
 and-both x y e f = rw (e, f)
+
+pub and-second : (x y : Bool) → x ≡ true → (x && y) ≡ y
+and-second x y e = rw e

@@ -14,8 +14,8 @@ use Rattle.model.specs.Walk.{Step, Walk, Serves}
 use Rattle.model.specs.Plan.{Path, Leads}
 use Rattle.model.specs.Choke.{Point, point, Known}
 use Rattle.model.specs.Contracts.{RightPlan, RightChokes}
-use Rattle.model.proofs.Lists.{in-map}
-use Rattle.model.proofs.Listed.{in-left, in-right, each, in-each, below, in-below, walks, walk-listed}
+use Rattle.model.proofs.Lists.{in-map, in-left, in-right}
+use Rattle.model.proofs.Listed.{each, in-each, below, in-below, walks, walk-listed}
 use Rattle.model.proofs.Decisions.{dec-leads, dec-right-plan, dec-right-chokes}
 
 -- the lists of n members of l, and those of fewer

@@ -1,9 +1,11 @@
 pub mod Basics
 pub mod Lists
+pub mod Words
 pub mod Weak
 pub mod Decide
 pub mod Listed
 pub mod Sharing
+pub mod Floor
 pub mod Written
 pub mod Read
 pub mod Ready

@@ -1,6 +1,6 @@
 -- Lists that have everything of a kind: the numbers below one, and the walks of a job. Assumes nothing.
 use Prim.Native.Nat.{ℕ, zero, suc, _<_}
-use mathlib.Core.Path.{_≡_, refl, sym, subst}
+use mathlib.Core.Path.{_≡_, refl, sym, ap, subst}
 use mathlib.Core.List.{List, [], _∷_, _++_, map}
 use mathlib.Core.Logic.{inl, inr}
 use mathlib.Core.Bool.{Bool, true, false}
@@ -11,16 +11,7 @@ use borrow.Author.Tests.{leb-true, leb-false}
 use Rattle.model.specs.Lists.{In}
 use Rattle.model.specs.Job.{Job, Call, track}
 use Rattle.model.specs.Walk.{Step, Walk, Serves}
-use Rattle.model.proofs.Lists.{in-map}
-
-pub in-left : {A : Type 0} (a : A) (l m : List A) → In a l → In a (l ++ m)
-in-left a [] m h = absurd h
-in-left a (b ∷ l) m (inl e) = inl e
-in-left a (b ∷ l) m (inr h) = inr (in-left a l m h)
-
-pub in-right : {A : Type 0} (a : A) (l m : List A) → In a m → In a (l ++ m)
-in-right a [] m h = h
-in-right a (b ∷ l) m h = inr (in-right a l m h)
+use Rattle.model.proofs.Lists.{in-map, in-left, in-right}
 
 abbrev pub each : {A B : Type 0} → (A → List B) → List A → List B
 each f [] = []
@@ -35,6 +26,10 @@ in-each f a b (c ∷ l) (inr h) k = in-right b (f c) (each f l) (in-each f a b l
 abbrev pub below : ℕ → List ℕ
 below zero = []
 below (suc n) = n ∷ below n
+
+pub length-below : (n : ℕ) → length (below n) ≡ n
+length-below zero = refl
+length-below (suc n) = ap suc (length-below n)
 
 pub in-below : (n a : ℕ) → a < n → In a (below n)
 in-below zero a h = absurd (omega arith)

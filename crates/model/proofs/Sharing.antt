@@ -1,6 +1,6 @@
 -- A plan is a sharing out: every call has its path. Its paths are as many as the calls and no two have one call, so none is missed.
-use Prim.Native.Nat.{ℕ, zero, suc, _≤_, _<_}
-use mathlib.Core.Path.{_≡_, refl, sym, ap, _∙_}
+use Prim.Native.Nat.{ℕ, _≤_, _<_}
+use mathlib.Core.Path.{_≡_, refl, sym, _∙_}
 use mathlib.Core.List.{List, [], _∷_, map}
 use mathlib.Core.Logic.{inl, inr}
 use native.Mathlib.Omega.{arith}
@@ -10,16 +10,12 @@ use Rattle.model.specs.Job.{Job}
 use Rattle.model.specs.Plan.{Path, Plan}
 use Rattle.model.proofs.Lists.{in-getD, pigeon, place-of}
 use Rattle.model.proofs.Decide.{dec-in, dec-eq}
-use Rattle.model.proofs.Listed.{below, in-below}
+use Rattle.model.proofs.Listed.{below, length-below, in-below}
 
 in-unmap : (k : ℕ) (ps : List Path) → In k (map (λ p. p .call) ps) → (p : Path) × In p ps × (p .call ≡ k)
 in-unmap k [] h = absurd h
 in-unmap k (p ∷ ps) (inl e) = (p, inl refl, sym e)
 in-unmap k (p ∷ ps) (inr h) = let (q, m, e) = in-unmap k ps h in (q, inr m, e)
-
-length-below : (n : ℕ) → length (below n) ≡ n
-length-below zero = refl
-length-below (suc n) = ap suc (length-below n)
 
 all-cons : (x : Path) (ps : List Path) (P : Path → Type 0) → P x → ((p : Path) → In p ps → P p) → (p : Path) → In p (x ∷ ps) → P p
 all-cons x ps P h g p (inl e) = rw e h

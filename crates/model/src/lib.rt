@@ -1,4 +1,6 @@
 // The limits that every layer takes from here. The definitions of a job, a plan, a choke list and the texts are in specs/.
+pub mod bytes;
+
 ghost use mathlib.Core.Path.{_≡_};
 ghost use Rattle.model.specs.Limits.{maxCells, maxTracks, maxCarts, maxCalls, maxSteps, maxText};
 
