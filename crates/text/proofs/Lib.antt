@@ -1,4 +1,4 @@
 pub mod Steps
-pub mod Lines
+pub mod LineLaws
 pub mod Numbers
 pub mod Wrote

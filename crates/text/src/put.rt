@@ -1,4 +1,5 @@
 // Writing: bytes, words and numbers, one after the other. Each function returns the place after what it wrote.
+use model::bytes::wide;
 ghost use mathlib.Core.Path.{_≡_};
 ghost use Prim.Native.Nat.{_+_, _*_, _<_, _≤_};
 ghost use mathlib.Core.List.{_∷_, []};
@@ -57,12 +58,6 @@ pub fn field(out: &mut [u8], at: usize, n: usize) -> usize
 {
     let p = byte(out, at, 9);
     number(out, p, n)
-}
-
-fn wide(x: u8) -> usize
-    ensures { λ r. ⌜ (r ≡ x) × (r < 256) ⌝ }
-{
-    x as usize
 }
 
 // A field for each of the first n of the given bytes.

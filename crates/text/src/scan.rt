@@ -1,4 +1,5 @@
 // Reading: where a line ends, the word it opens with, its fields and their numbers.
+use model::bytes::wide;
 ghost use mathlib.Core.Path.{_≡_};
 ghost use Prim.Native.Nat.{_+_, _≤_};
 ghost use lib.ListN.{length, drop};
@@ -12,7 +13,7 @@ pub enum Scan {
 }
 
 // Where the line that starts at `at` ends: before its line feed, or at the end where it has none.
-pub fn line_end(s: &[u8], at: usize) -> usize
+fn line_end(s: &[u8], at: usize) -> usize
     requires { ⌜ at ≤ length (now s) ⌝ }
     ensures { λ r. ⌜ r ≡ at + length (lineOf (drop at (now (s .entry)))) ⌝ }
 {
@@ -24,6 +25,23 @@ pub fn line_end(s: &[u8], at: usize) -> usize
         i += 1;
     }
     i
+}
+
+// The place behind the line that starts at `at` and its line feed: past the end where it has none.
+pub fn line_past(s: &[u8], at: usize) -> usize
+    requires { ⌜ at ≤ length (now s) ⌝ }
+    ensures { λ r. ⌜ r ≡ at + length (lineOf (drop at (now (s .entry)))) + 1 ⌝ }
+{
+    line_end(s, at) + 1
+}
+
+// That line, without its line feed, by the place behind it.
+pub fn line_before(s: &[u8], at: usize, past: usize) -> &[u8]
+    requires { ⌜ (at ≤ length (now s)) × (past ≡ at + length (lineOf (drop at (now s))) + 1) ⌝ }
+    ensures { λ r. ⌜ now r ≡ lineOf (drop at (now (s .entry))) ⌝ }
+{
+    let end = past - 1;
+    &s[at..end]
 }
 
 // Whether s starts with word.
@@ -78,12 +96,6 @@ fn finish(i: usize, n: usize, v: usize) -> Scan
         return Scan::Fault;
     }
     Scan::Value { value: v, next: i }
-}
-
-fn wide(x: u8) -> usize
-    ensures { λ r. ⌜ r ≡ x ⌝ }
-{
-    x as usize
 }
 
 // The number that is the field from `at` on, which ends before a tab or at the end.

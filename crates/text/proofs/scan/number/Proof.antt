@@ -70,7 +70,7 @@ may : (c : tie.After-wide Inv-loop μ-loop) → mayFollow (c .before .before .be
 may c = sym (c .before .before .may-follow .ensures) ∙ not-false (c .before .before .may-follow .result) (c .before .if3 .left)
 
 low : (c : tie.After-wide Inv-loop μ-loop) → (48 ≤ c .wide .result) × (c .wide .result < 58)
-low c = rw (c .wide .ensures) (digit-low _ (is-digit c))
+low c = rw (c .wide .ensures .0) (digit-low _ (is-digit c))
 
 small : (c : tie.After-wide Inv-loop μ-loop) → c .before .before .before .before .before .before .before .before .loop .v < 100
 small c = may-small (c .before .before .before .before .before .before .before .before .loop .n) (c .before .before .before .before .before .before .before .before .loop .v) (c .before .before .before .before .before .before .before .before .loop .inv .1) (may c)
@@ -92,7 +92,7 @@ loop-again c =
     let l = c .before .before .before .before .before .before .before .before .loop in (
       omega (arith, low c, small c),
       λ z. omega arith,
-      rw (c .wide .ensures) (sym (scan-step (now (c .before .before .before .before .before .before .before .before .before .before .args .s)) (l .i) (l .n) (l .v) (c .before .before .before .before .before .before .before .loop-test .taken) (c .before .before .before .before .before .if1 .left) (is-digit c) (may c)) ∙ l .inv .2),
+      rw (c .wide .ensures .0) (sym (scan-step (now (c .before .before .before .before .before .before .before .before .before .before .args .s)) (l .i) (l .n) (l .v) (c .before .before .before .before .before .before .before .loop-test .taken) (c .before .before .before .before .before .if1 .left) (is-digit c) (may c)) ∙ l .inv .2),
     )
 
 finish-requires-2 : tie.Need-finish-requires-2 Inv-loop μ-loop

@@ -58,6 +58,13 @@ first-line (b ∷ s) h = go (eqb b 10) h (λ k. first-line s k)
     go false h ih = ap (onFirst b) (ih (omega arith))
 
 module _ (s : List ℕ) (at : ℕ) where
+  pub line-part : (e : ℕ) → e ≡ at + length (lineOf (drop at s)) → take (e - at) (drop at s) ≡ lineOf (drop at s)
+  line-part e end = let k : e - at ≡ length (lineOf (drop at s)) = omega arith in ap (λ x. take x (drop at s)) k ∙ line-front (drop at s)
+
+  -- a line that was handed out, as the part that the laws below name
+  pub line-taken : (l : List ℕ) → l ≡ lineOf (drop at s) → l ≡ take (at + length (lineOf (drop at s)) - at) (drop at s)
+  line-taken l q = q ∙ sym (line-part (at + length (lineOf (drop at s))) refl)
+
   pub line-bound : at ≤ length s → at + length (lineOf (drop at s)) ≤ length s
   line-bound h = omega (arith, line-short (drop at s), length-drop at s)
 
@@ -78,3 +85,15 @@ module _ (s : List ℕ) (at : ℕ) where
         first-line (drop at s) (omega (arith, length-drop at s))
         ∙ ap (λ l. more l (linesOf (drop (suc (length (lineOf (drop at s)))) (drop at s)))) (sym (line-front (drop at s)) ∙ ap (λ x. take x (drop at s)) k)
         ∙ ap (λ l. more (take (e - at) (drop at s)) (linesOf l)) (drop-drop (suc (length (lineOf (drop at s)))) at s ∙ ap (λ x. drop x s) n)
+
+  -- The same by the line that was handed out and the place behind it.
+  module _ (l : List ℕ) (q : ℕ) (taken : (l ≡ lineOf (drop at s)) × (q ≡ at + length (lineOf (drop at s)) + 1)) where
+    pub next-cut : at < length s → length s < q → linesOf (drop at s) ≡ cut
+    next-cut inside h = let p = taken .1 in lines-cut (at + length (lineOf (drop at s))) inside refl (omega arith)
+
+    pub next-more : q ≤ length s → linesOf (drop at s) ≡ more l (linesOf (drop q s))
+    next-more h =
+        let p = taken .1 in
+        lines-more (at + length (lineOf (drop at s))) (omega arith) refl (omega arith)
+        ∙ ap (λ x. more x (linesOf (drop (at + length (lineOf (drop at s)) + 1) s))) (sym (line-taken l (taken .0)))
+        ∙ ap (λ x. more l (linesOf (drop x s))) (sym p)
