@@ -20,16 +20,10 @@ use Rattle.model.specs.ReadJob.{trackLine, cartLine, callLine, hasRoom}
 use Rattle.job.specs.declared.state.Job.{Job}
 use Rattle.job.proofs.state.Job.{the-type}
 use Rattle.job.specs.Arrays.{pairs, jobOf, Sized}
+pub use Rattle.job.specs.Arrays.{Long}
 use Rattle.job.proofs.Pairs.{in-first, pairs-count, pairs-at, in-pairs}
 
--- How long the arrays are: a declared record does not say it, but a function that is passed the job knows it, as `c .good` of its start.
-pub record Long (s : Job) : Type 0 where
-  pub from : length (s .from) ≡ maxTracks
-  pub to : length (s .to) ≡ maxTracks
-  pub starts : length (s .starts) ≡ maxCarts
-  pub lifts : length (s .lifts) ≡ maxCalls
-  pub deadlines : length (s .deadlines) ≡ maxCalls
-
+-- How long the arrays are: a function that is passed the job knows it, as `c .good` of its start.
 -- `long job (c .good .0 .0) (c .good .0 .1 .1)` where the job is the first parameter
 pub long : (s : Job) (vss : Valss (fields the-type)) → shadow (owns (fields the-type) (the-type .to s) vss) → Long s
 long s vss g = record { from = search needs; to = search needs; starts = search needs; lifts = search needs; deadlines = search needs }

@@ -14,7 +14,7 @@ use borrow.Author.Tests.{ltb-true, ltb-false, eq-eqb, ne-eqb}
 use Rattle.model.specs.Job as model
 use Rattle.model.specs.Job.{track, call}
 use Rattle.model.specs.Text.{startsWith, fieldsOf, andNumber, numbersOf, opens, floorWord, trackWord, cartWord, callWord}
-use Rattle.model.specs.ReadJob.{Said, wrong, right, floorLine, trackLine, cartLine, callLine, mayFollow, fieldCount, inRange, hasRoom, isNew, add, numbersSay, fieldsSay, lineSays}
+use Rattle.model.specs.ReadJob.{Said, wrong, floorLine, trackLine, cartLine, callLine, mayFollow, fieldCount, numbersSay, fieldsSay, lineSays}
 use Rattle.model.specs.ReadJob as read
 use Rattle.model.proofs.Basics.{nope}
 use Rattle.text.specs.declared.scan.Scan.the-variants as scan
@@ -24,7 +24,7 @@ use Rattle.job.specs.declared.line.Fault.{Fault}
 use Rattle.job.specs.declared.line.Fault.the-variants.{Form, Number}
 use Rattle.job.specs.declared.line.Numbers.{Numbers}
 use Rattle.job.specs.declared.line.Numbers.the-variants.{Bad, Good}
-use Rattle.job.specs.declared.line.Counts.{Counts}
+use Rattle.job.specs.declared.state.Counts.{Counts}
 use Rattle.job.specs.Lines.{faultNumber, numbersBy, numbersGiven, Counted}
 
 -- Numbers. The field after the number at 0 starts at next + 1, if there is one.
@@ -74,21 +74,20 @@ module _ (s : List ℕ) where
               ))
           go false q = number-last s (next + 1) w end f (ltb-false _ _ q)
 
--- Fields. The tests that need the job, in their order, over numbers that are given.
-unfoldable pub testsSay : model.Job → read.Kind → Numbers → Said
-testsSay j k (Bad f) = wrong (faultNumber f)
-testsSay j k (Good a b) =
-    cond (inRange j k a b) (cond (hasRoom j k) (cond (isNew j k a b) (right (add j k a b)) (wrong 7)) (wrong 6)) (wrong 5)
+-- Fields. What they say by the numbers that they give.
+unfoldable pub givenSay : model.Job → read.Kind → Numbers → Said
+givenSay j k (Bad f) = wrong (faultNumber f)
+givenSay j k (Good a b) = numbersSay j k (some (a ∷ b ∷ []))
 
 module _ (j : model.Job) (k : read.Kind) (fs : List (List ℕ)) where
   pub fields-out : mayFollow j k ≡ false → fieldsSay j k fs ≡ wrong 3
   fields-out m = simp m
 
-  pub fields-by : mayFollow j k ≡ true → fieldsSay j k fs ≡ testsSay j k (numbersGiven (fieldCount k) fs)
-  unfolding testsSay
+  pub fields-by : mayFollow j k ≡ true → fieldsSay j k fs ≡ givenSay j k (numbersGiven (fieldCount k) fs)
+  unfolding givenSay
   fields-by m = simp m (go (eqb (length fs) (fieldCount k)) (numbersOf fs))
     where
-      go : (t : Bool) (o : Option (List ℕ)) → cond t (numbersSay j k o) (wrong 3) ≡ testsSay j k (cond t (numbersBy o) (Bad Form))
+      go : (t : Bool) (o : Option (List ℕ)) → cond t (numbersSay j k o) (wrong 3) ≡ givenSay j k (cond t (numbersBy o) (Bad Form))
       go false o = refl
       go true none = refl
       go true (some ns) = refl
@@ -112,15 +111,6 @@ some-job c = (
 )
 
 -- Words.
-pub opens-long : (w l : List ℕ) → startsWith w l ≡ true → length w ≤ length l
-opens-long [] l e = omega arith
-opens-long (a ∷ w) [] e = nope (cc)
-opens-long (a ∷ w) (b ∷ l) e = go (eqb b a) e (opens-long w l)
-  where
-    go : (t : Bool) → cond t (startsWith w l) false ≡ true → (startsWith w l ≡ true → length w ≤ length l) → suc (length w) ≤ suc (length l)
-    go true e ih = omega (arith, ih e)
-    go false e ih = nope (cc)
-
 module _ (j : model.Job) (l : List ℕ) where
   -- The code hands on the part from n to the line's end.
   part : (k : read.Kind) (n : ℕ) → fieldsSay j k (fieldsOf (take (length l - n) (drop n l))) ≡ fieldsSay j k (fieldsOf (drop n l))

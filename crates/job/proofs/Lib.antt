@@ -4,3 +4,4 @@ pub mod Tests
 pub mod Marks
 pub mod Entries
 pub mod Turns
+pub mod Rows

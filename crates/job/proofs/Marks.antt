@@ -1,5 +1,5 @@
 -- The table stays true to the job. A table of zeros is that of no job; a mark at a line's place adds the line and no other, since different
--- lines have different places: a * 256 + b for b below 256, then the row of the carts, then that of the calls. Assumes nothing.
+-- lines have different places: a row for the tracks from each cell, then the row of the carts, then that of the calls. Assumes nothing.
 use Prim.Native.Nat.{ℕ, zero, suc, _+_, _*_, _<_}
 use mathlib.Core.Path.{_≡_, refl, sym, ap, _∙_}
 use mathlib.Core.List.{List, [], _∷_, _++_, map, map-append}
@@ -9,13 +9,14 @@ use lib.Dec.{eqb}
 use lib.ListN.{length, getD, set, replicate, length-set}
 use lib.Seq.{getD-set-same, getD-set-other}
 use borrow.Author.Tests.{eqb-true, eq-eqb}
+use Rattle.model.specs.Limits.{maxCells}
 use Rattle.model.specs.Job as model
 use Rattle.model.specs.Job.{track, call}
 use Rattle.model.specs.ReadJob.{noJob, add, leads, member}
 use Rattle.model.proofs.Basics.{and-left, and-right, and-both, nope}
 use Rattle.job.specs.declared.state.Kind.{Kind}
 use Rattle.job.specs.declared.state.Kind.the-variants.{Floor, Track, Cart, Call}
-use Rattle.job.specs.Lines.{kindOf, Small, tableSize, placeOf, marked, bit, Marked}
+use Rattle.job.specs.Lines.{kindOf, Small, cartRow, callRow, tableSize, placeOf, marked, bit, Marked}
 
 zeros : (n i : ℕ) → _≡_ {A = ℕ} (getD (replicate n 0) i 0) 0
 zeros zero i = refl
@@ -23,7 +24,7 @@ zeros (suc n) zero = refl
 zeros (suc n) (suc i) = zeros n i
 
 pub marked-none : (seen : List ℕ) → ((i : ℕ) → getD seen i 0 ≡ 0) → Marked seen noJob
-marked-none seen z = record { tracks = λ a b h k. z (a * 256 + b); carts = λ a h. z (65536 + a); calls = λ a h. z (65792 + a) }
+marked-none seen z = record { tracks = λ a b h k. z (a * maxCells + b); carts = λ a h. z (cartRow + a); calls = λ a h. z (callRow + a) }
 
 pub marked-zeros : (n : ℕ) → Marked (replicate n 0) noJob
 marked-zeros n = marked-none (replicate n 0) (zeros n)
@@ -36,9 +37,9 @@ place-small Call a b s = omega arith
 
 pub marked-length : (seen : List ℕ) (k : Kind) (a b : ℕ) → length (marked seen k a b) ≡ length seen
 marked-length seen Floor a b = refl
-marked-length seen Track a b = length-set seen (a * 256 + b) 1
-marked-length seen Cart a b = length-set seen (65536 + a) 1
-marked-length seen Call a b = length-set seen (65792 + a) 1
+marked-length seen Track a b = length-set seen (a * maxCells + b) 1
+marked-length seen Cart a b = length-set seen (cartRow + a) 1
+marked-length seen Call a b = length-set seen (callRow + a) 1
 
 -- One track or one cell more.
 leads-more : (a b u v : ℕ) (ts : List model.Track) → leads a b (ts ++ (track u v ∷ [])) ≡ (leads a b ts || (eqb a u && eqb b v))
@@ -68,13 +69,13 @@ module _ (seen : List ℕ) (j : model.Job) (long : length seen ≡ tableSize) (m
       rw (member-more a u l)
       (told (r + u) (r + a) (member a l) (eqb a u) h (λ t. ap (λ x. r + x) (eqb-true a u t)) (λ q. eq-eqb a u (omega arith)) e)
 
-  told-track : (u v a b : ℕ) → u < 256 → v < 256 → a < 256 → b < 256
-      → getD (set seen (u * 256 + v) 1) (a * 256 + b) 0 ≡ bit (leads a b (j .tracks ++ (track u v ∷ [])))
+  told-track : (u v a b : ℕ) → u < maxCells → v < maxCells → a < maxCells → b < maxCells
+      → getD (set seen (u * maxCells + v) 1) (a * maxCells + b) 0 ≡ bit (leads a b (j .tracks ++ (track u v ∷ [])))
   told-track u v a b s t h k =
       rw (leads-more a b u v (j .tracks))
       (told
-      (u * 256 + v)
-      (a * 256 + b)
+      (u * maxCells + v)
+      (a * maxCells + b)
       (leads a b (j .tracks))
       (eqb a u && eqb b v)
       (omega arith)
@@ -86,17 +87,17 @@ module _ (seen : List ℕ) (j : model.Job) (long : length seen ≡ tableSize) (m
   marked-add Floor u v s = record { tracks = m .tracks; carts = m .carts; calls = m .calls }
   marked-add Track u v (s, t) = record {
     tracks = λ a b h k. told-track u v a b s t h k;
-    carts = λ a h. kept (u * 256 + v) (65536 + a) (λ e. omega arith) (m .carts a h);
-    calls = λ a h. kept (u * 256 + v) (65792 + a) (λ e. omega arith) (m .calls a h);
+    carts = λ a h. kept (u * maxCells + v) (cartRow + a) (λ e. omega arith) (m .carts a h);
+    calls = λ a h. kept (u * maxCells + v) (callRow + a) (λ e. omega arith) (m .calls a h);
   }
   marked-add Cart u v s = record {
-    tracks = λ a b h k. kept (65536 + u) (a * 256 + b) (λ e. omega arith) (m .tracks a b h k);
-    carts = λ a h. told-cell 65536 u a (j .carts) (omega arith) (m .carts a h);
-    calls = λ a h. kept (65536 + u) (65792 + a) (λ e. omega arith) (m .calls a h);
+    tracks = λ a b h k. kept (cartRow + u) (a * maxCells + b) (λ e. omega arith) (m .tracks a b h k);
+    carts = λ a h. told-cell cartRow u a (j .carts) (omega arith) (m .carts a h);
+    calls = λ a h. kept (cartRow + u) (callRow + a) (λ e. omega arith) (m .calls a h);
   }
   marked-add Call u v (s, t) = record {
-    tracks = λ a b h k. kept (65792 + u) (a * 256 + b) (λ e. omega arith) (m .tracks a b h k);
-    carts = λ a h. kept (65792 + u) (65536 + a) (λ e. omega arith) (m .carts a h);
+    tracks = λ a b h k. kept (callRow + u) (a * maxCells + b) (λ e. omega arith) (m .tracks a b h k);
+    carts = λ a h. kept (callRow + u) (cartRow + a) (λ e. omega arith) (m .carts a h);
     calls = λ a h.
-        rw (map-append (λ q. q .cell) (j .calls) (call u v ∷ [])) (told-cell 65792 u a (map (λ q. q .cell) (j .calls)) (omega arith) (m .calls a h));
+        rw (map-append (λ q. q .cell) (j .calls) (call u v ∷ [])) (told-cell callRow u a (map (λ q. q .cell) (j .calls)) (omega arith) (m .calls a h));
   }

@@ -9,13 +9,8 @@ use native.Mathlib.Numerals.{add-one}
 use lib.ListN.{length, getD, take, set}
 use lib.Seq.{length-take-le, getD-take, take-suc, take-suc-set}
 use Rattle.model.specs.Lists.{In}
-use Rattle.model.proofs.Lists.{in-getD}
+use Rattle.model.proofs.Lists.{in-getD, in-place}
 use Rattle.job.specs.Arrays.{pairs}
-
-in-place : {A : Type 0} (a : A) (l : List A) (d : A) → In a l → (k : ℕ) × (k < length l) × (a ≡ getD l k d)
-in-place a [] d m = absurd m
-in-place a (b ∷ l) d (inl e) = (0, omega arith, e)
-in-place a (b ∷ l) d (inr m) = let (k, h, e) = in-place a l d m in (suc k, omega arith, e)
 
 pub first-more : {A : Type 0} (xs : List A) (n : ℕ) (a : A) → n < length xs → take (n + 1) (set xs n a) ≡ take n xs ++ (a ∷ [])
 first-more xs n a h = rw add-one (take-suc-set xs n a h)

@@ -8,12 +8,13 @@ use native.Mathlib.Omega.{arith}
 use lib.Dec.{ltb, leb, eqb}
 use lib.ListN.{length}
 use borrow.Author.Tests.{ltb-true, leb-true, ne-eqb}
+use Rattle.model.specs.Limits.{maxCells, maxSteps}
 use Rattle.model.specs.Job as model
 use Rattle.model.specs.ReadJob.{trackLine, cartLine, isEmpty, mayFollow, inRange}
 use Rattle.model.proofs.Basics.{and-left, and-right}
 use Rattle.job.specs.declared.state.Kind.{Kind}
 use Rattle.job.specs.declared.state.Kind.the-variants.{Floor, Track, Cart, Call}
-use Rattle.job.specs.declared.line.Counts.{Counts}
+use Rattle.job.specs.declared.state.Counts.{Counts}
 use Rattle.job.specs.Lines.{kindOf, bit, Counted, Small}
 
 pub empty-count : {A : Type 0} (l : List A) → isEmpty l ≡ eqb (length l) 0
@@ -40,13 +41,13 @@ module _ (c : Counts) (j : model.Job) (k : Counted c j) where
   pub carts-follow : mayFollow j cartLine ≡ (ltb 0 (c .cells) && eqb (c .calls) 0)
   carts-follow = simp (k .cells, k .calls, empty-count)
 
-pub range-small : (j : model.Job) (k : Kind) (a b : ℕ) → j .cells ≤ 256 → inRange j (kindOf k) a b ≡ true → Small k a b
-range-small j Floor a b h e = leb-true a 256 (and-right (ltb 0 a) (leb a 256) e)
+pub range-small : (j : model.Job) (k : Kind) (a b : ℕ) → j .cells ≤ maxCells → inRange j (kindOf k) a b ≡ true → Small k a b
+range-small j Floor a b h e = leb-true a maxCells (and-right (ltb 0 a) (leb a maxCells) e)
 range-small j Track a b h e =
     let l = ltb-true a (j .cells) (and-left (ltb a (j .cells)) (ltb b (j .cells)) e) in
     let r = ltb-true b (j .cells) (and-right (ltb a (j .cells)) (ltb b (j .cells)) e) in
     (omega arith, omega arith)
 range-small j Cart a b h e = let l = ltb-true a (j .cells) e in omega arith
 range-small j Call a b h e =
-    let l = ltb-true a (j .cells) (and-left (ltb a (j .cells)) (ltb b 256) e) in
-    (omega arith, ltb-true b 256 (and-right (ltb a (j .cells)) (ltb b 256) e))
+    let l = ltb-true a (j .cells) (and-left (ltb a (j .cells)) (ltb b maxSteps) e) in
+    (omega arith, ltb-true b maxSteps (and-right (ltb a (j .cells)) (ltb b maxSteps) e))

@@ -6,22 +6,22 @@ use mathlib.Core.List.{List}
 use native.Mathlib.Omega.{arith}
 use lib.ListN.{length, take, drop, replicate, length-replicate}
 use borrow.Author.Tests.{lt-ltb, le-ltb, eq-eqb, ne-eqb}
-use Rattle.model.specs.Limits.{maxTracks, maxCarts, maxCalls, maxText}
+use Rattle.model.specs.Limits.{maxCells, maxTracks, maxCarts, maxCalls, maxText}
 use Rattle.model.specs.Job as model
 use Rattle.model.specs.Text.{linesOf}
-use Rattle.model.specs.ReadJob.{Said, refused, accepted, noJob, add, goOn, lineSays, linesSay, wholeJob, readJob}
+use Rattle.model.specs.ReadJob.{Said, refused, accepted, add, goOn, lineSays, linesSay, wholeJob, readJob}
 use Rattle.text.specs.Scan.{lineOf}
-use Rattle.text.proofs.Lines.{lines-done, lines-cut, lines-more}
+use Rattle.text.proofs.LineLaws.{lines-done, lines-cut, lines-more}
 use Rattle.job.specs.declared.state.Kind.{Kind}
 use Rattle.job.specs.declared.state.Kind.the-variants.{Floor, Track, Cart, Call}
 use Rattle.job.specs.declared.state.Job.{Job}
-use Rattle.job.specs.declared.line.Counts.{Counts}
+use Rattle.job.specs.declared.state.Counts.{Counts}
 use Rattle.job.specs.declared.line.Fault.{Fault}
 use Rattle.job.specs.declared.line.Entry.{Entry}
 use Rattle.job.specs.declared.line.Entry.the-variants.{Wrong, Right}
-use Rattle.job.specs.Arrays.{jobOf, Sized}
-use Rattle.job.specs.Lines.{kindOf, faultNumber, saidBy, Counted, Small, tableSize, marked, Marked}
-use Rattle.job.proofs.Arrays.{Long, whole, tracks-count, carts-count, calls-count}
+use Rattle.job.specs.Arrays.{jobOf, held, Sized, Long}
+use Rattle.job.specs.Lines.{kindOf, faultNumber, saidBy, Counted, Small, Taken, tableSize, marked, Marked}
+use Rattle.job.proofs.Arrays.{whole, tracks-count, carts-count, calls-count}
 use Rattle.job.proofs.Marks.{marked-zeros, marked-add, marked-length}
 
 module _ (s : List ℕ) (at n : ℕ) (j : model.Job) where
@@ -53,8 +53,8 @@ pub record Kept (s : List ℕ) (job : Job) (seen : List ℕ) (at line : ℕ) : T
   pub short : length s ≤ maxText
   pub lines : line ≤ at + 1
   pub sized : Sized job
-  pub counts : Counted (countsOf job) (jobOf job)
-  pub cells : job .cells ≤ 256
+  pub long : Long job
+  pub cells : job .cells ≤ maxCells
   pub table : length seen ≡ tableSize
   pub marks : Marked seen (jobOf job)
   pub rest : linesSay (jobOf job) line (linesOf (drop at s)) ≡ readJob s
@@ -63,24 +63,40 @@ pub too-long : (s : List ℕ) → maxText < length s → refused 2 0 ≡ readJob
 unfolding readJob
 too-long s h = simp (lt-ltb _ _ h)
 
-pub kept-first : (s : List ℕ) (job : Job) → length s ≤ maxText → jobOf job ≡ noJob → Sized job → Counted (countsOf job) (jobOf job)
-    → Kept s job (replicate tableSize 0) 0 1
-unfolding readJob
-kept-first s job h e z q =
-    let c : job .cells ≡ 0 = ap (λ j. j .cells) e in
-    record {
-      within = omega arith;
-      short = h;
-      lines = omega arith;
-      sized = z;
-      counts = q;
-      cells = omega arith;
-      table = length-replicate {A = ℕ} tableSize 0;
-      marks = rw e (marked-zeros tableSize);
-      rest = rw e (simp (le-ltb _ _ h));
-    }
+pub kept-counts : {s : List ℕ} {job : Job} {seen : List ℕ} {at line : ℕ} → Kept s job seen at line → Counted (countsOf job) (jobOf job)
+kept-counts {s} {job} k = counted job (k .sized) (k .long)
 
-cells-small : (j : model.Job) (k : Kind) (a b : ℕ) → j .cells ≤ 256 → Small k a b → add j (kindOf k) a b .cells ≤ 256
+-- The arrays before the first line.
+abbrev pub unfilled : Job
+unfilled = held
+    (record { cells = 0; tracks = 0; carts = 0; calls = 0 })
+    (replicate maxTracks 0)
+    (replicate maxTracks 0)
+    (replicate maxCarts 0)
+    (replicate maxCalls 0)
+    (replicate maxCalls 0)
+
+pub kept-first : (s : List ℕ) → length s ≤ maxText → Kept s unfilled (replicate tableSize 0) 0 1
+unfolding readJob
+kept-first s h = record {
+  within = omega arith;
+  short = h;
+  lines = omega arith;
+  sized = record { tracks = omega arith; carts = omega arith; calls = omega arith };
+  long = record {
+    from = length-replicate {A = ℕ} maxTracks 0;
+    to = length-replicate {A = ℕ} maxTracks 0;
+    starts = length-replicate {A = ℕ} maxCarts 0;
+    lifts = length-replicate {A = ℕ} maxCalls 0;
+    deadlines = length-replicate {A = ℕ} maxCalls 0;
+  };
+  cells = omega arith;
+  table = length-replicate {A = ℕ} tableSize 0;
+  marks = marked-zeros tableSize;
+  rest = simp (le-ltb _ _ h);
+}
+
+cells-small : (j : model.Job) (k : Kind) (a b : ℕ) → j .cells ≤ maxCells → Small k a b → add j (kindOf k) a b .cells ≤ maxCells
 cells-small j Floor a b h s = s
 cells-small j Track a b h s = h
 cells-small j Cart a b h s = h
@@ -98,16 +114,17 @@ module _ (s : List ℕ) (job : Job) (seen : List ℕ) (at line : ℕ) (k : Kept 
       pub ends-wrong : (f : Fault) → entry ≡ Wrong f → refused (faultNumber f) line ≡ readJob s
       ends-wrong f w = rw w at turned
 
-      pub kept-next : (kind : Kind) (a b : ℕ) (r : Job) (seen′ : List ℕ) → entry ≡ Right kind a b → Small kind a b → jobOf r ≡ add (jobOf job) (kindOf kind) a b
-          → Sized r → Counted (countsOf r) (jobOf r) → seen′ ≡ marked seen kind a b → Kept s r seen′ (e + 1) (line + 1)
-      kept-next kind a b r seen′ w small g z q m =
+      pub kept-next : (kind : Kind) (a b : ℕ) (r : Job) (seen′ : List ℕ) → entry ≡ Right kind a b → Small kind a b → Taken job kind a b r
+          → seen′ ≡ marked seen kind a b → Kept s r seen′ (e + 1) (line + 1)
+      kept-next kind a b r seen′ w small t m =
+          let g = t .adds in
           let c : r .cells ≡ add (jobOf job) (kindOf kind) a b .cells = ap (λ j. j .cells) g in
           record {
             within = omega arith;
             short = k .short;
             lines = omega (arith, k .lines);
-            sized = z;
-            counts = q;
+            sized = t .sized;
+            long = t .long;
             cells = omega (arith, cells-small (jobOf job) kind a b (k .cells) small);
             table = ap length m ∙ marked-length seen kind a b ∙ k .table;
             marks = rw (m, g) (marked-add seen (jobOf job) (k .table) (k .marks) kind a b small);
@@ -124,10 +141,10 @@ module _ (s : List ℕ) (job : Job) (seen : List ℕ) (at line : ℕ) (k : Kept 
     module _ (some : job .cells ≡ 0 → ⊥) where
       pub ends-uneven : (job .carts ≡ job .calls → ⊥) → refused 8 0 ≡ readJob s
       ends-uneven d =
-          let n : length (jobOf job .carts) ≡ length (jobOf job .calls) → ⊥ = λ e. d (k .counts .carts ∙ e ∙ sym (k .counts .calls)) in
+          let n : length (jobOf job .carts) ≡ length (jobOf job .calls) → ⊥ = λ e. d (kept-counts k .carts ∙ e ∙ sym (kept-counts k .calls)) in
           simp (ne-eqb _ _ some, ne-eqb _ _ n) at ended
 
       pub ends-job : job .carts ≡ job .calls → accepted (jobOf job) ≡ readJob s
       ends-job d =
-          let n : length (jobOf job .carts) ≡ length (jobOf job .calls) = sym (k .counts .carts) ∙ d ∙ k .counts .calls in
+          let n : length (jobOf job .carts) ≡ length (jobOf job .calls) = sym (kept-counts k .carts) ∙ d ∙ kept-counts k .calls in
           simp (ne-eqb _ _ some, eq-eqb _ _ n) at ended

@@ -2,7 +2,7 @@
 use Prim.Native.Nat.{ℕ, _≤_, _+_}
 use mathlib.Core.Path.{_≡_}
 use mathlib.Core.List.{List}
-use lib.ListN.{length}
+use Rattle.model.specs.Limits.{maxText}
 use Rattle.model.specs.Job as model
 use Rattle.model.specs.ReadJob.{Verdict, refused, accepted, readJob}
 use Rattle.job.specs.declared.line.Entry.{Entry}
@@ -27,7 +27,7 @@ answerOf (Right k a b) l = Accepted
 abbrev pub LineFits : Answer → Type 0
 LineFits Accepted = Unit
 LineFits TooLong = Unit
-LineFits (BadLine f l) = l ≤ 16385
+LineFits (BadLine f l) = l ≤ maxText + 1
 LineFits Uneven = Unit
 
 -- What the reader promises: the verdict is that of the text.

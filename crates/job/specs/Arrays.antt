@@ -1,11 +1,13 @@
 -- The job that the arrays hold.
 use Prim.Native.Nat.{ℕ, _≤_}
+use mathlib.Core.Path.{_≡_}
 use mathlib.Core.List.{List, [], _∷_}
-use lib.ListN.{take}
+use lib.ListN.{length, take}
 use Rattle.model.specs.Limits.{maxTracks, maxCarts, maxCalls}
 use Rattle.model.specs.Job as model
 use Rattle.model.specs.Job.{track, call}
 use Rattle.job.specs.declared.state.Job.{Job}
+use Rattle.job.specs.declared.state.Counts.{Counts}
 
 -- the pairs of two lists
 abbrev pub pairs : {A : Type 0} → (ℕ → ℕ → A) → List ℕ → List ℕ → List A
@@ -21,8 +23,30 @@ jobOf s = record {
   calls = pairs call (take (s .calls) (s .lifts)) (take (s .calls) (s .deadlines));
 }
 
+-- the arrays of a job while they are filled, with their counts, as a job
+abbrev pub held : Counts → List ℕ → List ℕ → List ℕ → List ℕ → List ℕ → Job
+held c from to starts lifts deadlines = record {
+  cells = c .cells;
+  tracks = c .tracks;
+  from = from;
+  to = to;
+  carts = c .carts;
+  starts = starts;
+  calls = c .calls;
+  lifts = lifts;
+  deadlines = deadlines;
+}
+
 -- The counts keep within the arrays.
 pub record Sized (s : Job) : Type 0 where
   pub tracks : s .tracks ≤ maxTracks
   pub carts : s .carts ≤ maxCarts
   pub calls : s .calls ≤ maxCalls
+
+-- The arrays are as long as they are declared, which the list of their entries does not say.
+pub record Long (s : Job) : Type 0 where
+  pub from : length (s .from) ≡ maxTracks
+  pub to : length (s .to) ≡ maxTracks
+  pub starts : length (s .starts) ≡ maxCarts
+  pub lifts : length (s .lifts) ≡ maxCalls
+  pub deadlines : length (s .deadlines) ≡ maxCalls

@@ -1,15 +1,13 @@
--- Paths and choke points as a sheet's reader and writer hold them: two lists with the first and second number of each line, and rows of 256 for the cells of paths.
-use Prim.Native.Nat.{ℕ, zero, suc, _*_, _≤_}
+-- Paths and choke points as a sheet's reader and writer hold them: two lists with the first and second number of each line, and a row of steps for the cells of each path.
+use Prim.Native.Nat.{ℕ, zero, suc, _*_}
 use mathlib.Core.Path.{_≡_}
 use mathlib.Core.List.{List, [], _∷_, _++_}
 use mathlib.Core.Bool.{Bool, true, false}
 use lib.ListN.{length, getD, take, drop}
-use Rattle.model.specs.Lists.{In}
-use Rattle.model.specs.Limits.{maxCalls}
+use Rattle.model.specs.Limits.{maxCalls, maxSteps}
 use Rattle.model.specs.Job.{Job, callOf}
 use Rattle.model.specs.Plan.{Path}
 use Rattle.model.specs.Choke.{Point, point}
-use Rattle.model.specs.ReadSheet.{knownPath, knownPoint}
 use Rattle.job.specs.Arrays.{pairs}
 
 -- the path of the k-th line: its cells are the first of row k, one more than its call's deadline
@@ -17,7 +15,7 @@ abbrev pub pathAt : Job → List ℕ → List ℕ → List ℕ → ℕ → Path
 pathAt j carts calls rows k = record {
   cart = getD carts k 0;
   call = getD calls k 0;
-  cells = take (suc (callOf j (getD calls k 0) .deadline)) (drop (k * 256) rows);
+  cells = take (suc (callOf j (getD calls k 0) .deadline)) (drop (k * maxSteps) rows);
 }
 
 -- the first n paths
@@ -37,7 +35,7 @@ pointsOf cells steps n = pairs point (take n cells) (take n steps)
 pub record Room (first second rows : List ℕ) : Type 0 where
   pub firsts : length first ≡ maxCalls
   pub seconds : length second ≡ maxCalls
-  pub cells : length rows ≡ 16384
+  pub cells : length rows ≡ maxCalls * maxSteps
 
 -- What a test of P answers.
 abbrev pub Decides : Bool → Type 0 → Type 0

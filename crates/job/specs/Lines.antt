@@ -6,6 +6,7 @@ use mathlib.Core.Option.{Option, none, some}
 use mathlib.Core.Bool.{Bool, true, false, cond}
 use lib.Dec.{eqb}
 use lib.ListN.{length, getD, set}
+use Rattle.model.specs.Limits.{maxCells, maxSteps}
 use Rattle.model.specs.Job as model
 use Rattle.model.specs.Text.{numbersOf}
 use Rattle.model.specs.ReadJob as read
@@ -17,7 +18,9 @@ use Rattle.job.specs.declared.line.Entry.{Entry}
 use Rattle.job.specs.declared.line.Entry.the-variants.{Wrong, Right}
 use Rattle.job.specs.declared.line.Numbers.{Numbers}
 use Rattle.job.specs.declared.line.Numbers.the-variants.{Bad, Good}
-use Rattle.job.specs.declared.line.Counts.{Counts}
+use Rattle.job.specs.declared.state.Counts.{Counts}
+use Rattle.job.specs.declared.state.Job.{Job}
+use Rattle.job.specs.Arrays.{jobOf, Sized, Long}
 
 abbrev pub kindOf : Kind → read.Kind
 kindOf Floor = read.floorLine
@@ -54,19 +57,39 @@ pub record Counted (c : Counts) (j : model.Job) : Type 0 where
 
 -- The numbers are small enough for the table, and for bytes.
 abbrev pub Small : Kind → ℕ → ℕ → Type 0
-Small Floor a b = a ≤ 256
-Small Track a b = (a < 256) × (b < 256)
-Small Cart a b = a < 256
-Small Call a b = (a < 256) × (b < 256)
+Small Floor a b = a ≤ maxCells
+Small Track a b = (a < maxCells) × (b < maxCells)
+Small Cart a b = a < maxCells
+Small Call a b = (a < maxCells) × (b < maxSteps)
+
+-- The arrays of a job can take a line: its numbers are small, and there is room.
+pub record Takes (s : Job) (k : Kind) (a b : ℕ) : Type 0 where
+  pub sized : Sized s
+  pub long : Long s
+  pub small : Small k a b
+  pub room : read.hasRoom (jobOf s) (kindOf k) ≡ true
+
+-- The arrays with the line at the end of those of its kind.
+pub record Taken (s : Job) (k : Kind) (a b : ℕ) (t : Job) : Type 0 where
+  pub adds : jobOf t ≡ read.add (jobOf s) (kindOf k) a b
+  pub sized : Sized t
+  pub long : Long t
+
+-- The table: a row of cells for the tracks from each cell, then one for the carts and one for the calls.
+abbrev pub cartRow : ℕ
+cartRow = maxCells * maxCells
+
+abbrev pub callRow : ℕ
+callRow = maxCells * (maxCells + 1)
 
 abbrev pub tableSize : ℕ
-tableSize = 66048
+tableSize = maxCells * (maxCells + 2)
 
 abbrev pub placeOf : Kind → ℕ → ℕ → ℕ
 placeOf Floor a b = 0
-placeOf Track a b = a * 256 + b
-placeOf Cart a b = 65536 + a
-placeOf Call a b = 65792 + a
+placeOf Track a b = a * maxCells + b
+placeOf Cart a b = cartRow + a
+placeOf Call a b = callRow + a
 
 abbrev pub marked : List ℕ → Kind → ℕ → ℕ → List ℕ
 marked seen Floor a b = seen
@@ -80,9 +103,33 @@ bit false = 0
 
 -- The table says which tracks there are, and which cells have a cart or a call.
 pub record Marked (seen : List ℕ) (j : model.Job) : Type 0 where
-  pub tracks : (a b : ℕ) → a < 256 → b < 256 → getD seen (placeOf Track a b) 0 ≡ bit (read.leads a b (j .tracks))
-  pub carts : (a : ℕ) → a < 256 → getD seen (placeOf Cart a 0) 0 ≡ bit (read.member a (j .carts))
-  pub calls : (a : ℕ) → a < 256 → getD seen (placeOf Call a 0) 0 ≡ bit (read.member a (map (λ q. q .cell) (j .calls)))
+  pub tracks : (a b : ℕ) → a < maxCells → b < maxCells → getD seen (placeOf Track a b) 0 ≡ bit (read.leads a b (j .tracks))
+  pub carts : (a : ℕ) → a < maxCells → getD seen (placeOf Cart a 0) 0 ≡ bit (read.member a (j .carts))
+  pub calls : (a : ℕ) → a < maxCells → getD seen (placeOf Call a 0) 0 ≡ bit (read.member a (map (λ q. q .cell) (j .calls)))
+
+-- Whether the numbers of a line pass a test. A line that has numbers passed the first two.
+abbrev pub passing : model.Job → Fault → read.Kind → ℕ → ℕ → Bool
+passing j Form k a b = true
+passing j Number k a b = true
+passing j Range k a b = read.inRange j k a b
+passing j Room k a b = read.hasRoom j k
+passing j Doubled k a b = read.isNew j k a b
+
+-- What a test knows of the job: its counts, or its table.
+abbrev pub Known : Fault → Counts → List ℕ → model.Job → Type 0
+Known Form c seen j = Unit
+Known Number c seen j = Unit
+Known Range c seen j = Counted c j
+Known Room c seen j = Counted c j
+Known Doubled c seen j = Marked seen j
+
+-- What a test asks of the numbers: the table is for small ones only.
+abbrev pub Ready : Fault → Kind → ℕ → ℕ → Type 0
+Ready Form k a b = Unit
+Ready Number k a b = Unit
+Ready Range k a b = Unit
+Ready Room k a b = Unit
+Ready Doubled k a b = Small k a b
 
 -- An entry that is right has small numbers, and there is room for it.
 abbrev pub Sound : Counts → Entry → Type 0

@@ -1,15 +1,20 @@
 // One line: the five tests in their order, over the whole line.
+use crate::state;
+use crate::state::Counts;
 use crate::state::Kind;
+use model::Limits;
 use text::scan::Scan;
 ghost use mathlib.Core.Path.{_≡_};
-ghost use mathlib.Core.Bool.{true};
+ghost use mathlib.Core.List.{[], _∷_};
+ghost use mathlib.Core.Option.{some};
 ghost use mathlib.Core.Logic.{_⊎_};
 ghost use Prim.Native.Nat.{_<_, _≤_};
 ghost use lib.ListN.{length};
+ghost use Rattle.model.specs.Limits.{maxCells};
 ghost use Rattle.model.specs.Job as model;
 ghost use Rattle.model.specs.Text.{fieldsOf};
-ghost use Rattle.model.specs.ReadJob.{trackLine, mayFollow, inRange, hasRoom, isNew, fieldCount, fieldsSay, lineSays};
-ghost use Rattle.job.specs.Lines.{kindOf, saidBy, numbersGiven, Counted, Marked, Small, Sound, tableSize};
+ghost use Rattle.model.specs.ReadJob.{trackLine, mayFollow, inRange, hasRoom, isNew, fieldCount, numbersSay, fieldsSay, lineSays};
+ghost use Rattle.job.specs.Lines.{kindOf, saidBy, numbersGiven, Counted, Marked, Small, passing, Known, Ready, Sound, tableSize};
 
 // The first test that a line fails.
 pub enum Fault {
@@ -30,14 +35,6 @@ pub enum Entry {
 pub enum Numbers {
     Bad(Fault),
     Good { a: usize, b: usize },
-}
-
-// What the tests need of the job of the lines so far.
-pub struct Counts {
-    pub cells: usize,
-    pub tracks: usize,
-    pub carts: usize,
-    pub calls: usize,
 }
 
 fn field_count(kind: Kind) -> usize
@@ -86,10 +83,10 @@ fn in_range(kind: Kind, counts: Counts, a: usize, b: usize) -> bool
     ensures { λ r. ⌜ ((j : model.Job) → Counted counts j → r ≡ inRange j (kindOf kind) a b) ⌝ }
 {
     match kind {
-        Kind::Floor => 0 < a && a <= model::Limits::CELLS,
+        Kind::Floor => 0 < a && a <= Limits::CELLS,
         Kind::Track => a < counts.cells && b < counts.cells,
         Kind::Cart => a < counts.cells,
-        Kind::Call => a < counts.cells && b < model::Limits::STEPS,
+        Kind::Call => a < counts.cells && b < Limits::STEPS,
     }
 }
 
@@ -98,25 +95,25 @@ fn has_room(kind: Kind, counts: Counts) -> bool
 {
     match kind {
         Kind::Floor => true,
-        Kind::Track => counts.tracks < model::Limits::TRACKS,
-        Kind::Cart => counts.carts < model::Limits::CARTS,
-        Kind::Call => counts.calls < model::Limits::CALLS,
+        Kind::Track => counts.tracks < Limits::TRACKS,
+        Kind::Cart => counts.carts < Limits::CARTS,
+        Kind::Call => counts.calls < Limits::CALLS,
     }
 }
 
 // No track joins a and b yet, either way round, and they are two cells.
 fn is_new_track(seen: &[u8], a: usize, b: usize) -> bool
-    requires { ⌜ (a < 256) × (b < 256) × (length (now seen) ≡ tableSize) ⌝ }
+    requires { ⌜ (a < maxCells) × (b < maxCells) × (length (now seen) ≡ tableSize) ⌝ }
     ensures { λ r. ⌜ ((j : model.Job) → Marked (now (seen .entry)) j → r ≡ isNew j trackLine a b) ⌝ }
 {
     if a == b {
         return false;
     }
-    let there = seen[a * 256 + b];
+    let there = seen[a * Limits::CELLS + b];
     if there != 0 {
         return false;
     }
-    let back = seen[b * 256 + a];
+    let back = seen[b * Limits::CELLS + a];
     back == 0
 }
 
@@ -127,14 +124,44 @@ fn is_new(kind: Kind, seen: &[u8], a: usize, b: usize) -> bool
     match kind {
         Kind::Floor => true,
         Kind::Track => is_new_track(seen, a, b),
-        Kind::Cart => seen[65536 + a] == 0,
-        Kind::Call => seen[65792 + a] == 0,
+        Kind::Cart => seen[state::CART_ROW + a] == 0,
+        Kind::Call => seen[state::CALL_ROW + a] == 0,
     }
+}
+
+// Whether the numbers of a line pass a test. A line that has numbers passed the first two.
+fn passes(test: Fault, kind: Kind, counts: Counts, seen: &[u8], a: usize, b: usize) -> bool
+    requires { ⌜ Ready test kind a b × (length (now seen) ≡ tableSize) ⌝ }
+    ensures { λ r. ⌜ ((j : model.Job) → Known test counts (now (seen .entry)) j → r ≡ passing j test (kindOf kind) a b) ⌝ }
+{
+    match test {
+        Fault::Form | Fault::Number => true,
+        Fault::Range => in_range(kind, counts, a, b),
+        Fault::Room => has_room(kind, counts),
+        Fault::Doubled => is_new(kind, seen, a, b),
+    }
+}
+
+// What the numbers of a line of this kind say: the first test that they fail, or the line.
+fn numbers_say(kind: Kind, counts: Counts, seen: &[u8], a: usize, b: usize) -> Entry
+    requires { ⌜ (counts .cells ≤ maxCells) × (length (now seen) ≡ tableSize) ⌝ }
+    ensures { λ r. ⌜ Sound counts r × ((j : model.Job) → Counted counts j → Marked (now (seen .entry)) j → saidBy j r ≡ numbersSay j (kindOf kind) (some (a ∷ b ∷ []))) ⌝ }
+{
+    if !passes(Fault::Range, kind, counts, seen, a, b) {
+        return Entry::Wrong(Fault::Range);
+    }
+    if !passes(Fault::Room, kind, counts, seen, a, b) {
+        return Entry::Wrong(Fault::Room);
+    }
+    if !passes(Fault::Doubled, kind, counts, seen, a, b) {
+        return Entry::Wrong(Fault::Doubled);
+    }
+    Entry::Right { kind, a, b }
 }
 
 // What the fields of a line of this kind say.
 fn fields_say(kind: Kind, fields: &[u8], counts: Counts, seen: &[u8]) -> Entry
-    requires { ⌜ (counts .cells ≤ 256) × (length (now seen) ≡ tableSize) ⌝ }
+    requires { ⌜ (counts .cells ≤ maxCells) × (length (now seen) ≡ tableSize) ⌝ }
     ensures { λ r. ⌜ Sound counts r × ((j : model.Job) → Counted counts j → Marked (now (seen .entry)) j → saidBy j r ≡ fieldsSay j (kindOf kind) (fieldsOf (now (fields .entry)))) ⌝ }
 {
     if !may_follow(kind, counts) {
@@ -143,24 +170,13 @@ fn fields_say(kind: Kind, fields: &[u8], counts: Counts, seen: &[u8]) -> Entry
     let count = field_count(kind);
     match numbers_of(fields, count) {
         Numbers::Bad(fault) => Entry::Wrong(fault),
-        Numbers::Good { a, b } => {
-            if !in_range(kind, counts, a, b) {
-                return Entry::Wrong(Fault::Range);
-            }
-            if !has_room(kind, counts) {
-                return Entry::Wrong(Fault::Room);
-            }
-            if !is_new(kind, seen, a, b) {
-                return Entry::Wrong(Fault::Doubled);
-            }
-            Entry::Right { kind, a, b }
-        }
+        Numbers::Good { a, b } => numbers_say(kind, counts, seen, a, b),
     }
 }
 
 // What a line says. The word at its start decides, and what follows the word and its tab goes on as the fields.
 pub fn entry_of(line: &[u8], counts: Counts, seen: &[u8]) -> Entry
-    requires { ⌜ (counts .cells ≤ 256) × (length (now seen) ≡ tableSize) ⌝ }
+    requires { ⌜ (counts .cells ≤ maxCells) × (length (now seen) ≡ tableSize) ⌝ }
     ensures { λ r. ⌜ Sound counts r × ((j : model.Job) → Counted counts j → Marked (now (seen .entry)) j → saidBy j r ≡ lineSays j (now (line .entry))) ⌝ }
 {
     if text::scan::opens_with(line, b"FLOOR\t") {

@@ -1,6 +1,7 @@
 // The last step of a job, and the least lengths of the buffers lent for it.
 use crate::state::Job;
 use model::Limits;
+use model::bytes::wide;
 ghost use mathlib.Core.Path.{_≡_};
 ghost use mathlib.Core.List.{map};
 ghost use Prim.Native.Nat.{_<_, _≤_};
@@ -8,12 +9,6 @@ ghost use lib.ListN.{take};
 ghost use Rattle.model.specs.Limits.{maxCells, maxCalls, maxSteps};
 ghost use Rattle.model.specs.Job.{call, latest, horizon, storeLeast, sheetLeast};
 ghost use Rattle.job.specs.Arrays.{jobOf, Sized};
-
-fn wide(x: u8) -> usize
-    ensures { λ r. ⌜ (r ≡ x) × (r < 256) ⌝ }
-{
-    x as usize
-}
 
 // The largest of the first `calls` deadlines, 0 if there are none.
 pub fn horizon(deadlines: &[u8; Limits::CALLS], calls: usize) -> usize

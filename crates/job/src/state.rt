@@ -1,11 +1,10 @@
 // A job as arrays with their counts, and the table of what stands in them already.
 use model::Limits;
 ghost use mathlib.Core.Path.{_≡_};
-ghost use mathlib.Core.Bool.{true};
 ghost use lib.ListN.{length};
-ghost use Rattle.model.specs.ReadJob.{noJob, hasRoom, add};
-ghost use Rattle.job.specs.Arrays.{jobOf, Sized};
-ghost use Rattle.job.specs.Lines.{kindOf, Small, placeOf, marked, tableSize};
+ghost use Rattle.model.specs.ReadJob.{noJob};
+ghost use Rattle.job.specs.Arrays.{jobOf, held, Sized};
+ghost use Rattle.job.specs.Lines.{Small, Takes, Taken, placeOf, marked, tableSize};
 
 // The first `tracks` entries of `from` and `to` are the tracks, and so for carts and calls.
 pub struct Job {
@@ -19,6 +18,21 @@ pub struct Job {
     pub lifts: [u8; Limits::CALLS],
     pub deadlines: [u8; Limits::CALLS],
 }
+
+// How much of the arrays of a job is filled, as its lines are read.
+pub struct Counts {
+    pub cells: usize,
+    pub tracks: usize,
+    pub carts: usize,
+    pub calls: usize,
+}
+
+// The table has a row of cells for the tracks from each cell, then one for the carts and one for the calls.
+pub const CART_ROW: usize = Limits::CELLS * Limits::CELLS;
+
+pub const CALL_ROW: usize = CART_ROW + Limits::CELLS;
+
+pub const TABLE: usize = CALL_ROW + Limits::CELLS;
 
 // What a line is about, by its word.
 pub enum Kind {
@@ -48,50 +62,60 @@ pub fn empty() -> Job
     }
 }
 
-// The job with one line more, whose numbers are a and b.
-pub fn with_line(job: Job, kind: Kind, a: usize, b: usize) -> Job
-    requires { ⌜ Sized job × Small kind a b × (hasRoom (jobOf job) (kindOf kind) ≡ true) ⌝ }
-    ensures { λ r. ⌜ (jobOf r ≡ add (jobOf job) (kindOf kind) a b) × Sized r ⌝ }
+// Puts the numbers of a line at the end of the arrays of its kind. Answers the counts with one line more.
+pub fn put_line(
+    from: &mut [u8; Limits::TRACKS],
+    to: &mut [u8; Limits::TRACKS],
+    starts: &mut [u8; Limits::CARTS],
+    lifts: &mut [u8; Limits::CALLS],
+    deadlines: &mut [u8; Limits::CALLS],
+    counts: Counts,
+    kind: Kind,
+    a: usize,
+    b: usize,
+) -> Counts
+    requires { ⌜ Takes (held counts (now from) (now to) (now starts) (now lifts) (now deadlines)) kind a b ⌝ }
+    ensures { λ r. ⌜ Taken (held counts (now (from .entry)) (now (to .entry)) (now (starts .entry)) (now (lifts .entry)) (now (deadlines .entry))) kind a b (held r (now (from .exit)) (now (to .exit)) (now (starts .exit)) (now (lifts .exit)) (now (deadlines .exit))) ⌝ }
 {
-    let mut j = job;
+    let mut more = counts;
     match kind {
         Kind::Floor => {
-            j.cells = a;
-            return j;
+            more.cells = a;
+            return more;
         }
         Kind::Track => {
-            let n = j.tracks;
-            j.from[n] = a as u8;
-            j.to[n] = b as u8;
-            j.tracks = n + 1;
-            return j;
+            let n = more.tracks;
+            from[n] = a as u8;
+            to[n] = b as u8;
+            more.tracks = n + 1;
+            return more;
         }
         Kind::Cart => {
-            let n = j.carts;
-            j.starts[n] = a as u8;
-            j.carts = n + 1;
-            return j;
+            let n = more.carts;
+            starts[n] = a as u8;
+            more.carts = n + 1;
+            return more;
         }
         Kind::Call => {
-            let n = j.calls;
-            j.lifts[n] = a as u8;
-            j.deadlines[n] = b as u8;
-            j.calls = n + 1;
-            return j;
+            let n = more.calls;
+            lifts[n] = a as u8;
+            deadlines[n] = b as u8;
+            more.calls = n + 1;
+            return more;
         }
     }
 }
 
-// The place of a line in the table: a row of 256 for the tracks from each cell, then one for the carts and one for the calls.
+// The place of a line in the table.
 pub fn place(kind: Kind, a: usize, b: usize) -> usize
     requires { ⌜ Small kind a b ⌝ }
     ensures { λ r. ⌜ r ≡ placeOf kind a b ⌝ }
 {
     match kind {
         Kind::Floor => 0,
-        Kind::Track => a * 256 + b,
-        Kind::Cart => 65536 + a,
-        Kind::Call => 65792 + a,
+        Kind::Track => a * Limits::CELLS + b,
+        Kind::Cart => CART_ROW + a,
+        Kind::Call => CALL_ROW + a,
     }
 }
 

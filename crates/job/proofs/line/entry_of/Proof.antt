@@ -7,7 +7,8 @@ use Prim.Native.Nat.{_≤_}
 use lib.ListN.{length}
 use denote.Ref.{now}
 use Rattle.model.specs.Text.{opens, floorWord, trackWord, cartWord, callWord}
-use Rattle.job.proofs.Entries.{opens-long, line-floor, line-track, line-cart, line-call, line-none}
+use Rattle.model.proofs.Words.{opens-long}
+use Rattle.job.proofs.Entries.{line-floor, line-track, line-cart, line-call, line-none}
 use borrow.Author.Needs.{needs}
 use Rattle.job.proofs.line.entry_of.Statement.{statement}
 use Rattle.job.proofs.line.entry_of.Tie as tie

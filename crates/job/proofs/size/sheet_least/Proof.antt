@@ -1,17 +1,18 @@
--- `size::sheet_least` meets its contract: the count is the length of the job's list, and with at most 256 steps and 64 carts nothing wraps.
+-- `size::sheet_least` meets its contract: the count is the length of the job's list, and within the limits of steps and carts nothing wraps.
 -- Assumes nothing.
 use Prim.Native.Nat.{ℕ, _*_, _+_, _<_, _≤_}
 use mathlib.Core.Path.{refl}
 use native.Mathlib.Omega.{arith}
+use Rattle.model.specs.Limits.{maxCarts, maxSteps}
 use Rattle.job.proofs.Arrays.{carts-count, long, whole}
 use native.Mathlib.Nat.{mul-le-mul}
 use borrow.Author.Needs.{needs}
 use Rattle.job.proofs.size.sheet_least.Statement.{statement}
 use Rattle.job.proofs.size.sheet_least.Tie as tie
 
-small : (n carts : ℕ) → n < 256 → carts ≤ 64 → carts * (4 * (n + 1) + 16) ≤ 64 * 1040
+small : (n carts : ℕ) → n < maxSteps → carts ≤ maxCarts → carts * (4 * (n + 1) + 16) ≤ maxCarts * (4 * maxSteps + 16)
 small n carts a b =
-    let x : 4 * (n + 1) + 16 ≤ 1040 = omega arith in
+    let x : 4 * (n + 1) + 16 ≤ 4 * maxSteps + 16 = omega arith in
     mul-le-mul b x
 
 last-step-requires : tie.Need-last-step-requires

@@ -1,18 +1,20 @@
--- `size::store_least` meets its contract: the counts are the lengths of the job's lists, and with at most 256 steps and cells and 512 tracks nothing wraps.
+-- `size::store_least` meets its contract: the counts are the lengths of the job's lists, and within the limits of steps, cells and tracks nothing wraps.
 -- Assumes nothing.
 use Prim.Native.Nat.{ℕ, _*_, _+_, _<_, _≤_}
 use mathlib.Core.Path.{refl}
 use native.Mathlib.Omega.{arith}
 use native.Mathlib.Nat.{mul-le-mul}
+use Rattle.model.specs.Limits.{maxCells, maxTracks, maxSteps}
 use Rattle.job.proofs.Arrays.{tracks-count, long, whole}
 use borrow.Author.Needs.{needs}
 use Rattle.job.proofs.size.store_least.Statement.{statement}
 use Rattle.job.proofs.size.store_least.Tie as tie
 
-small : (n cells tracks : ℕ) → n < 256 → cells ≤ 256 → tracks ≤ 512 → (n + 1) * 32 * (cells + 2 * tracks) ≤ 8192 * 1280
+small : (n cells tracks : ℕ) → n < maxSteps → cells ≤ maxCells → tracks ≤ maxTracks
+    → (n + 1) * 32 * (cells + 2 * tracks) ≤ maxSteps * 32 * (maxCells + 2 * maxTracks)
 small n cells tracks a b c =
-    let x : (n + 1) * 32 ≤ 8192 = omega arith in
-    let y : cells + 2 * tracks ≤ 1280 = omega arith in
+    let x : (n + 1) * 32 ≤ maxSteps * 32 = omega arith in
+    let y : cells + 2 * tracks ≤ maxCells + 2 * maxTracks = omega arith in
     mul-le-mul x y
 
 last-step-requires : tie.Need-last-step-requires
