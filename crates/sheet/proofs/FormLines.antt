@@ -7,12 +7,12 @@ use mathlib.Core.Option.{Option, none, some}
 use mathlib.Core.Bool.{Bool, true, false}
 use native.Mathlib.Omega.{arith}
 use lib.Dec.{ltb}
-use lib.ListN.{length, take, drop}
+use lib.ListN.{length, drop}
 use borrow.Author.Tests.{ltb-true, ltb-false, ne-eqb}
 use Rattle.model.specs.Text.{linesOf}
 use Rattle.model.specs.ReadSheet.{Sheet, bad, restSays}
 use Rattle.text.specs.Scan.{lineOf}
-use Rattle.text.proofs.Lines.{lines-done, lines-cut, lines-more}
+use Rattle.text.proofs.LineLaws.{lines-done, lines-cut, lines-more, next-cut, next-more}
 use Rattle.sheet.specs.FormParts.{unlessBad}
 
 stopped : (k : ℕ) (x : Sheet) → unlessBad (k + 2) x ≡ bad (k + 2)
@@ -38,27 +38,27 @@ module _ {A : Type 0} (say : List ℕ → Option A) (all : List A → Sheet) (s 
           go true q = ap (restSays say all got 0 (k + 2)) (lines-more s p _ h refl (ltb-true _ _ q))
           go false q = ap (restSays say all got 0 (k + 2)) (lines-cut s p _ h refl (ltb-false _ _ q))
 
-    module _ (room : k < n) (e : ℕ) (end : e ≡ p + length (lineOf (drop p s))) where
+    module _ (room : k < n) (line : List ℕ) (q : ℕ) (taken : (line ≡ lineOf (drop p s)) × (q ≡ p + length (lineOf (drop p s)) + 1)) where
       one-left : restSays say all got (suc (n - (k + 1))) (k + 2) (linesOf (drop p s)) ≡ out
-      one-left = let q : n - k ≡ suc (n - (k + 1)) = omega arith in ap (λ m. restSays say all got m (k + 2) (linesOf (drop p s))) (sym q) ∙ so
+      one-left = let e : n - k ≡ suc (n - (k + 1)) = omega arith in ap (λ m. restSays say all got m (k + 2) (linesOf (drop p s))) (sym e) ∙ so
 
-      pub turn-cut : length s ≤ e → (x : Sheet) → unlessBad (k + 2) x ≡ out
+      pub turn-cut : length s < q → (x : Sheet) → unlessBad (k + 2) x ≡ out
       turn-cut h x = stopped k x ∙ sym (go (ltb p (length s)) refl) ∙ one-left
         where
           go : (t : Bool) → ltb p (length s) ≡ t → restSays say all got (suc (n - (k + 1))) (k + 2) (linesOf (drop p s)) ≡ bad (k + 2)
-          go true q = ap (restSays say all got (suc (n - (k + 1))) (k + 2)) (lines-cut s p e (ltb-true _ _ q) end h)
-          go false q = ap (restSays say all got (suc (n - (k + 1))) (k + 2)) (lines-done s p (ltb-false _ _ q))
+          go true w = ap (restSays say all got (suc (n - (k + 1))) (k + 2)) (next-cut s p line q taken (ltb-true _ _ w) h)
+          go false w = ap (restSays say all got (suc (n - (k + 1))) (k + 2)) (lines-done s p (ltb-false _ _ w))
 
-      module _ (h : e < length s) where
-        pub turn-bad : say (take (e - p) (drop p s)) ≡ none → (x : Sheet) → unlessBad (k + 2) x ≡ out
+      module _ (h : q ≤ length s) where
+        pub turn-bad : say line ≡ none → (x : Sheet) → unlessBad (k + 2) x ≡ out
         turn-bad f x = stopped k x ∙ sym go ∙ one-left
           where
             go : restSays say all got (suc (n - (k + 1))) (k + 2) (linesOf (drop p s)) ≡ bad (k + 2)
-            go = rw (lines-more s p e (omega arith) end h, f)
+            go = rw (next-more s p line q taken h, f)
 
-        pub turn-good : (a : A) (got′ : List A) → say (take (e - p) (drop p s)) ≡ some a → got′ ≡ got ++ (a ∷ [])
-            → restSays say all got′ (n - (k + 1)) (k + 1 + 2) (linesOf (drop (e + 1) s)) ≡ out
+        pub turn-good : (a : A) (got′ : List A) → say line ≡ some a → got′ ≡ got ++ (a ∷ [])
+            → restSays say all got′ (n - (k + 1)) (k + 1 + 2) (linesOf (drop q s)) ≡ out
         turn-good a got′ f g = go ∙ one-left
           where
-            go : restSays say all got′ (n - (k + 1)) (k + 1 + 2) (linesOf (drop (e + 1) s)) ≡ restSays say all got (suc (n - (k + 1))) (k + 2) (linesOf (drop p s))
-            go = let q : k + 1 + 2 ≡ k + 2 + 1 = omega arith in rw (lines-more s p e (omega arith) end h, f, g, q)
+            go : restSays say all got′ (n - (k + 1)) (k + 1 + 2) (linesOf (drop q s)) ≡ restSays say all got (suc (n - (k + 1))) (k + 2) (linesOf (drop p s))
+            go = let e : k + 1 + 2 ≡ k + 2 + 1 = omega arith in rw (next-more s p line q taken h, f, g, e)

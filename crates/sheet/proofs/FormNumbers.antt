@@ -1,13 +1,14 @@
 -- What a line says by its numbers: what each return of the functions that read a line cites. Every law goes by cases on the numbers behind
 -- those that were read; fields have at least one number (`numbers-cases`). Assumes nothing.
-use Prim.Native.Nat.{ℕ, suc, _+_, _≤_, _<_}
+use Prim.Native.Nat.{ℕ, suc, _+_, _-_, _≤_, _<_}
 use mathlib.Core.Path.{_≡_, refl, sym, ap, _∙_}
 use mathlib.Core.List.{List, [], _∷_, _++_, append-assoc}
 use mathlib.Core.Option.{Option, none, some}
-use mathlib.Core.Bool.{Bool, true, false, cond, _&&_}
+use mathlib.Core.Bool.{Bool, true, false, cond, _&&_, and-false}
 use native.Mathlib.Omega.{arith}
 use lib.Dec.{ltb, eqb}
-use lib.ListN.{length, drop, length-append, take}
+use lib.ListN.{length, drop, length-append, length-drop, take}
+use lib.Seq.{take-length}
 use borrow.Author.Tests.{ltb-true, ltb-false, lt-ltb, le-ltb, eq-eqb, ne-eqb, eqb-false, eqb-true}
 use Rattle.model.specs.Text.{fieldsOf, numberOf, andNumber, numbersOf, startsWith, opens}
 use Rattle.model.specs.ReadSheet.{allBelow, numbersAfter}
@@ -18,19 +19,6 @@ use Rattle.text.proofs.Numbers.{fields-some, number-none, number-last, number-m
 use Rattle.sheet.specs.declared.form.Two.{Two}
 use Rattle.sheet.specs.declared.form.Two.the-variants as T
 use Rattle.sheet.specs.FormParts.{TwoAt, numbersAt, onlyOf, hasTwo, behind, withTwo, cellsGiven, cellsRead}
-
-pub starts-long : (w l : List ℕ) → startsWith w l ≡ true → length w ≤ length l
-starts-long [] l e = omega arith
-starts-long (c ∷ w) [] e = nope (cc)
-starts-long (c ∷ w) (b ∷ l) e = go (eqb b c) e (λ h. starts-long w l h)
-  where
-    go : (t : Bool) → cond t (startsWith w l) false ≡ true → (startsWith w l ≡ true → length w ≤ length l) → suc (length w) ≤ suc (length l)
-    go true e ih = let h = ih e in omega arith
-    go false e ih = nope (cc)
-
-and-no : (x : Bool) → (x && false) ≡ false
-and-no true = refl
-and-no false = refl
 
 pub numbers-cases : (P : Option (List ℕ) → Type 0) → P none → ((m : ℕ) (ns : List ℕ) → P (some (m ∷ ns))) → (l : List ℕ) → P (numbersOf (fieldsOf l))
 numbers-cases P without with-one l = go (fieldsOf l) (fields-some l)
@@ -113,7 +101,7 @@ below-snoc m v (a ∷ l) e h = and-both (ltb a m) _ (and-left (ltb a m) (allBelo
 
 below-not : (m v : ℕ) (l ns : List ℕ) → m ≤ v → allBelow m (l ++ (v ∷ ns)) ≡ false
 below-not m v [] ns h = simp (le-ltb v m h)
-below-not m v (a ∷ l) ns h = rw (below-not m v l ns h) (and-no (ltb a m))
+below-not m v (a ∷ l) ns h = rw (below-not m v l ns h) (and-false (ltb a m))
 
 module _ (limit count : ℕ) (s : List ℕ) (at : ℕ) (l : List ℕ) (p : ℕ) (so : numbersAt s at ≡ prefixed l (numbersAt s p)) where
   pub cells-none : numberAt s p ≡ Fault → cellsGiven limit count (numbersAt s at) ≡ none
@@ -134,7 +122,7 @@ module _ (limit count : ℕ) (s : List ℕ) (at : ℕ) (l : List ℕ) (p : ℕ) 
       where
         go : (o : Option (List ℕ)) → cellsGiven limit count (prefixed l (andNumber (some v) o)) ≡ none
         go none = refl
-        go (some ns) = rw (below-not limit v l ns h, and-no (eqb (length (l ++ (v ∷ ns))) count))
+        go (some ns) = rw (below-not limit v l ns h, and-false (eqb (length (l ++ (v ∷ ns))) count))
 
     pub cells-more : next < length s → numbersAt s at ≡ prefixed (l ++ (v ∷ [])) (numbersAt s (next + 1))
     cells-more h = so ∙ ap (prefixed l) (number-more s p v next e h) ∙ prefixed-more l v (numbersAt s (next + 1))
@@ -160,8 +148,16 @@ module _ (limit count : ℕ) (s : List ℕ) (at : ℕ) (l : List ℕ) (p : ℕ) 
 
 -- Behind a word.
 module _ (w l : List ℕ) where
-  pub after-word : opens w l ≡ true → numbersAfter w l ≡ numbersAt l (suc (length w))
+  after-word : opens w l ≡ true → numbersAfter w l ≡ numbersAt l (suc (length w))
   after-word e = ap (λ t. cond t (numbersAt l (suc (length w))) none) e
+
+  -- by the part of the line behind the word
+  pub behind-word : opens w l ≡ true → (fs : List ℕ) → fs ≡ drop (suc (length w)) l → numbersAfter w l ≡ numbersAt fs 0
+  behind-word e fs rest = after-word e ∙ ap (λ x. numbersAt x 0) (sym rest)
 
   pub after-none : opens w l ≡ false → numbersAfter w l ≡ none
   after-none e = ap (λ t. cond t (numbersAt l (suc (length w))) none) e
+
+-- A part that goes to the end.
+pub to-end : (n : ℕ) (l : List ℕ) → take (length l - n) (drop n l) ≡ drop n l
+to-end n l = ap (λ m. take m (drop n l)) (sym (length-drop n l)) ∙ take-length (drop n l)

@@ -21,7 +21,7 @@ use Rattle.sheet.specs.declared.form.ChokeLine.the-variants as C
 use Rattle.sheet.specs.declared.form.Head.{Head}
 use Rattle.sheet.specs.declared.form.Head.the-variants as H
 use Rattle.sheet.specs.FormParts.{numbersAt, onlyOf, hasTwo, behind, withTwo, cellsGiven, cellsRead, Tells, pathRead, PathKnown, chokeRead, ChokeKnown, headGoes, HeadKnown, cannotHead}
-use Rattle.sheet.proofs.FormNumbers.{numbers-cases, behind-more, behind-none, after-word, after-none}
+use Rattle.sheet.proofs.FormNumbers.{numbers-cases, behind-more, behind-none, behind-word, after-none}
 
 -- A PATH line.
 abbrev onPath : ℕ → ℕ → Option (List ℕ) → Option Path
@@ -63,48 +63,51 @@ module _ (cells carts calls : ℕ) (deadlines row l : List ℕ) where
   pub path-unlike : opens pathWord l ≡ false → PathSaid P.Bad
   path-unlike e = (λ j t. sym (ap (pathOf j) (after-none pathWord l e)), tt)
 
-  module _ (e : opens pathWord l ≡ true) where
-    pub path-few : hasTwo (numbersAt l 5) ≡ false → PathSaid P.Bad
-    path-few h = (λ j t. sym (ap (pathOf j) (after-word pathWord l e) ∙ path-two j (numbersAt l 5) h), tt)
+  module _ (e : opens pathWord l ≡ true) (f : List ℕ) (rest : f ≡ drop 5 l) where
+    after : numbersAfter pathWord l ≡ numbersAt f 0
+    after = behind-word pathWord l e f rest
 
-    module _ (a b next : ℕ) (two : numbersAt l 5 ≡ withTwo a b (behind l next)) where
-      says : (j : Job) → pathLine j l ≡ pathOf j (withTwo a b (behind l next))
-      says j = ap (pathOf j) (after-word pathWord l e ∙ two)
+    pub path-few : hasTwo (numbersAt f 0) ≡ false → PathSaid P.Bad
+    path-few h = (λ j t. sym (ap (pathOf j) (after) ∙ path-two j (numbersAt f 0) h), tt)
+
+    module _ (a b next : ℕ) (two : numbersAt f 0 ≡ withTwo a b (behind f next)) where
+      says : (j : Job) → pathLine j l ≡ pathOf j (withTwo a b (behind f next))
+      says j = ap (pathOf j) (after ∙ two)
 
       pub path-no-cart : carts ≤ a → PathSaid P.Bad
-      path-no-cart h = (λ j t. sym (says j ∙ path-cart j a b (behind l next) (omega (arith, t .carts-are))), tt)
+      path-no-cart h = (λ j t. sym (says j ∙ path-cart j a b (behind f next) (omega (arith, t .carts-are))), tt)
 
       module _ (known : a < carts) where
         pub path-no-call : calls ≤ b → PathSaid P.Bad
-        path-no-call h = (λ j t. sym (says j ∙ path-call j a b (omega (arith, t .carts-are)) (behind l next) (omega (arith, t .calls-are))), tt)
+        path-no-call h = (λ j t. sym (says j ∙ path-call j a b (omega (arith, t .carts-are)) (behind f next) (omega (arith, t .calls-are))), tt)
 
         module _ (known-call : b < calls) where
-          given : (j : Job) → Tells j cells carts calls deadlines → (o : Option (List ℕ)) → behind l next ≡ o
+          given : (j : Job) → Tells j cells carts calls deadlines → (o : Option (List ℕ)) → behind f next ≡ o
               → pathLine j l ≡ onPath a b (cellsGiven cells (suc (callOf j b .deadline)) o)
-          given j t o h = says j ∙ path-cells j a b (omega (arith, t .carts-are)) (omega (arith, t .calls-are)) (behind l next)
+          given j t o h = says j ∙ path-cells j a b (omega (arith, t .carts-are)) (omega (arith, t .calls-are)) (behind f next)
               ∙ ap (λ x. onPath a b (cellsGiven (j .cells) (suc (callOf j b .deadline)) x)) h
               ∙ ap (λ x. onPath a b (cellsGiven x (suc (callOf j b .deadline)) o)) (t .cells-are)
 
-          pub path-ends : length l ≤ next → PathSaid P.Bad
-          path-ends h = (λ j t. sym (given j t (some []) (behind-none l next h) ∙ ap (onPath a b) (none-given cells (callOf j b .deadline))), tt)
+          pub path-ends : length f ≤ next → PathSaid P.Bad
+          path-ends h = (λ j t. sym (given j t (some []) (behind-none f next h) ∙ ap (onPath a b) (none-given cells (callOf j b .deadline))), tt)
 
-          module _ (h : next < length l) (n : ℕ) (count : n ≡ getD deadlines b 0 + 1) (r : Bool)
-              (read : cellsRead r (take n row) ≡ cellsGiven cells n (numbersAt l (next + 1))) where
+          module _ (h : next < length f) (n : ℕ) (count : n ≡ getD deadlines b 0 + 1) (r : Bool)
+              (read : cellsRead r (take n row) ≡ cellsGiven cells n (numbersAt f (next + 1))) where
             counted : (j : Job) → Tells j cells carts calls deadlines → n ≡ suc (callOf j b .deadline)
             counted j t = omega (arith, t .deadlines-are b known-call)
 
             pub path-no-cells : r ≡ false → PathSaid P.Bad
-            path-no-cells f = (λ j t. sym (given j t (numbersAt l (next + 1)) (behind-more l next h) ∙ bad-cells j t), tt)
+            path-no-cells q = (λ j t. sym (given j t (numbersAt f (next + 1)) (behind-more f next h) ∙ bad-cells j t), tt)
               where
-                bad-cells : (j : Job) → Tells j cells carts calls deadlines → onPath a b (cellsGiven cells (suc (callOf j b .deadline)) (numbersAt l (next + 1))) ≡ none
-                bad-cells j t = rw (← counted j t, ← read, f)
+                bad-cells : (j : Job) → Tells j cells carts calls deadlines → onPath a b (cellsGiven cells (suc (callOf j b .deadline)) (numbersAt f (next + 1))) ≡ none
+                bad-cells j t = rw (← counted j t, ← read, q)
 
             pub path-good : r ≡ true → PathSaid (P.Good a b)
-            path-good f = (λ j t. sym (given j t (numbersAt l (next + 1)) (behind-more l next h) ∙ good-cells j t), (known, known-call))
+            path-good q = (λ j t. sym (given j t (numbersAt f (next + 1)) (behind-more f next h) ∙ good-cells j t), (known, known-call))
               where
                 good-cells : (j : Job) → Tells j cells carts calls deadlines
-                    → onPath a b (cellsGiven cells (suc (callOf j b .deadline)) (numbersAt l (next + 1))) ≡ pathRead j (P.Good a b) row
-                good-cells j t = rw (← counted j t, ← read, f)
+                    → onPath a b (cellsGiven cells (suc (callOf j b .deadline)) (numbersAt f (next + 1))) ≡ pathRead j (P.Good a b) row
+                good-cells j t = rw (← counted j t, ← read, q)
 
 pub path-known : (carts calls a b : ℕ) (r : PathLine) → PathKnown carts calls r → r ≡ P.Good a b → (a < carts) × (b < calls)
 path-known carts calls a b r h e = rw e at h
@@ -127,33 +130,36 @@ module _ (cells latest : ℕ) (l : List ℕ) where
   pub choke-unlike : opens chokeWord l ≡ false → ChokeSaid C.Bad
   choke-unlike e = (λ j c h. sym (ap (pointOf j) (after-none chokeWord l e)), tt)
 
-  module _ (e : opens chokeWord l ≡ true) where
-    pub choke-few : hasTwo (numbersAt l 6) ≡ false → ChokeSaid C.Bad
-    choke-few f = (λ j c h. sym (ap (pointOf j) (after-word chokeWord l e) ∙ point-two j (numbersAt l 6) f), tt)
+  module _ (e : opens chokeWord l ≡ true) (fs : List ℕ) (rest : fs ≡ drop 6 l) where
+    after-choke : numbersAfter chokeWord l ≡ numbersAt fs 0
+    after-choke = behind-word chokeWord l e fs rest
 
-    module _ (a b next : ℕ) (two : numbersAt l 6 ≡ withTwo a b (behind l next)) where
-      point-says : (j : Job) (o : Option (List ℕ)) → behind l next ≡ o → chokeLine j l ≡ pointOf j (withTwo a b o)
-      point-says j o f = ap (pointOf j) (after-word chokeWord l e ∙ two ∙ ap (withTwo a b) f)
+    pub choke-few : hasTwo (numbersAt fs 0) ≡ false → ChokeSaid C.Bad
+    choke-few f = (λ j c h. sym (ap (pointOf j) (after-choke) ∙ point-two j (numbersAt fs 0) f), tt)
 
-      pub choke-over : next < length l → ChokeSaid C.Bad
-      choke-over f = (λ j c h. sym (point-says j (numbersAt l (next + 1)) (behind-more l next f) ∙ point-more j a b l (next + 1)), tt)
+    module _ (a b next : ℕ) (two : numbersAt fs 0 ≡ withTwo a b (behind fs next)) where
+      point-says : (j : Job) (o : Option (List ℕ)) → behind fs next ≡ o → chokeLine j l ≡ pointOf j (withTwo a b o)
+      point-says j o f = ap (pointOf j) (after-choke ∙ two ∙ ap (withTwo a b) f)
 
-      module _ (end : length l ≤ next) where
+      pub choke-over : next < length fs → ChokeSaid C.Bad
+      choke-over f = (λ j c h. sym (point-says j (numbersAt fs (next + 1)) (behind-more fs next f) ∙ point-more j a b fs (next + 1)), tt)
+
+      module _ (end : length fs ≤ next) where
         pub choke-no-cell : cells ≤ a → ChokeSaid C.Bad
-        choke-no-cell f = (λ j c h. sym (point-says j (some []) (behind-none l next end) ∙ go j (omega arith)), tt)
+        choke-no-cell f = (λ j c h. sym (point-says j (some []) (behind-none fs next end) ∙ go j (omega arith)), tt)
           where
             go : (j : Job) → j .cells ≤ a → pointOf j (withTwo a b (some [])) ≡ none
             go j q = simp (le-ltb _ _ q)
 
         module _ (known : a < cells) where
           pub choke-late : latest < b → ChokeSaid C.Bad
-          choke-late f = (λ j c h. sym (point-says j (some []) (behind-none l next end) ∙ go j (omega arith) (omega arith)), tt)
+          choke-late f = (λ j c h. sym (point-says j (some []) (behind-none fs next end) ∙ go j (omega arith) (omega arith)), tt)
             where
               go : (j : Job) → a < j .cells → horizon j < b → pointOf j (withTwo a b (some [])) ≡ none
               go j q r = simp (lt-ltb _ _ q, lt-leb _ _ r)
 
           pub choke-good : b ≤ latest → ChokeSaid (C.Good a b)
-          choke-good f = (λ j c h. sym (point-says j (some []) (behind-none l next end) ∙ go j (omega arith) (omega arith)), (known, f))
+          choke-good f = (λ j c h. sym (point-says j (some []) (behind-none fs next end) ∙ go j (omega arith) (omega arith)), (known, f))
             where
               go : (j : Job) → a < j .cells → b ≤ horizon j → pointOf j (withTwo a b (some [])) ≡ some (point a b)
               go j q r = simp (lt-ltb _ _ q, le-leb _ _ r)
@@ -202,13 +208,16 @@ module _ (calls : ℕ) where
     pub cannot-unlike : opens cannotWord l ≡ false → H.Bad ≡ cannotHead calls (numbersAfter cannotWord l)
     cannot-unlike e = sym (ap (cannotHead calls) (after-none cannotWord l e))
 
-    module _ (e : opens cannotWord l ≡ true) where
-      pub cannot-few : onlyOf (numbersAt l 7) ≡ none → H.Bad ≡ cannotHead calls (numbersAfter cannotWord l)
-      cannot-few o = sym (ap (cannotHead calls) (after-word cannotWord l e) ∙ cannot-none (numbersAt l 7) o)
+    module _ (e : opens cannotWord l ≡ true) (fs : List ℕ) (rest : fs ≡ drop 7 l) where
+      after-cannot : numbersAfter cannotWord l ≡ numbersAt fs 0
+      after-cannot = behind-word cannotWord l e fs rest
 
-      module _ (n : ℕ) (o : onlyOf (numbersAt l 7) ≡ some n) where
+      pub cannot-few : onlyOf (numbersAt fs 0) ≡ none → H.Bad ≡ cannotHead calls (numbersAfter cannotWord l)
+      cannot-few o = sym (ap (cannotHead calls) (after-cannot) ∙ cannot-none (numbersAt fs 0) o)
+
+      module _ (n : ℕ) (o : onlyOf (numbersAt fs 0) ≡ some n) where
         head-by : (t : Bool) → ltb n calls ≡ t → cond t (H.Cannot n) H.Bad ≡ cannotHead calls (numbersAfter cannotWord l)
-        head-by t q = sym (ap (cannotHead calls) (after-word cannotWord l e) ∙ cannot-one (numbersAt l 7) n o ∙ ap (λ x. cond x (H.Cannot n) H.Bad) q)
+        head-by t q = sym (ap (cannotHead calls) (after-cannot) ∙ cannot-one (numbersAt fs 0) n o ∙ ap (λ x. cond x (H.Cannot n) H.Bad) q)
 
         pub cannot-high : calls ≤ n → H.Bad ≡ cannotHead calls (numbersAfter cannotWord l)
         cannot-high h = head-by false (le-ltb _ _ h)
@@ -237,23 +246,23 @@ module _ (calls : ℕ) (l : List ℕ) where
       goes : (j : Job) (ls : Lines) → length (j .calls) ≡ calls → headGoes j (cannotHead calls (numbersAfter cannotWord l)) ls ≡ headSays j (more l ls)
       goes j ls n = rw (← n, e) (cannot-goes j ls (numbersAfter cannotWord l))
 
-  module _ (e : opens planWord l ≡ true) where
+  module _ (e : opens planWord l ≡ true) (fs : List ℕ) (rest : fs ≡ drop 5 l) where
     plan-says : (j : Job) (ls : Lines) → headSays j (more l ls)
-        ≡ countSays (λ n. eqb n (length (j .calls))) (λ n. restSays (pathLine j) plan [] n 2 ls) (numbersAt l 5)
-    plan-says j ls = simp e
+        ≡ countSays (λ n. eqb n (length (j .calls))) (λ n. restSays (pathLine j) plan [] n 2 ls) (numbersAt fs 0)
+    plan-says j ls = rw rest (simp e)
 
-    pub head-few : onlyOf (numbersAt l 5) ≡ none → HeadSaid H.Bad
-    head-few o = (λ j ls n. sym (plan-says j ls ∙ count-none _ _ (numbersAt l 5) o), tt)
+    pub head-few : onlyOf (numbersAt fs 0) ≡ none → HeadSaid H.Bad
+    head-few o = (λ j ls n. sym (plan-says j ls ∙ count-none _ _ (numbersAt fs 0) o), tt)
 
-    module _ (m : ℕ) (o : onlyOf (numbersAt l 5) ≡ some m) where
+    module _ (m : ℕ) (o : onlyOf (numbersAt fs 0) ≡ some m) where
       pub head-wrong : (m ≡ calls → ⊥) → HeadSaid H.Bad
-      head-wrong f = (λ j ls n. sym (plan-says j ls ∙ count-one _ _ (numbersAt l 5) m o ∙ go j ls (λ q. f (q ∙ n))), tt)
+      head-wrong f = (λ j ls n. sym (plan-says j ls ∙ count-one _ _ (numbersAt fs 0) m o ∙ go j ls (λ q. f (q ∙ n))), tt)
         where
           go : (j : Job) (ls : Lines) → (m ≡ length (j .calls) → ⊥) → cond (eqb m (length (j .calls))) (restSays (pathLine j) plan [] m 2 ls) (bad 1) ≡ bad 1
           go j ls q = simp (ne-eqb _ _ q)
 
       pub head-plan : m ≡ calls → HeadSaid H.Plan
-      head-plan f = (λ j ls n. sym (plan-says j ls ∙ count-one _ _ (numbersAt l 5) m o ∙ go j ls (f ∙ sym n)), tt)
+      head-plan f = (λ j ls n. sym (plan-says j ls ∙ count-one _ _ (numbersAt fs 0) m o ∙ go j ls (f ∙ sym n)), tt)
         where
           go : (j : Job) (ls : Lines) → m ≡ length (j .calls) → cond (eqb m (length (j .calls))) (restSays (pathLine j) plan [] m 2 ls) (bad 1) ≡ headGoes j H.Plan ls
           go j ls q = simp (eq-eqb _ _ q) (rw q)

@@ -6,6 +6,7 @@ use native.Mathlib.Omega.{arith}
 use lib.Dec.{ltb}
 use lib.ListN.{length, List·getD-eq-default}
 use borrow.Author.Tests.{ltb-true, ltb-false}
+use Rattle.model.specs.Limits.{maxSteps}
 use Rattle.model.specs.Job.{call, callOf}
 use Rattle.model.specs.Ready.{Ready}
 use Rattle.model.proofs.Lists.{in-getD}
@@ -23,7 +24,7 @@ tells s w ready = record {
   deadlines-fit = λ k. go k (ltb k (length (jobOf s .calls))) refl;
 }
   where
-    go : (k : ℕ) (t : Bool) → ltb k (length (jobOf s .calls)) ≡ t → callOf (jobOf s) k .deadline < 256
+    go : (k : ℕ) (t : Bool) → ltb k (length (jobOf s .calls)) ≡ t → callOf (jobOf s) k .deadline < maxSteps
     go k true e = ready .fit .known-calls (callOf (jobOf s) k) (in-getD (jobOf s .calls) k (call 0 0) (ltb-true _ _ e)) .1
     go k false e =
         let d : callOf (jobOf s) k ≡ call 0 0 = List·getD-eq-default (jobOf s .calls) (call 0 0) (ltb-false _ _ e) in

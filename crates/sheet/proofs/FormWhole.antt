@@ -1,17 +1,16 @@
 -- What the whole sheet says, by the end and the head of its first line and by what the lines after it say. Assumes nothing.
-use Prim.Native.Nat.{ℕ, _+_, _-_, _≤_, _<_}
+use Prim.Native.Nat.{ℕ, _+_, _≤_, _<_}
 use mathlib.Core.Path.{_≡_, refl, sym, ap, _∙_}
 use mathlib.Core.List.{List, []}
 use mathlib.Core.Bool.{Bool, true, false}
-use native.Mathlib.Omega.{arith}
 use lib.Dec.{ltb}
-use lib.ListN.{length, take, drop}
+use lib.ListN.{length, drop}
 use borrow.Author.Tests.{ltb-true, ltb-false, eq-eqb, ne-eqb}
 use Rattle.model.specs.Job.{Job}
 use Rattle.model.specs.Text.{Lines, more, linesOf}
 use Rattle.model.specs.ReadSheet.{Sheet, bad, plan, cannot, pathLine, chokeLine, restSays, headSays, readSheet}
 use Rattle.text.specs.Scan.{lineOf}
-use Rattle.text.proofs.Lines.{lines-done, lines-cut, lines-more}
+use Rattle.text.proofs.LineLaws.{lines-done, next-cut, next-more}
 use Rattle.sheet.specs.declared.form.Head.{Head}
 use Rattle.sheet.specs.declared.form.Head.the-variants as H
 use Rattle.sheet.specs.FormParts.{headGoes, HeadKnown, unlessBad}
@@ -25,25 +24,25 @@ goes-on l x h = simp (eq-eqb _ _ h)
 pub points-known : (calls m : ℕ) (r : Head) → HeadKnown calls r → r ≡ H.Cannot m → m < calls
 points-known calls m r h e = rw e at h
 
-module _ (j : Job) (s : List ℕ) (e : ℕ) (end : e ≡ 0 + length (lineOf (drop 0 s))) where
-  pub whole-cut : length s ≤ e → bad 1 ≡ readSheet j s
+module _ (j : Job) (s line : List ℕ) (q : ℕ) (taken : (line ≡ lineOf (drop 0 s)) × (q ≡ 0 + length (lineOf (drop 0 s)) + 1)) where
+  pub whole-cut : length s < q → bad 1 ≡ readSheet j s
   unfolding readSheet
   whole-cut h = sym (go (ltb 0 (length s)) refl)
     where
       go : (t : Bool) → ltb 0 (length s) ≡ t → headSays j (linesOf (drop 0 s)) ≡ bad 1
-      go true q = ap (headSays j) (lines-cut s 0 e (ltb-true _ _ q) end h)
-      go false q = ap (headSays j) (lines-done s 0 (ltb-false _ _ q))
+      go true w = ap (headSays j) (next-cut s 0 line q taken (ltb-true _ _ w) h)
+      go false w = ap (headSays j) (lines-done s 0 (ltb-false _ _ w))
 
-  module _ (h : e < length s) (head : Head) (said : (ls : Lines) → headGoes j head ls ≡ headSays j (more (take (e - 0) (drop 0 s)) ls)) where
-    goes : (r : Head) → head ≡ r → headGoes j r (linesOf (drop (e + 1) s)) ≡ readSheet j s
+  module _ (h : q ≤ length s) (head : Head) (said : (ls : Lines) → headGoes j head ls ≡ headSays j (more line ls)) where
+    goes : (r : Head) → head ≡ r → headGoes j r (linesOf (drop q s)) ≡ readSheet j s
     unfolding readSheet
-    goes r f = ap (λ x. headGoes j x (linesOf (drop (e + 1) s))) (sym f) ∙ said (linesOf (drop (e + 1) s)) ∙ ap (headSays j) (sym (lines-more s 0 e (omega arith) end h))
+    goes r f = ap (λ x. headGoes j x (linesOf (drop q s))) (sym f) ∙ said (linesOf (drop q s)) ∙ ap (headSays j) (sym (next-more s 0 line q taken h))
 
     pub whole-head : head ≡ H.Bad → bad 1 ≡ readSheet j s
     whole-head f = goes H.Bad f
 
-    pub whole-plan : (calls : ℕ) → length (j .calls) ≡ calls → head ≡ H.Plan → restSays (pathLine j) plan [] calls 2 (linesOf (drop (e + 1) s)) ≡ readSheet j s
-    whole-plan calls n f = ap (λ m. restSays (pathLine j) plan [] m 2 (linesOf (drop (e + 1) s))) (sym n) ∙ goes H.Plan f
+    pub whole-plan : (calls : ℕ) → length (j .calls) ≡ calls → head ≡ H.Plan → restSays (pathLine j) plan [] calls 2 (linesOf (drop q s)) ≡ readSheet j s
+    whole-plan calls n f = ap (λ m. restSays (pathLine j) plan [] m 2 (linesOf (drop q s))) (sym n) ∙ goes H.Plan f
 
-    pub whole-cannot : (m : ℕ) → head ≡ H.Cannot m → restSays (chokeLine j) cannot [] m 2 (linesOf (drop (e + 1) s)) ≡ readSheet j s
+    pub whole-cannot : (m : ℕ) → head ≡ H.Cannot m → restSays (chokeLine j) cannot [] m 2 (linesOf (drop q s)) ≡ readSheet j s
     whole-cannot m f = goes (H.Cannot m) f

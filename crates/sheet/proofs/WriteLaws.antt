@@ -1,5 +1,6 @@
 -- The pieces of a sheet are its lines, one more line is one more piece, and no line is longer than its share of the least length of a sheet.
 -- By induction over lists and counts. Assumes nothing.
+use Rattle.job.proofs.Rows.{in-paths}
 use Prim.Native.Nat.{ℕ, zero, suc, _+_, _-_, _*_, _≤_, _<_}
 use mathlib.Core.Path.{_≡_, refl, sym, _∙_, subst}
 use mathlib.Core.List.{List, [], _∷_, _++_, append-assoc, append-nil}
@@ -11,6 +12,7 @@ use lib.Dec.{ltb, eqb}
 use lib.ListN.{length, getD, take, drop, length-append, length-take}
 use borrow.Author.Tests.{ltb-true, ltb-false}
 use Rattle.model.specs.Lists.{In}
+use Rattle.model.specs.Limits.{maxSteps}
 use Rattle.model.specs.Text.{numeral, fields, line, pathWord}
 use Rattle.model.specs.Job.{Job, Call, call, callOf, latest, horizon, sheetLeast}
 use Rattle.model.specs.Plan.{Path}
@@ -54,34 +56,7 @@ module _ (b k n p l : ℕ) (h : k < n) (room : p + (n - k) * b ≤ l) where
   room-rest r i = omega (arith, apart)
 
 -- Paths.
-pub paths-count : (j : Job) (carts calls rows : List ℕ) (n : ℕ) → length (pathsTo j carts calls rows n) ≡ n
-paths-count j carts calls rows zero = refl
-paths-count j carts calls rows (suc n) = length-append (pathsTo j carts calls rows n) (pathAt j carts calls rows n ∷ []) ∙ omega (arith, paths-count j carts calls rows n)
-
-in-left : {A : Type 0} (a : A) (l m : List A) → In a l → In a (l ++ m)
-in-left a [] m h = absurd h
-in-left a (b ∷ l) m (inl e) = inl e
-in-left a (b ∷ l) m (inr h) = inr (in-left a l m h)
-
-in-last : {A : Type 0} (a : A) (l : List A) → In a (l ++ (a ∷ []))
-in-last a [] = inl refl
-in-last a (b ∷ l) = inr (in-last a l)
-
 module _ (j : Job) (carts calls rows : List ℕ) where
-  path-in : (n k : ℕ) → k < n → In (pathAt j carts calls rows k) (pathsTo j carts calls rows n)
-  path-in zero k h = absurd (omega arith)
-  path-in (suc n) k h = ⊎-elim
-      (λ i. in-left (pathAt j carts calls rows k) (pathsTo j carts calls rows n) (pathAt j carts calls rows n ∷ []) (path-in n k i))
-      (λ e. rw e (in-last (pathAt j carts calls rows n) (pathsTo j carts calls rows n)))
-      (before n k h)
-    where
-      before : (n k : ℕ) → k < suc n → (k < n) ⊎ (k ≡ n)
-      before n k h = go (ltb k n) refl
-        where
-          go : (t : Bool) → ltb k n ≡ t → (k < n) ⊎ (k ≡ n)
-          go true q = inl (ltb-true k n q)
-          go false q = let i = ltb-false k n q in inr (omega arith)
-
   call-known : ((p : Path) → In p (pathsOf j carts calls rows) → knownPath j p ≡ true) → (k : ℕ) → k < length (j .calls) → getD calls k 0 < length (j .calls)
   call-known known k h =
       let p = pathAt j carts calls rows k in
@@ -89,7 +64,7 @@ module _ (j : Job) (carts calls rows : List ℕ) where
       let b = ltb (p .call) (length (j .calls)) in
       let c = eqb (length (p .cells)) (suc (callOf j (p .call) .deadline)) in
       let d = allBelow (j .cells) (p .cells) in
-      ltb-true (p .call) (length (j .calls)) (and-right a b (and-left (a && b) c (and-left (a && b && c) d (known p (path-in (length (j .calls)) k h)))))
+      ltb-true (p .call) (length (j .calls)) (and-right a b (and-left (a && b) c (and-left (a && b && c) d (known p (in-paths j carts calls rows (length (j .calls)) k h)))))
 
 -- a deadline is no later than the last step
 pub latest-most : (l : List Call) (k : ℕ) → getD l k (call 0 0) .deadline ≤ latest l
@@ -116,7 +91,7 @@ module _ (j : Job) (ready : Ready j) (n : ℕ) where
 
 -- The path of line k, as the code finds it: its line is no longer than its share.
 module _ (j : Job) (carts calls rows : List ℕ) (k cart at d a e : ℕ) (p : cart ≡ getD carts k 0) (q : at ≡ getD calls k 0)
-    (r : callOf j at .deadline ≡ d) (s : a ≡ k * 256) (t : e ≡ a + d + 1) where
+    (r : callOf j at .deadline ≡ d) (s : a ≡ k * maxSteps) (t : e ≡ a + d + 1) where
   path-numbers : pathNumbers (pathAt j carts calls rows k) ≡ cart ∷ at ∷ take (e - a) (drop a rows)
   path-numbers =
       let m : e - a ≡ suc d = omega arith in

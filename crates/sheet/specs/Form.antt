@@ -1,6 +1,7 @@
 -- What the reader's answer stands for.
-use Prim.Native.Nat.{ℕ, _≤_}
+use Prim.Native.Nat.{ℕ, _+_, _≤_}
 use mathlib.Core.List.{List}
+use Rattle.model.specs.Limits.{maxCalls}
 use Rattle.model.specs.Job.{Job}
 use Rattle.model.specs.ReadSheet.{Sheet, bad, plan, cannot}
 use Rattle.job.specs.Held.{pathsOf, pointsOf}
@@ -12,8 +13,9 @@ formOf j (Bad l) first second rows = bad l
 formOf j Plan first second rows = plan (pathsOf j first second rows)
 formOf j (Cannot n) first second rows = cannot (pointsOf first second n)
 
--- A sheet in the form has at most 65 lines, so a bad one is at most the 66th; and there are fewer choke points than calls can be.
+-- A sheet in the form has a first line and at most one for each call, so a bad one is at most the line after those; and there are fewer choke points
+-- than calls can be.
 abbrev pub LineFits : Form → Type 0
-LineFits (Bad l) = l ≤ 66
+LineFits (Bad l) = l ≤ maxCalls + 2
 LineFits Plan = Unit
-LineFits (Cannot n) = n ≤ 64
+LineFits (Cannot n) = n ≤ maxCalls

@@ -6,6 +6,7 @@ use mathlib.Core.Option.{Option, none, some}
 use mathlib.Core.Bool.{Bool, true, false, cond, _&&_}
 use lib.Dec.{ltb, eqb}
 use lib.ListN.{length, getD, take, drop}
+use Rattle.model.specs.Limits.{maxSteps}
 use Rattle.model.specs.Job.{Job, callOf}
 use Rattle.model.specs.Plan.{Path}
 use Rattle.model.specs.Choke.{Point, point}
@@ -70,7 +71,7 @@ pub record Tells (j : Job) (cells carts calls : ℕ) (deadlines : List ℕ) : Ty
   pub carts-are : length (j .carts) ≡ carts
   pub calls-are : length (j .calls) ≡ calls
   pub deadlines-are : (k : ℕ) → k < calls → callOf j k .deadline ≡ getD deadlines k 0
-  pub deadlines-fit : (k : ℕ) → callOf j k .deadline < 256
+  pub deadlines-fit : (k : ℕ) → callOf j k .deadline < maxSteps
 
 abbrev pub pathRead : Job → PathLine → List ℕ → Option Path
 pathRead j P.Bad row = none

@@ -1,10 +1,11 @@
 // Reading a sheet: paths or choke points in the written form, or the first bad line.
 use job::state::Job;
 use model::Limits;
+use model::bytes::wide;
 use text::scan::Scan;
 ghost use mathlib.Core.Path.{_≡_};
 ghost use mathlib.Core.List.{[]};
-ghost use Prim.Native.Nat.{_≤_, _<_};
+ghost use Prim.Native.Nat.{_+_, _≤_, _<_};
 ghost use lib.ListN.{length, take, drop};
 ghost use Rattle.model.specs.Limits.{maxCells, maxCarts, maxCalls, maxSteps};
 ghost use Rattle.model.specs.Job as model;
@@ -48,12 +49,6 @@ enum Head {
     Bad,
     Plan,
     Cannot { points: usize },
-}
-
-fn wide(x: u8) -> usize
-    ensures { λ r. ⌜ (r ≡ x) × (r < 256) ⌝ }
-{
-    x as usize
 }
 
 // The number that is the only field from `at` on.
@@ -132,11 +127,12 @@ fn path_line(
     if !text::scan::opens_with(line, b"PATH\t") {
         return PathLine::Bad;
     }
+    let fields = &line[5..];
     let Two::Both {
         first: cart,
         second: call,
         next,
-    } = two_numbers(line, 5)
+    } = two_numbers(fields, 0)
     else {
         return PathLine::Bad;
     };
@@ -146,11 +142,11 @@ fn path_line(
     if calls <= call {
         return PathLine::Bad;
     }
-    if line.len() <= next {
+    if fields.len() <= next {
         return PathLine::Bad;
     }
     let count = wide(deadlines[call]) + 1;
-    if !read_cells(line, next + 1, cells, count, row) {
+    if !read_cells(fields, next + 1, cells, count, row) {
         return PathLine::Bad;
     }
     PathLine::Good { cart, call }
@@ -163,15 +159,16 @@ fn choke_line(line: &[u8], cells: usize, latest: usize) -> ChokeLine
     if !text::scan::opens_with(line, b"CHOKE\t") {
         return ChokeLine::Bad;
     }
+    let fields = &line[6..];
     let Two::Both {
         first: cell,
         second: step,
         next,
-    } = two_numbers(line, 6)
+    } = two_numbers(fields, 0)
     else {
         return ChokeLine::Bad;
     };
-    if next < line.len() {
+    if next < fields.len() {
         return ChokeLine::Bad;
     }
     if cells <= cell {
@@ -190,7 +187,7 @@ fn cannot_line(line: &[u8], calls: usize) -> Head
     if !text::scan::opens_with(line, b"CANNOT\t") {
         return Head::Bad;
     }
-    let Scan::Value { value, next: _ } = only_number(line, 7) else {
+    let Scan::Value { value, next: _ } = only_number(&line[7..], 0) else {
         return Head::Bad;
     };
     if calls <= value {
@@ -206,7 +203,7 @@ fn head_line(line: &[u8], calls: usize) -> Head
     if !text::scan::opens_with(line, b"PLAN\t") {
         return cannot_line(line, calls);
     }
-    let Scan::Value { value, next: _ } = only_number(line, 5) else {
+    let Scan::Value { value, next: _ } = only_number(&line[5..], 0) else {
         return Head::Bad;
     };
     if value != calls {
@@ -228,19 +225,19 @@ fn read_paths(
     rows: &mut [u8],
 ) -> usize
     requires { ⌜ (at ≤ length (now sheet)) × (cells ≤ maxCells) × (carts ≤ maxCarts) × (calls ≤ maxCalls) × Room (now first) (now second) (now rows) ⌝ }
-    ensures { λ r. ⌜ ((j : model.Job) → Tells j cells carts calls (now (deadlines .entry)) → unlessBad r (plan (pathsOf j (now (first .exit)) (now (second .exit)) (now (rows .exit)))) ≡ restSays (pathLine j) plan [] calls 2 (linesOf (drop at (now (sheet .entry))))) × Room (now (first .exit)) (now (second .exit)) (now (rows .exit)) × (r ≤ 66) ⌝ }
+    ensures { λ r. ⌜ ((j : model.Job) → Tells j cells carts calls (now (deadlines .entry)) → unlessBad r (plan (pathsOf j (now (first .exit)) (now (second .exit)) (now (rows .exit)))) ≡ restSays (pathLine j) plan [] calls 2 (linesOf (drop at (now (sheet .entry))))) × Room (now (first .exit)) (now (second .exit)) (now (rows .exit)) × (r ≤ maxCalls + 2) ⌝ }
 {
     let mut k = 0;
     let mut p = at;
     while k < calls {
-        let end = text::scan::line_end(sheet, p);
-        if sheet.len() <= end {
+        let line = text::lines::next(sheet, &mut p);
+        if sheet.len() < p {
             return k + 2;
         }
         let a = k * Limits::STEPS;
         let e = a + Limits::STEPS;
         let PathLine::Good { cart, call } = path_line(
-            &sheet[p..end],
+            line,
             cells,
             carts,
             calls,
@@ -252,7 +249,6 @@ fn read_paths(
         first[k] = cart as u8;
         second[k] = call as u8;
         k += 1;
-        p = end + 1;
     }
     if p < sheet.len() {
         return k + 2;
@@ -271,22 +267,21 @@ fn read_chokes(
     second: &mut [u8],
 ) -> usize
     requires { ⌜ (at ≤ length (now sheet)) × (count ≤ maxCalls) × (cells ≤ maxCells) × (latest < maxSteps) × (length (now first) ≡ maxCalls) × (length (now second) ≡ maxCalls) ⌝ }
-    ensures { λ r. ⌜ ((j : model.Job) → j .cells ≡ cells → horizon j ≡ latest → unlessBad r (cannot (pointsOf (now (first .exit)) (now (second .exit)) count)) ≡ restSays (chokeLine j) cannot [] count 2 (linesOf (drop at (now (sheet .entry))))) × (r ≤ 66) ⌝ }
+    ensures { λ r. ⌜ ((j : model.Job) → j .cells ≡ cells → horizon j ≡ latest → unlessBad r (cannot (pointsOf (now (first .exit)) (now (second .exit)) count)) ≡ restSays (chokeLine j) cannot [] count 2 (linesOf (drop at (now (sheet .entry))))) × (r ≤ maxCalls + 2) ⌝ }
 {
     let mut k = 0;
     let mut p = at;
     while k < count {
-        let end = text::scan::line_end(sheet, p);
-        if sheet.len() <= end {
+        let line = text::lines::next(sheet, &mut p);
+        if sheet.len() < p {
             return k + 2;
         }
-        let ChokeLine::Good { cell, step } = choke_line(&sheet[p..end], cells, latest) else {
+        let ChokeLine::Good { cell, step } = choke_line(line, cells, latest) else {
             return k + 2;
         };
         first[k] = cell as u8;
         second[k] = step as u8;
         k += 1;
-        p = end + 1;
     }
     if p < sheet.len() {
         return k + 2;
@@ -305,13 +300,14 @@ pub fn read_sheet(
     requires { ⌜ Ready (jobOf job) × Sized job × Room (now first) (now second) (now rows) ⌝ }
     ensures { λ r. ⌜ (formOf (jobOf job) r (now (first .exit)) (now (second .exit)) (now (rows .exit)) ≡ readSheet (jobOf job) (now (sheet .entry))) × Room (now (first .exit)) (now (second .exit)) (now (rows .exit)) × LineFits r ⌝ }
 {
-    let end = text::scan::line_end(sheet, 0);
-    if sheet.len() <= end {
+    let mut at = 0;
+    let first_line = text::lines::next(sheet, &mut at);
+    if sheet.len() < at {
         return Form::Bad { line: 1 };
     }
     let cells = job.cells;
     let calls = job.calls;
-    let head = head_line(&sheet[0..end], calls);
+    let head = head_line(first_line, calls);
     match head {
         Head::Bad => {
             return Form::Bad { line: 1 };
@@ -319,7 +315,7 @@ pub fn read_sheet(
         Head::Plan => {
             let line = read_paths(
                 sheet,
-                end + 1,
+                at,
                 cells,
                 job.carts,
                 calls,
@@ -335,7 +331,7 @@ pub fn read_sheet(
         }
         Head::Cannot { points } => {
             let latest = job::size::horizon(&job.deadlines, calls);
-            let line = read_chokes(sheet, end + 1, points, cells, latest, first, second);
+            let line = read_chokes(sheet, at, points, cells, latest, first, second);
             if line != 0 {
                 return Form::Bad { line };
             }

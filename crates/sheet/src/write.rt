@@ -1,11 +1,14 @@
 // Writing a sheet into a lent buffer.
 use job::state::Job;
+use model::Limits;
+use model::bytes::wide;
 use text::put;
 ghost use mathlib.Core.Path.{_≡_};
 ghost use mathlib.Core.List.{_∷_, [], _++_};
 ghost use mathlib.Core.Bool.{true};
 ghost use Prim.Native.Nat.{_+_, _*_, _<_, _≤_};
 ghost use lib.ListN.{length};
+ghost use Rattle.model.specs.Limits.{maxCalls};
 ghost use Rattle.model.specs.Lists.{In};
 ghost use Rattle.model.specs.Text.{fields, line, pathWord, chokeWord};
 ghost use Rattle.model.specs.Job.{sheetLeast};
@@ -16,12 +19,6 @@ ghost use Rattle.model.specs.SheetText.{planText, cannotText};
 ghost use Rattle.job.specs.Arrays.{jobOf, Sized};
 ghost use Rattle.text.specs.Wrote.{Wrote};
 ghost use Rattle.job.specs.Held.{Room, pathsOf, pointsOf};
-
-fn wide(x: u8) -> usize
-    ensures { λ r. ⌜ (r ≡ x) × (r < 256) ⌝ }
-{
-    x as usize
-}
 
 // The first line: a word and a count.
 fn put_head(out: &mut [u8], at: usize, word: &[u8], n: usize) -> usize
@@ -70,7 +67,7 @@ pub fn put_plan(job: Job, carts: &[u8], calls: &[u8], rows: &[u8], out: &mut [u8
     let mut k = 0;
     while k < n {
         let call = wide(calls[k]);
-        let a = k * 256;
+        let a = k * Limits::STEPS;
         let e = a + wide(job.deadlines[call]) + 1;
         p = put_path(out, p, wide(carts[k]), call, &rows[a..e]);
         k += 1;
@@ -80,7 +77,7 @@ pub fn put_plan(job: Job, carts: &[u8], calls: &[u8], rows: &[u8], out: &mut [u8
 
 // CANNOT, and a CHOKE line for each of the n points.
 pub fn put_cannot(job: Job, cells: &[u8], steps: &[u8], n: usize, out: &mut [u8]) -> usize
-    requires { ⌜ Ready (jobOf job) × Sized job × (length (now cells) ≡ 64) × (length (now steps) ≡ 64) × (n < job .calls) × (sheetLeast (jobOf job) ≤ length (now out)) ⌝ }
+    requires { ⌜ Ready (jobOf job) × Sized job × (length (now cells) ≡ maxCalls) × (length (now steps) ≡ maxCalls) × (n < job .calls) × (sheetLeast (jobOf job) ≤ length (now out)) ⌝ }
     ensures { λ r. ⌜ Wrote (now (out .entry)) 0 (cannotText (pointsOf (now (cells .entry)) (now (steps .entry)) n)) (now (out .exit)) r ⌝ }
 {
     let mut p = put_head(out, 0, b"CANNOT", n);

@@ -3,6 +3,9 @@ use Rattle.sheet.proofs.FormSaid.{cannot-few, cannot-good, cannot-high,
 use mathlib.Core.Path.{_∙_, ap, sym}
 use borrow.Author.Tests.{not-false, not-true}
 use denote.Ref.{now}
+use mathlib.Core.List.{[], _∷_}
+use Rattle.model.proofs.Words.{opens-long}
+use Rattle.sheet.proofs.FormNumbers.{to-end}
 use Rattle.sheet.specs.FormParts.{onlyRead}
 use borrow.Author.Needs.{needs}
 use Rattle.sheet.proofs.form.cannot_line.Statement.{statement}
@@ -17,6 +20,15 @@ opens-with-requires c κs = search needs
 returns : tie.Need-returns
 returns c = cannot-unlike (c .before .before .before .before .args .calls) (now (c .before .before .before .before .args .line)) (sym (c .before .opens-with .ensures) ∙ not-true (c .before .opens-with .result) (c .if1 .taken))
 
+sub-only-number : tie.Need-sub-only-number
+sub-only-number c = opens-long (67 ∷ 65 ∷ 78 ∷ 78 ∷ 79 ∷ 84 ∷ 9 ∷ []) (now (c .before .before .before .before .args .line)) (sym (c .before .opens-with .ensures) ∙ not-false (c .before .opens-with .result) (c .if1 .left))
+
+part-only-number-start : tie.Need-part-only-number-start
+part-only-number-start c = opens-long (67 ∷ 65 ∷ 78 ∷ 78 ∷ 79 ∷ 84 ∷ 9 ∷ []) (now (c .before .before .before .before .args .line)) (sym (c .before .opens-with .ensures) ∙ not-false (c .before .opens-with .result) (c .if1 .left))
+
+part-only-number-end : tie.Need-part-only-number-end
+part-only-number-end c = search needs
+
 only-number-requires : tie.Need-only-number-requires
 only-number-requires c κs = search needs
 
@@ -28,20 +40,20 @@ enum-told c = search needs
 
 returns-2 : tie.Need-returns-2
 returns-2 c =
-    let b = sym (c .before .before .before .before .opens-with .ensures) ∙ not-false (c .before .before .before .before .opens-with .result) (c .before .before .before .if1 .left) in
-    cannot-few (c .before .before .before .before .before .before .before .args .calls) (now (c .before .before .before .before .before .before .before .args .line)) b (sym (c .before .before .only-number .ensures) ∙ ap onlyRead (c .enum-told .given .1))
+    let b = sym (c .before .before .before .before .before .opens-with .ensures) ∙ not-false (c .before .before .before .before .before .opens-with .result) (c .before .before .before .before .if1 .left) in
+    cannot-few (c .before .before .before .before .before .before .before .before .args .calls) (now (c .before .before .before .before .before .before .before .before .args .line)) b _ (to-end 7 (now (c .before .before .before .before .before .before .before .before .args .line))) (sym (c .before .before .only-number .ensures) ∙ ap onlyRead (c .enum-told .given .1))
 
 returns-3 : tie.Need-returns-3
 returns-3 c =
-    let b = sym (c .before .before .before .before .before .before .opens-with .ensures) ∙ not-false (c .before .before .before .before .before .before .opens-with .result) (c .before .before .before .before .before .if1 .left) in
+    let b = sym (c .before .before .before .before .before .before .before .opens-with .ensures) ∙ not-false (c .before .before .before .before .before .before .before .opens-with .result) (c .before .before .before .before .before .before .if1 .left) in
     let v = c .before .before .value .given in
-    cannot-high (c .before .before .before .before .before .before .before .before .before .args .calls) (now (c .before .before .before .before .before .before .before .before .before .args .line)) b (v .0 .0) (sym (c .before .before .before .before .only-number .ensures) ∙ ap onlyRead (v .1)) (c .if2 .taken)
+    cannot-high (c .before .before .before .before .before .before .before .before .before .before .args .calls) (now (c .before .before .before .before .before .before .before .before .before .before .args .line)) b _ (to-end 7 (now (c .before .before .before .before .before .before .before .before .before .before .args .line))) (v .0 .0) (sym (c .before .before .before .before .only-number .ensures) ∙ ap onlyRead (v .1)) (c .if2 .taken)
 
 returns-4 : tie.Need-returns-4
 returns-4 c =
-    let b = sym (c .before .before .before .before .before .before .opens-with .ensures) ∙ not-false (c .before .before .before .before .before .before .opens-with .result) (c .before .before .before .before .before .if1 .left) in
+    let b = sym (c .before .before .before .before .before .before .before .opens-with .ensures) ∙ not-false (c .before .before .before .before .before .before .before .opens-with .result) (c .before .before .before .before .before .before .if1 .left) in
     let v = c .before .before .value .given in
-    cannot-good (c .before .before .before .before .before .before .before .before .before .args .calls) (now (c .before .before .before .before .before .before .before .before .before .args .line)) b (v .0 .0) (sym (c .before .before .before .before .only-number .ensures) ∙ ap onlyRead (v .1)) (c .if2 .left)
+    cannot-good (c .before .before .before .before .before .before .before .before .before .before .args .calls) (now (c .before .before .before .before .before .before .before .before .before .before .args .line)) b _ (to-end 7 (now (c .before .before .before .before .before .before .before .before .before .before .args .line))) (v .0 .0) (sym (c .before .before .before .before .only-number .ensures) ∙ ap onlyRead (v .1)) (c .if2 .left)
 
 pub cannot-line-spec : {M : Type 1} → statement M
 cannot-line-spec =
@@ -50,6 +62,9 @@ cannot-line-spec =
     slice-aggregate-opens-with
     opens-with-requires
     returns
+    sub-only-number
+    part-only-number-start
+    part-only-number-end
     only-number-requires
     enum-known-value
     enum-told

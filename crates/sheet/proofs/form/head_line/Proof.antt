@@ -1,5 +1,8 @@
 -- `head_line` reads the first line: PLAN with its only number, which is that of the calls, or what `cannot_line` says. Assumes nothing.
 use denote.Ref.{now}
+use mathlib.Core.List.{[], _∷_}
+use Rattle.model.proofs.Words.{opens-long}
+use Rattle.sheet.proofs.FormNumbers.{to-end}
 use mathlib.Core.Path.{_∙_, ap, sym}
 use Rattle.sheet.proofs.FormSaid.{head-few, head-plan, head-unlike, head-wrong}
 use borrow.Author.Tests.{not-false, not-true}
@@ -20,6 +23,15 @@ cannot-line-requires c κs = search needs
 returns : tie.Need-returns
 returns c = head-unlike (c .before .before .before .before .before .args .calls) (now (c .before .before .before .before .before .args .line)) (sym (c .before .before .opens-with .ensures) ∙ not-true (c .before .before .opens-with .result) (c .before .if1 .taken)) (c .cannot-line .result) (c .cannot-line .ensures)
 
+sub-only-number : tie.Need-sub-only-number
+sub-only-number c = opens-long (80 ∷ 76 ∷ 65 ∷ 78 ∷ 9 ∷ []) (now (c .before .before .before .before .args .line)) (sym (c .before .opens-with .ensures) ∙ not-false (c .before .opens-with .result) (c .if1 .left))
+
+part-only-number-start : tie.Need-part-only-number-start
+part-only-number-start c = opens-long (80 ∷ 76 ∷ 65 ∷ 78 ∷ 9 ∷ []) (now (c .before .before .before .before .args .line)) (sym (c .before .opens-with .ensures) ∙ not-false (c .before .opens-with .result) (c .if1 .left))
+
+part-only-number-end : tie.Need-part-only-number-end
+part-only-number-end c = search needs
+
 only-number-requires : tie.Need-only-number-requires
 only-number-requires c κs = search needs
 
@@ -31,20 +43,20 @@ enum-told c = search needs
 
 returns-2 : tie.Need-returns-2
 returns-2 c =
-    let b = sym (c .before .before .before .before .opens-with .ensures) ∙ not-false (c .before .before .before .before .opens-with .result) (c .before .before .before .if1 .left) in
-    head-few (c .before .before .before .before .before .before .before .args .calls) (now (c .before .before .before .before .before .before .before .args .line)) b (sym (c .before .before .only-number .ensures) ∙ ap onlyRead (c .enum-told .given .1))
+    let b = sym (c .before .before .before .before .before .opens-with .ensures) ∙ not-false (c .before .before .before .before .before .opens-with .result) (c .before .before .before .before .if1 .left) in
+    head-few (c .before .before .before .before .before .before .before .before .args .calls) (now (c .before .before .before .before .before .before .before .before .args .line)) b _ (to-end 5 (now (c .before .before .before .before .before .before .before .before .args .line))) (sym (c .before .before .only-number .ensures) ∙ ap onlyRead (c .enum-told .given .1))
 
 returns-3 : tie.Need-returns-3
 returns-3 c =
-    let b = sym (c .before .before .before .before .before .before .opens-with .ensures) ∙ not-false (c .before .before .before .before .before .before .opens-with .result) (c .before .before .before .before .before .if1 .left) in
+    let b = sym (c .before .before .before .before .before .before .before .opens-with .ensures) ∙ not-false (c .before .before .before .before .before .before .before .opens-with .result) (c .before .before .before .before .before .before .if1 .left) in
     let v = c .before .before .value .given in
-    head-wrong (c .before .before .before .before .before .before .before .before .before .args .calls) (now (c .before .before .before .before .before .before .before .before .before .args .line)) b (v .0 .0) (sym (c .before .before .before .before .only-number .ensures) ∙ ap onlyRead (v .1)) (c .if2 .taken)
+    head-wrong (c .before .before .before .before .before .before .before .before .before .before .args .calls) (now (c .before .before .before .before .before .before .before .before .before .before .args .line)) b _ (to-end 5 (now (c .before .before .before .before .before .before .before .before .before .before .args .line))) (v .0 .0) (sym (c .before .before .before .before .only-number .ensures) ∙ ap onlyRead (v .1)) (c .if2 .taken)
 
 returns-4 : tie.Need-returns-4
 returns-4 c =
-    let b = sym (c .before .before .before .before .before .before .opens-with .ensures) ∙ not-false (c .before .before .before .before .before .before .opens-with .result) (c .before .before .before .before .before .if1 .left) in
+    let b = sym (c .before .before .before .before .before .before .before .opens-with .ensures) ∙ not-false (c .before .before .before .before .before .before .before .opens-with .result) (c .before .before .before .before .before .before .if1 .left) in
     let v = c .before .before .value .given in
-    head-plan (c .before .before .before .before .before .before .before .before .before .args .calls) (now (c .before .before .before .before .before .before .before .before .before .args .line)) b (v .0 .0) (sym (c .before .before .before .before .only-number .ensures) ∙ ap onlyRead (v .1)) (c .if2 .left)
+    head-plan (c .before .before .before .before .before .before .before .before .before .before .args .calls) (now (c .before .before .before .before .before .before .before .before .before .before .args .line)) b _ (to-end 5 (now (c .before .before .before .before .before .before .before .before .before .before .args .line))) (v .0 .0) (sym (c .before .before .before .before .only-number .ensures) ∙ ap onlyRead (v .1)) (c .if2 .left)
 
 pub head-line-spec : {M : Type 1} → statement M
 head-line-spec =
@@ -54,6 +66,9 @@ head-line-spec =
     opens-with-requires
     cannot-line-requires
     returns
+    sub-only-number
+    part-only-number-start
+    part-only-number-end
     only-number-requires
     enum-known-value
     enum-told

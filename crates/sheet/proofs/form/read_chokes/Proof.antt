@@ -1,5 +1,6 @@
 -- `read_chokes` reads the lines after CANNOT. Invariant: what the rest of the lines says after the k points that are held is what all of them say.
 -- The measure is the number of lines left. Assumes nothing.
+use Rattle.model.specs.Limits.{maxCalls}
 use Rattle.model.specs.Job.{Job, horizon}
 use mathlib.Core.List.{[]}
 use Prim.Native.Nat.{_+_, _-_, _<_, _≤_}
@@ -20,7 +21,7 @@ use Rattle.sheet.proofs.form.read_chokes.Statement.{statement}
 use Rattle.sheet.proofs.form.read_chokes.Tie as tie
 
 abbrev Inv-loop : tie.InvT-loop
-Inv-loop sheet at count cells latest first₀ second₀ k₀ p₀ first second k p = (k ≤ count) × (p ≤ length sheet) × (length first ≡ 64) × (length second ≡ 64) × ((j : Job) → j .cells ≡ cells → horizon j ≡ latest → restSays (chokeLine j) cannot (pointsOf first second k) (count - k) (k + 2) (linesOf (drop p sheet)) ≡ restSays (chokeLine j) cannot [] count 2 (linesOf (drop at sheet)))
+Inv-loop sheet at count cells latest first₀ second₀ k₀ p₀ first second k p = (k ≤ count) × (p ≤ length sheet) × (length first ≡ maxCalls) × (length second ≡ maxCalls) × ((j : Job) → j .cells ≡ cells → horizon j ≡ latest → restSays (chokeLine j) cannot (pointsOf first second k) (count - k) (k + 2) (linesOf (drop p sheet)) ≡ restSays (chokeLine j) cannot [] count 2 (linesOf (drop at sheet)))
 
 abbrev μ-loop : tie.MeasureT-loop
 μ-loop sheet at count cells latest first₀ second₀ k₀ p₀ first second k p = count - k
@@ -28,8 +29,8 @@ abbrev μ-loop : tie.MeasureT-loop
 loop-holds : tie.Need-loop-holds Inv-loop μ-loop
 loop-holds c = (search needs, search needs, search needs, search needs, λ j q r. turns-start (chokeLine j) cannot (now (c .before .before .before .args .sheet)) (c .before .before .before .args .at) (c .before .before .before .args .count))
 
-line-end-requires : tie.Need-line-end-requires Inv-loop μ-loop
-line-end-requires c κs = search needs
+next-requires : tie.Need-next-requires Inv-loop μ-loop
+next-requires c κs = search needs
 
 add-result : tie.Need-add-result Inv-loop μ-loop
 add-result c = search needs
@@ -42,18 +43,9 @@ same-length-2 c = search needs
 
 returns : tie.Need-returns Inv-loop μ-loop
 returns c =
-    let l = c .before .before .before .loop in
-    let a = c .before .before .before .before .before .before .before .args in
-    (λ j q r. turn-cut (chokeLine j) cannot (now (a .sheet)) (pointsOf (l .first) (l .second) (l .k)) (l .p) (l .k) (a .count) _ (l .inv .4 j q r) (c .before .before .loop-test .taken) (c .before .line-end .result) (c .before .line-end .ensures) (c .if1 .taken) _, omega arith)
-
-sub-choke-line : tie.Need-sub-choke-line Inv-loop μ-loop
-sub-choke-line c = search needs
-
-part-choke-line-start : tie.Need-part-choke-line-start Inv-loop μ-loop
-part-choke-line-start c = search needs
-
-part-choke-line-end : tie.Need-part-choke-line-end Inv-loop μ-loop
-part-choke-line-end c = search needs
+    let l = c .before .before .before .before .loop in
+    let a = c .before .before .before .before .before .before .before .before .args in
+    (λ j q r. turn-cut (chokeLine j) cannot (now (a .sheet)) (pointsOf (l .first) (l .second) (l .k)) (l .p) (l .k) (a .count) _ (l .inv .4 j q r) (c .before .before .before .loop-test .taken) _ _ (c .before .next .ensures) (c .if1 .taken) _, omega arith)
 
 choke-line-requires : tie.Need-choke-line-requires Inv-loop μ-loop
 choke-line-requires c κs = search needs
@@ -77,7 +69,7 @@ returns-2 : tie.Need-returns-2 Inv-loop μ-loop
 returns-2 c =
     let l = c .before .before .before .before .before .before .before .loop in
     let a = c .before .before .before .before .before .before .before .before .before .before .before .args in
-    (λ j q r. turn-bad (chokeLine j) cannot (now (a .sheet)) (pointsOf (l .first) (l .second) (l .k)) (l .p) (l .k) (a .count) _ (l .inv .4 j q r) (c .before .before .before .before .before .before .loop-test .taken) (c .before .before .before .before .before .line-end .result) (c .before .before .before .before .before .line-end .ensures) (c .before .before .before .before .if1 .left) (sym (c .before .before .choke-line .ensures .0 j q r) ∙ ap chokeRead (c .enum-told .given .1)) _, omega arith)
+    (λ j q r. turn-bad (chokeLine j) cannot (now (a .sheet)) (pointsOf (l .first) (l .second) (l .k)) (l .p) (l .k) (a .count) _ (l .inv .4 j q r) (c .before .before .before .before .before .before .loop-test .taken) _ _ (c .before .before .before .before .next .ensures) (c .before .before .before .if1 .left) (sym (c .before .before .choke-line .ensures .0 j q r) ∙ ap chokeRead (c .enum-told .given .1)) _, omega arith)
 
 known : (c : tie.After-known-told Inv-loop μ-loop) → (c .before .cell .given .0 .0 < c .before .before .before .before .before .before .before .before .before .before .before .before .args .cells) × (c .before .cell .given .0 .1 .0 ≤ c .before .before .before .before .before .before .before .before .before .before .before .before .args .latest)
 known c = choke-known _ _ _ _ _ (c .before .before .before .choke-line .ensures .1) (c .before .cell .given .1)
@@ -97,9 +89,6 @@ slice-write-second c = search needs
 add-k : tie.Need-add-k Inv-loop μ-loop
 add-k c = search needs
 
-add-p : tie.Need-add-p Inv-loop μ-loop
-add-p c = search needs
-
 loop-less : tie.Need-loop-less Inv-loop μ-loop
 loop-less c = search needs
 
@@ -112,7 +101,7 @@ loop-again c =
       omega arith,
       simp length-set (l .inv .2),
       simp length-set (l .inv .3),
-      λ j q r. turn-good (chokeLine j) cannot (now (a .sheet)) (pointsOf (l .first) (l .second) (l .k)) (l .p) (l .k) (a .count) _ (l .inv .4 j q r) (c .before .before .before .before .before .before .before .loop-test .taken) (c .before .before .before .before .before .before .line-end .result) (c .before .before .before .before .before .before .line-end .ensures) (c .before .before .before .before .before .if1 .left)
+      λ j q r. turn-good (chokeLine j) cannot (now (a .sheet)) (pointsOf (l .first) (l .second) (l .k)) (l .p) (l .k) (a .count) _ (l .inv .4 j q r) (c .before .before .before .before .before .before .before .loop-test .taken) _ _ (c .before .before .before .before .before .next .ensures) (c .before .before .before .before .if1 .left)
           (point (v .0 .0) (v .0 .1 .0)) (pointsOf (set (l .first) (l .k) (v .0 .0)) (set (l .second) (l .k) (v .0 .1 .0)) (l .k + 1)) (sym (c .before .before .before .choke-line .ensures .0 j q r) ∙ ap chokeRead (v .1))
           (points-more (l .first) (l .second) (l .k) (v .0 .0) (v .0 .1 .0) (omega arith) (omega arith)),
     )
@@ -152,14 +141,11 @@ read-chokes-spec =
     Inv-loop
     μ-loop
     loop-holds
-    line-end-requires
+    next-requires
     add-result
     same-length
     same-length-2
     returns
-    sub-choke-line
-    part-choke-line-start
-    part-choke-line-end
     choke-line-requires
     enum-known-cell
     enum-told
@@ -172,7 +158,6 @@ read-chokes-spec =
     cast-second
     slice-write-second
     add-k
-    add-p
     loop-less
     loop-again
     add-result-3

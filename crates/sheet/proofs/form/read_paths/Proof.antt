@@ -1,6 +1,7 @@
 -- `read_paths` reads the lines after PLAN. Invariant: what the rest of the lines says after the k paths that are held is what all of them say.
 -- The measure is the number of lines left. Assumes nothing.
-use Rattle.sheet.proofs.FormHeld.{paths-more, withRow}
+use Rattle.job.proofs.Rows.{withRow}
+use Rattle.sheet.proofs.FormHeld.{paths-more}
 use Rattle.model.specs.Job.{Job, callOf}
 use Rattle.job.specs.Held.{Room, pathsTo}
 use Rattle.sheet.specs.FormParts.{Tells, pathRead}
@@ -27,8 +28,8 @@ abbrev μ-loop : tie.MeasureT-loop
 loop-holds : tie.Need-loop-holds Inv-loop μ-loop
 loop-holds c = (search needs, search needs, search needs, λ j t. turns-start (pathLine j) plan (now (c .before .before .before .before .args .sheet)) (c .before .before .before .before .args .at) (c .before .before .before .before .args .calls))
 
-line-end-requires : tie.Need-line-end-requires Inv-loop μ-loop
-line-end-requires c κs = search needs
+next-requires : tie.Need-next-requires Inv-loop μ-loop
+next-requires c κs = search needs
 
 add-result : tie.Need-add-result Inv-loop μ-loop
 add-result c = search needs
@@ -44,9 +45,9 @@ same-length-3 c = search needs
 
 returns : tie.Need-returns Inv-loop μ-loop
 returns c =
-    let l = c .before .before .before .loop in
-    let a = c .before .before .before .before .before .before .before .before .args in
-    (λ j t. turn-cut (pathLine j) plan (now (a .sheet)) (pathsTo j (l .first) (l .second) (l .rows) (l .k)) (l .p) (l .k) (a .calls) _ (l .inv .3 j t) (c .before .before .loop-test .taken) (c .before .line-end .result) (c .before .line-end .ensures) (c .if1 .taken) _, l .inv .2, omega arith)
+    let l = c .before .before .before .before .loop in
+    let a = c .before .before .before .before .before .before .before .before .before .args in
+    (λ j t. turn-cut (pathLine j) plan (now (a .sheet)) (pathsTo j (l .first) (l .second) (l .rows) (l .k)) (l .p) (l .k) (a .calls) _ (l .inv .3 j t) (c .before .before .before .loop-test .taken) _ _ (c .before .next .ensures) (c .if1 .taken) _, l .inv .2, omega arith)
 
 mul-a : tie.Need-mul-a Inv-loop μ-loop
 mul-a c = search needs
@@ -62,15 +63,6 @@ part-path-line-start c = search needs
 
 part-path-line-end : tie.Need-part-path-line-end Inv-loop μ-loop
 part-path-line-end c = search needs
-
-sub-path-line-2 : tie.Need-sub-path-line-2 Inv-loop μ-loop
-sub-path-line-2 c = search needs
-
-part-path-line-start-2 : tie.Need-part-path-line-start-2 Inv-loop μ-loop
-part-path-line-start-2 c = search needs
-
-part-path-line-end-2 : tie.Need-part-path-line-end-2 Inv-loop μ-loop
-part-path-line-end-2 c = search needs
 
 path-line-requires : tie.Need-path-line-requires Inv-loop μ-loop
 path-line-requires c κs = search needs
@@ -100,7 +92,7 @@ returns-2 : tie.Need-returns-2 Inv-loop μ-loop
 returns-2 c =
     let l = c .before .before .before .before .before .before .before .before .before .before .loop in
     let a = c .before .before .before .before .before .before .before .before .before .before .before .before .before .before .before .args in (
-      λ j t. turn-bad (pathLine j) plan (now (a .sheet)) (pathsTo j (l .first) (l .second) (l .rows) (l .k)) (l .p) (l .k) (a .calls) _ (l .inv .3 j t) (c .before .before .before .before .before .before .before .before .before .loop-test .taken) (c .before .before .before .before .before .before .before .before .line-end .result) (c .before .before .before .before .before .before .before .before .line-end .ensures) (c .before .before .before .before .before .before .before .if1 .left)
+      λ j t. turn-bad (pathLine j) plan (now (a .sheet)) (pathsTo j (l .first) (l .second) (l .rows) (l .k)) (l .p) (l .k) (a .calls) _ (l .inv .3 j t) (c .before .before .before .before .before .before .before .before .before .loop-test .taken) _ _ (c .before .before .before .before .before .before .before .next .ensures) (c .before .before .before .before .before .before .if1 .left)
           (sym (c .before .before .before .before .path-line .ensures .0 j t) ∙ ap (λ x. pathRead j x (c .before .before .before .before .path-line .last .1 .1 .1 .1 .1 .0)) (c .enum-told .given .1)) _,
       same-room _ _ (l .rows) _ (l .inv .2) (c .before .before .before .rows .given .1),
       omega arith,
@@ -124,9 +116,6 @@ slice-write-second c = search needs
 add-k : tie.Need-add-k Inv-loop μ-loop
 add-k c = search needs
 
-add-p : tie.Need-add-p Inv-loop μ-loop
-add-p c = search needs
-
 loop-less : tie.Need-loop-less Inv-loop μ-loop
 loop-less c = search needs
 
@@ -139,7 +128,7 @@ loop-again c =
       omega arith,
       omega arith,
       record { firsts = simp length-set (l .inv .2 .firsts); seconds = simp length-set (l .inv .2 .seconds); cells = c .before .before .before .before .rows .given .1 ∙ l .inv .2 .cells },
-      λ j t. turn-good (pathLine j) plan (now (a .sheet)) (pathsTo j (l .first) (l .second) (l .rows) (l .k)) (l .p) (l .k) (a .calls) _ (l .inv .3 j t) (c .before .before .before .before .before .before .before .before .before .before .loop-test .taken) (c .before .before .before .before .before .before .before .before .before .line-end .result) (c .before .before .before .before .before .before .before .before .before .line-end .ensures) (c .before .before .before .before .before .before .before .before .if1 .left)
+      λ j t. turn-good (pathLine j) plan (now (a .sheet)) (pathsTo j (l .first) (l .second) (l .rows) (l .k)) (l .p) (l .k) (a .calls) _ (l .inv .3 j t) (c .before .before .before .before .before .before .before .before .before .before .loop-test .taken) _ _ (c .before .before .before .before .before .before .before .before .next .ensures) (c .before .before .before .before .before .before .before .if1 .left)
           (record { cart = v .0 .0; call = v .0 .1 .0; cells = take (suc (callOf j (v .0 .1 .0) .deadline)) row })
           (pathsTo j (set (l .first) (l .k) (v .0 .0)) (set (l .second) (l .k) (v .0 .1 .0)) (withRow (l .rows) (l .k) row) (l .k + 1))
           (sym (c .before .before .before .before .before .path-line .ensures .0 j t) ∙ ap (λ x. pathRead j x row) (v .1))
@@ -187,7 +176,7 @@ read-paths-spec =
     Inv-loop
     μ-loop
     loop-holds
-    line-end-requires
+    next-requires
     add-result
     same-length
     same-length-2
@@ -198,9 +187,6 @@ read-paths-spec =
     sub-path-line
     part-path-line-start
     part-path-line-end
-    sub-path-line-2
-    part-path-line-start-2
-    part-path-line-end-2
     path-line-requires
     enum-known-cart
     enum-told
@@ -214,7 +200,6 @@ read-paths-spec =
     cast-second
     slice-write-second
     add-k
-    add-p
     loop-less
     loop-again
     add-result-3

@@ -3,13 +3,12 @@
 use Rattle.model.specs.Text.{Lines, more}
 use Rattle.job.specs.Held.{Room, pathsOf, pointsOf}
 use Rattle.sheet.specs.FormParts.{Tells, headGoes, unlessBad}
-use Prim.Native.Nat.{_-_}
 use mathlib.Core.Path.{_∙_, _≡_, refl, sym}
 use native.Mathlib.Omega.{arith}
 use Rattle.job.proofs.Arrays.{Whole, long, whole, calls-count, last-deadline}
 use Rattle.sheet.proofs.FormTold.{tells}
 use Rattle.model.specs.ReadSheet.{cannot, headSays, plan, readSheet}
-use lib.ListN.{drop, length, take}
+use lib.ListN.{length}
 use Rattle.sheet.proofs.FormWhole.{goes-on, points-known, stops, whole-cannot, whole-cut, whole-head, whole-plan}
 use Rattle.job.specs.Arrays.{jobOf}
 use denote.Ref.{now}
@@ -17,8 +16,8 @@ use borrow.Author.Needs.{needs}
 use Rattle.sheet.proofs.form.read_sheet.Statement.{statement}
 use Rattle.sheet.proofs.form.read_sheet.Tie as tie
 
-line-end-requires : tie.Need-line-end-requires
-line-end-requires c κs = search needs
+next-requires : tie.Need-next-requires
+next-requires c κs = search needs
 
 arrays : (c : tie.Start) → Whole (c .args .t1)
 arrays c = whole (c .args .t1) (c .pre .1) (long (c .args .t1) (c .good .0 .0) (c .good .0 .1 .1))
@@ -30,16 +29,7 @@ told : (c : tie.Start) → Tells (jobOf (c .args .t1)) (c .args .t1 .cells) (c .
 told c = tells (c .args .t1) (arrays c) (c .pre .0)
 
 returns : tie.Need-returns
-returns c = (whole-cut (jobOf (c .before .before .before .before .before .before .args .t1)) (now (c .before .before .before .before .before .before .args .sheet)) (c .before .line-end .result) (c .before .line-end .ensures) (c .if1 .taken), c .before .before .before .before .before .before .pre .2, omega arith)
-
-sub-head-line : tie.Need-sub-head-line
-sub-head-line c = search needs
-
-part-head-line-start : tie.Need-part-head-line-start
-part-head-line-start c = search needs
-
-part-head-line-end : tie.Need-part-head-line-end
-part-head-line-end c = search needs
+returns c = (whole-cut (jobOf (c .before .before .before .before .before .before .before .args .t1)) (now (c .before .before .before .before .before .before .before .args .sheet)) _ _ (c .before .next .ensures) (c .if1 .taken), c .before .before .before .before .before .before .before .pre .2, omega arith)
 
 head-line-requires : tie.Need-head-line-requires
 head-line-requires c κs = search needs
@@ -48,23 +38,19 @@ enum-told : tie.Need-enum-told
 enum-told c = search needs
 
 head-said : (c : tie.After-head-line) (ls : Lines)
-    → headGoes (jobOf (c .before .before .before .before .before .before .before .before .args .t1)) (c .head-line .result) ls
-    ≡ headSays (jobOf (c .before .before .before .before .before .before .before .before .args .t1)) (more (take (c .before .before .before .line-end .result - 0) (drop 0 (now (c .before .before .before .before .before .before .before .before .args .sheet)))) ls)
+    → headGoes (jobOf (c .before .before .before .before .before .before .before .before .args .t1)) (c .head-line .result) ls ≡ headSays (jobOf (c .before .before .before .before .before .before .before .before .args .t1)) (more (now (c .before .before .next .result)) ls)
 head-said c ls = c .head-line .ensures .0 (jobOf (c .before .before .before .before .before .before .before .before .args .t1)) ls (counted (c .before .before .before .before .before .before .before .before))
 
 returns-2 : tie.Need-returns-2
 returns-2 c =
     let j = jobOf (c .before .before .before .before .before .before .before .before .before .before .args .t1) in (
-      whole-head j (now (c .before .before .before .before .before .before .before .before .before .before .args .sheet)) (c .before .before .before .before .before .line-end .result) (c .before .before .before .before .before .line-end .ensures) (c .before .before .before .before .if1 .left) (c .before .before .head-line .result) (head-said (c .before .before)) (c .enum-told .given .1),
+      whole-head j (now (c .before .before .before .before .before .before .before .before .before .before .args .sheet)) _ _ (c .before .before .before .before .next .ensures) (c .before .before .before .if1 .left) (c .before .before .head-line .result) (head-said (c .before .before)) (c .enum-told .given .1),
       c .before .before .before .before .before .before .before .before .before .before .pre .2,
       omega arith,
     )
 
 enum-told-2 : tie.Need-enum-told-2
 enum-told-2 c = search needs
-
-add-read-paths : tie.Need-add-read-paths
-add-read-paths c = search needs
 
 read-paths-requires : tie.Need-read-paths-requires
 read-paths-requires c κs = search needs
@@ -84,7 +70,7 @@ plan-said : (c : tie.After-read-paths)
 plan-said c =
     let j = jobOf (c .before .before .before .before .before .before .before .before .before .before .before .before .before .before .before .before .args .t1) in
     c .read-paths .ensures .0 j (told (c .before .before .before .before .before .before .before .before .before .before .before .before .before .before .before .before))
-    ∙ whole-plan j (now (c .before .before .before .before .before .before .before .before .before .before .before .before .before .before .before .before .args .sheet)) (c .before .before .before .before .before .before .before .before .before .before .before .line-end .result) (c .before .before .before .before .before .before .before .before .before .before .before .line-end .ensures) (c .before .before .before .before .before .before .before .before .before .before .if1 .left) (c .before .before .before .before .before .before .before .before .head-line .result) (head-said (c .before .before .before .before .before .before .before .before)) (c .before .before .before .before .before .before .before .before .before .before .before .before .before .before .before .before .args .t1 .calls) (counted (c .before .before .before .before .before .before .before .before .before .before .before .before .before .before .before .before)) (c .before .before .before .before .before .before .enum-told2 .given .1)
+    ∙ whole-plan j (now (c .before .before .before .before .before .before .before .before .before .before .before .before .before .before .before .before .args .sheet)) _ _ (c .before .before .before .before .before .before .before .before .before .before .next .ensures) (c .before .before .before .before .before .before .before .before .before .if1 .left) (c .before .before .before .before .before .before .before .before .head-line .result) (head-said (c .before .before .before .before .before .before .before .before)) (c .before .before .before .before .before .before .before .before .before .before .before .before .before .before .before .before .args .t1 .calls) (counted (c .before .before .before .before .before .before .before .before .before .before .before .before .before .before .before .before)) (c .before .before .before .before .before .before .enum-told2 .given .1)
 
 returns-3 : tie.Need-returns-3
 returns-3 c = (stops _ _ (c .if2 .taken) ∙ plan-said (c .before .before .before .before .before .before .before), c .before .before .before .before .before .before .before .read-paths .ensures .1, c .before .before .before .before .before .before .before .read-paths .ensures .2)
@@ -107,9 +93,6 @@ enum-known-head c = search needs
 horizon-requires : tie.Need-horizon-requires
 horizon-requires c κs = search needs
 
-add-read-chokes : tie.Need-add-read-chokes
-add-read-chokes c = search needs
-
 read-chokes-requires : tie.Need-read-chokes-requires
 read-chokes-requires c κs =
     let m = points-known _ _ _ (c .before .before .before .before .before .before .before .before .head-line .ensures .1) (c .before .before .before .before .before .before .head .given .1) in
@@ -128,7 +111,7 @@ cannot-said c =
     let j = jobOf (c .before .before .before .before .before .before .before .before .before .before .before .before .before .before .before .before .before .args .t1) in
     let h = last-deadline (c .before .before .before .before .before .before .before .before .before .before .before .before .before .before .before .before .before .args .t1) (arrays (c .before .before .before .before .before .before .before .before .before .before .before .before .before .before .before .before .before)) ∙ sym (c .before .before .before .horizon .ensures .0) in
     c .read-chokes .ensures .0 j refl h
-    ∙ whole-cannot j (now (c .before .before .before .before .before .before .before .before .before .before .before .before .before .before .before .before .before .args .sheet)) (c .before .before .before .before .before .before .before .before .before .before .before .before .line-end .result) (c .before .before .before .before .before .before .before .before .before .before .before .before .line-end .ensures) (c .before .before .before .before .before .before .before .before .before .before .before .if1 .left) (c .before .before .before .before .before .before .before .before .before .head-line .result) (head-said (c .before .before .before .before .before .before .before .before .before)) (c .before .before .before .before .before .before .before .head .given .0 .0) (c .before .before .before .before .before .before .before .head .given .1)
+    ∙ whole-cannot j (now (c .before .before .before .before .before .before .before .before .before .before .before .before .before .before .before .before .before .args .sheet)) _ _ (c .before .before .before .before .before .before .before .before .before .before .before .next .ensures) (c .before .before .before .before .before .before .before .before .before .before .if1 .left) (c .before .before .before .before .before .before .before .before .before .head-line .result) (head-said (c .before .before .before .before .before .before .before .before .before)) (c .before .before .before .before .before .before .before .head .given .0 .0) (c .before .before .before .before .before .before .before .head .given .1)
 
 -- the two lists are as long as they were, and the rows are as they were
 room : (c : tie.After-read-chokes) → Room (c .read-chokes .last .1 .1 .1 .1 .1 .0) (c .read-chokes .last .1 .1 .1 .1 .1 .1 .0) (now (c .before .before .before .before .before .before .before .before .before .before .before .before .before .before .before .before .before .args .rows))
@@ -152,16 +135,12 @@ pub read-sheet-spec : {M : Type 1} → statement M
 read-sheet-spec =
     tie.close
     (tie.spec
-    line-end-requires
+    next-requires
     returns
-    sub-head-line
-    part-head-line-start
-    part-head-line-end
     head-line-requires
     enum-told
     returns-2
     enum-told-2
-    add-read-paths
     read-paths-requires
     same-length
     same-length-2
@@ -173,7 +152,6 @@ read-sheet-spec =
     returns-4
     enum-known-head
     horizon-requires
-    add-read-chokes
     read-chokes-requires
     same-length-7
     same-length-8

@@ -7,13 +7,15 @@ use mathlib.Core.List.{[], _∷_}
 use Prim.Native.Nat.{_*_, _+_, _-_, _≤_, _<_}
 use mathlib.Core.Path.{_≡_, refl, _∙_, sym}
 use native.Mathlib.Omega.{arith}
+use Rattle.model.specs.Limits.{maxSteps}
 use Rattle.job.proofs.Arrays.{calls-count, long, whole}
 use Rattle.job.specs.Arrays.{jobOf}
 use lib.ListN.{length, drop, length-take}
 use Rattle.text.proofs.Wrote.{line-room, wrote-none, wrote-more}
 use Rattle.model.specs.SheetText.{linesText, pathNumbers}
 use Rattle.model.specs.Text.{pathWord, planWord}
-use Rattle.sheet.proofs.WriteLaws.{paths-room, share, call-below, call-deadline, latest-most, wrote-path, path-room, paths-count, room-one, room-rest, wrote-lines}
+use Rattle.job.proofs.Rows.{paths-length}
+use Rattle.sheet.proofs.WriteLaws.{paths-room, share, call-below, call-deadline, latest-most, wrote-path, path-room, room-one, room-rest, wrote-lines}
 use Rattle.job.specs.Held.{pathsTo, pathAt}
 use borrow.Author.Needs.{needs}
 use Rattle.sheet.proofs.write.put_plan.Statement.{statement}
@@ -93,7 +95,7 @@ put-path-requires c κs =
     let l = c .before .before .before .before .before .before .before .before .before .loop in
     let h : l .k < j .calls = omega arith in
     let g = long j (s .good .0 .0) (s .good .0 .1 .1) in
-    let a = l .k * 256 in
+    let a = l .k * maxSteps in
     let d = call-deadline j (s .pre .1) g (now (s .args .carts)) (now (s .args .calls)) (now (s .args .rows)) (s .pre .3) (l .k) (c .before .before .before .before .before .before .wide .result) h (c .before .before .before .before .before .before .wide .ensures .0) in (
       omega arith,
       omega arith,
@@ -126,7 +128,7 @@ loop-again c =
     let w = c .before .before .put-path in
     let h : l .k < j .calls = c .before .before .before .before .before .before .before .before .before .before .before .loop-test .taken in
     let g = long j (s .good .0 .0) (s .good .0 .1 .1) in
-    let a = l .k * 256 in
+    let a = l .k * maxSteps in
     let e = a + last .result + 1 in
     let d = call-deadline j (s .pre .1) g carts calls rows (s .pre .3) (l .k) (call .result) h (call .ensures .0) ∙ sym (last .ensures .0) in
     let x = wrote-path (jobOf j) carts calls rows (l .k) (cart .result) (call .result) (last .result) a e (cart .ensures .0) (call .ensures .0) d refl refl (w .ensures) in
@@ -148,7 +150,7 @@ returns c =
     let g = long j (s .good .0 .0) (s .good .0 .1 .1) in
     let n = calls-count j (whole j (s .pre .1) g) in
     let e : l .k ≡ j .calls = omega arith in
-    rw (n, paths-count (jobOf j) (now (s .args .carts)) (now (s .args .calls)) (now (s .args .rows)) (j .calls)) (wrote-more (c .before .before .before .before .put-head .ensures) (rw e at (l .inv .3)))
+    rw (n, paths-length (jobOf j) (now (s .args .carts)) (now (s .args .calls)) (now (s .args .rows)) (j .calls)) (wrote-more (c .before .before .before .before .put-head .ensures) (rw e at (l .inv .3)))
 
 pub put-plan-spec : {M : Type 1} → statement M
 put-plan-spec =
