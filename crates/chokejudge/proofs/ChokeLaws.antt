@@ -1,13 +1,12 @@
 -- The turns of the loops that decide a choke list, each for lists and numbers: a table keeps its meaning when one entry more is gone through. Assumes nothing.
-use Prim.Native.Nat.{ℕ, zero, suc, _+_, _-_, _≤_, _<_, max}
+use Prim.Native.Nat.{ℕ, zero, suc, _+_, _-_, _≤_, _<_}
 use mathlib.Core.Path.{_≡_, refl, sym, _∙_, ap, subst}
 use mathlib.Core.List.{List, [], _∷_}
 use mathlib.Core.Logic.{⊎-elim, _⊎_, _↔_, inl, inr}
 use native.Mathlib.Omega.{arith}
-use native.Mathlib.Numerals.{add-one}
 use native.Mathlib.Nat.{eq-or-lt-of-le}
-use lib.ListN.{length, getD, take, set, replicate, length-set}
-use Rattle.model.specs.Lists.{Rising}
+use lib.ListN.{length, getD, set, replicate, length-set}
+use Rattle.model.proofs.Lists.{rising-of, rising-at}
 use Rattle.model.specs.Choke.{Point, point, Rises, ChokesInOrder}
 use Rattle.job.specs.Held.{pointsOf}
 use Rattle.chokejudge.specs.ChokeLayers.{Some, Marks, Placed, Choked, Spread, Met}
@@ -154,15 +153,6 @@ module _ (lifts deadlines : List ℕ) (t : ℕ) (l : List ℕ) where
   met-more i n h s = ⊎-elim n h (some-more (λ k. (getD deadlines k 0 ≡ t) × (getD l (getD lifts k 0) 0 ≡ 1)) i .0 s)
 
 -- The order.
-rising-all : {A : Type 0} (R : A → A → Type 0) (d : A) (l : List A) → Rising R l ↔ ((k : ℕ) → suc k < length l → R (getD l k d) (getD l (suc k) d))
-rising-all R d [] = (λ u k h. absurd (omega arith), λ f. tt)
-rising-all R d (a ∷ []) = (λ u k h. absurd (omega arith), λ f. tt)
-rising-all {A} R d (a ∷ b ∷ l) = (λ r. each r (rising-all R d (b ∷ l) .0 (r .1)), λ f. (f 0 (omega arith), rising-all R d (b ∷ l) .1 (λ k h. f (suc k) (omega arith))))
-  where
-    each : R a b × Rising R (b ∷ l) → ((k : ℕ) → suc k < length (b ∷ l) → R (getD (b ∷ l) k d) (getD (b ∷ l) (suc k) d)) → (k : ℕ) → suc k < length (a ∷ b ∷ l) → R (getD (a ∷ b ∷ l) k d) (getD (a ∷ b ∷ l) (suc k) d)
-    each r f zero h = r .0
-    each r f (suc k) h = f k (omega arith)
-
 abbrev pub pointAt : List ℕ → List ℕ → ℕ → Point
 pointAt cells steps k = point (getD cells k 0) (getD steps k 0)
 
@@ -178,7 +168,7 @@ in-order cells steps n h g = (there, back)
 
     there : ChokesInOrder (pointsOf cells steps n) → (k : ℕ) → k < n → 1 ≤ k → Rises (pointAt cells steps (k - 1)) (pointAt cells steps k)
     there o zero b f = absurd (omega arith)
-    there o (suc k) b f = let e : suc k - 1 ≡ k = omega arith in rw e (rw (item k (omega arith), item (suc k) b) at (rising-all Rises (point 0 0) (pointsOf cells steps n) .0 o k (omega (arith, size))))
+    there o (suc k) b f = let e : suc k - 1 ≡ k = omega arith in rw e (rw (item k (omega arith), item (suc k) b) at (rising-at (point 0 0) Rises (pointsOf cells steps n) o k (omega (arith, size))))
 
     back : ((k : ℕ) → k < n → 1 ≤ k → Rises (pointAt cells steps (k - 1)) (pointAt cells steps k)) → ChokesInOrder (pointsOf cells steps n)
-    back f = rising-all Rises (point 0 0) (pointsOf cells steps n) .1 (λ k b. let e : suc k - 1 ≡ k = omega arith in rw (item k (omega (arith, size)), item (suc k) (omega (arith, size))) (rw e at (f (suc k) (omega (arith, size)) (omega arith))))
+    back f = rising-of (point 0 0) Rises (pointsOf cells steps n) (λ k b. let e : suc k - 1 ≡ k = omega arith in rw (item k (omega (arith, size)), item (suc k) (omega (arith, size))) (rw e at (f (suc k) (omega (arith, size)) (omega arith))))

@@ -1,26 +1,25 @@
 -- The tables of the check are the free cells of a job, step by step: the carts' cells first, then what a step leads to, each without the choke points of its step. So a call
 -- that is met at its deadline refutes the list, and where none is met up to the last deadline the list is right. Assumes nothing.
-use Prim.Native.Nat.{ℕ, suc, _+_, _≤_, _<_, max}
-use mathlib.Core.Path.{_≡_, refl, sym, _∙_, ap}
-use mathlib.Core.List.{List, [], _∷_}
+use Prim.Native.Nat.{ℕ, suc, _+_, _≤_, _<_}
+use mathlib.Core.Path.{_≡_, refl, sym, ap}
+use mathlib.Core.List.{List}
 use mathlib.Core.Bool.{true}
 use mathlib.Core.Logic.{⊎-elim, _↔_, inl, inr}
 use native.Mathlib.Omega.{arith}
 use native.Mathlib.Numerals.{add-one}
 use native.Mathlib.Nat.{eq-or-lt-of-le}
 use lib.Dec.{ltb, leb}
-use lib.ListN.{length, getD, take}
-use lib.Seq.{length-take-le}
+use lib.ListN.{length, getD}
 use borrow.Author.Tests.{ltb-true, leb-true}
 use Rattle.model.specs.Lists.{In}
-use Rattle.model.specs.Job.{Call, track, call, latest, horizon}
+use Rattle.model.specs.Job.{Call, track, call, horizon}
 use Rattle.model.specs.Walk.{Step}
 use Rattle.model.specs.Choke.{Point, point, ChokesInOrder}
 use Rattle.model.specs.ReadSheet.{knownPoint}
 use Rattle.model.specs.Contracts.{RightChokes}
 use Rattle.model.proofs.Basics.{and-left, and-right}
 use Rattle.model.proofs.Decisions.{track-eq, track-parts}
-use Rattle.job.specs.Arrays.{pairs, jobOf}
+use Rattle.job.specs.Arrays.{jobOf}
 use Rattle.job.specs.declared.state.Job.{Job}
 use Rattle.job.specs.Held.{pointsOf}
 use Rattle.chokejudge.specs.ChokeLayers.{Marks, Placed, Choked, Spread, Met}
@@ -31,6 +30,10 @@ use Rattle.chokejudge.proofs.ChokeWalks.{Free, point-eq, chokes}
 -- the free cells of a step
 abbrev pub Layer : Job → List ℕ → List ℕ → ℕ → ℕ → List ℕ → Type 0
 Layer s cells steps n t l = Marks l (Free (jobOf s) (pointsOf cells steps n) t)
+
+-- what a table spreads to in a step
+abbrev pub Ahead : Job → List ℕ → List ℕ → Type 0
+Ahead s l a = Marks a (Spread (s .from) (s .to) (s .tracks) l)
 
 -- No call with a deadline before t has a free cell then.
 abbrev pub Unmet : Job → List ℕ → List ℕ → ℕ → ℕ → Type 0
@@ -70,7 +73,7 @@ module _ (s : Job) (cells steps : List ℕ) (n : ℕ) (w : Whole s) (h : n ≤ l
         let (x, y) = track-parts e in
         inr (k, b, inr (rw y at f, sym x))
 
-    pub layer-next : (a l′ : List ℕ) → Marks a (Spread (s .from) (s .to) (s .tracks) l) → Marks l′ (λ v. (getD a v 0 ≡ 1) × (Choked cells steps n (t + 1) v → ⊥))
+    pub layer-next : (a l′ : List ℕ) → Ahead s l a → Marks l′ (λ v. (getD a v 0 ≡ 1) × (Choked cells steps n (t + 1) v → ⊥))
         → Layer s cells steps n (t + 1) l′
     layer-next a l′ p k = rw add-one (λ v. (there v, back v))
       where

@@ -1,4 +1,4 @@
--- What the check of a choke list holds: tables of 256 bytes, with a 1 for each cell that a cart can be on at one step without having stood on a choke point.
+-- What the check of a choke list holds: tables of a byte a cell, with a 1 for each cell that a cart can be on at one step without having stood on a choke point.
 use Prim.Native.Nat.{ℕ, _<_}
 use mathlib.Core.Path.{_≡_}
 use mathlib.Core.List.{List}

@@ -1,12 +1,13 @@
 // Whether choke points are a true choke list in the order of the sheet: no walk reaches a call without standing on one of them.
 use job::state::Job;
 use model::Limits;
+use model::bytes::wide;
 ghost use mathlib.Core.Path.{_≡_};
 ghost use mathlib.Core.Bool.{true};
-ghost use Prim.Native.Nat.{_<_, _≤_};
+ghost use Prim.Native.Nat.{ℕ, _<_, _≤_};
 ghost use lib.ListN.{length, getD};
 ghost use Rattle.model.specs.Lists.{In};
-ghost use Rattle.model.specs.Limits.{maxTracks, maxCarts, maxCalls};
+ghost use Rattle.model.specs.Limits.{maxCells, maxTracks, maxCarts, maxCalls};
 ghost use Rattle.model.specs.Choke.{Point, point, Rises, ChokesInOrder};
 ghost use Rattle.model.specs.Ready.{Ready};
 ghost use Rattle.model.specs.ReadSheet.{knownPoint};
@@ -14,12 +15,6 @@ ghost use Rattle.model.specs.Contracts.{RightChokes};
 ghost use Rattle.job.specs.Arrays.{jobOf, Sized};
 ghost use Rattle.job.specs.Held.{pointsOf, Decides};
 ghost use Rattle.chokejudge.specs.ChokeLayers.{Marks, Placed, Choked, Spread, Met};
-
-fn wide(x: u8) -> usize
-    ensures { λ r. ⌜ (r ≡ x) × (r < 256) ⌝ }
-{
-    x as usize
-}
 
 // Whether a point stands before the next: by step, then by cell.
 fn rises(cell: u8, step: u8, next: u8, later: u8) -> bool
@@ -133,8 +128,23 @@ fn meets<'a>(
     false
 }
 
+// Whether two layers have the same cells. All are compared, since a loop that never leaves early is compiled to wide comparisons.
+fn same(a: [u8; Limits::CELLS], b: [u8; Limits::CELLS]) -> bool
+    ensures { λ r. ⌜ Decides r (a ≡ b) ⌝ }
+{
+    let mut apart = false;
+    let mut i = 0;
+    while i < Limits::CELLS {
+        if a[i] != b[i] {
+            apart = true;
+        }
+        i += 1;
+    }
+    !apart
+}
+
 pub fn is_choke_list(job: Job, cells: &[u8], steps: &[u8], n: usize) -> bool
-    requires { ⌜ Ready (jobOf job) × Sized job × (length (now cells) ≡ 64) × (length (now steps) ≡ 64) × (n < job .calls) × ((x : Point) → In x (pointsOf (now cells) (now steps) n) → knownPoint (jobOf job) x ≡ true) ⌝ }
+    requires { ⌜ Ready (jobOf job) × Sized job × (length (now cells) ≡ maxCalls) × (length (now steps) ≡ maxCalls) × (n < job .calls) × ((x : Point) → In x (pointsOf (now cells) (now steps) n) → knownPoint (jobOf job) x ≡ true) ⌝ }
     ensures { λ r. ⌜ Decides r (RightChokes (jobOf job) (pointsOf (now (cells .entry)) (now (steps .entry)) n)) ⌝ }
 {
     if !in_order(cells, steps, n) {
@@ -143,13 +153,19 @@ pub fn is_choke_list(job: Job, cells: &[u8], steps: &[u8], n: usize) -> bool
     let last = job::size::horizon(&job.deadlines, job.calls);
     let starts = placed(&job.starts, job.carts);
     let mut layer = cleared(cells, steps, n, 0, starts);
+    // On most floors the layer soon stays the same, and what it spreads to with it.
+    let mut base = layer;
+    let mut ahead = spread(&job.from, &job.to, job.tracks, base);
     let mut t = 0;
     while t <= last {
         if meets(&job.lifts, &job.deadlines, job.calls, t, layer) {
             return false;
         }
         t += 1;
-        let ahead = spread(&job.from, &job.to, job.tracks, layer);
+        if !same(layer, base) {
+            ahead = spread(&job.from, &job.to, job.tracks, layer);
+            base = layer;
+        }
         layer = cleared(cells, steps, n, t, ahead);
     }
     true

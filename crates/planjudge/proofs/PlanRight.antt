@@ -9,28 +9,29 @@ use native.Mathlib.Omega.{arith}
 use native.Mathlib.Numerals.{add-one}
 use lib.ListN.{length, getD}
 use Rattle.model.specs.Lists.{In, NoDup}
-use Rattle.model.specs.Job.{track, cartCell, callOf}
+use Rattle.model.specs.Limits.{maxCells}
+use Rattle.model.specs.Job.{track, cartCell, callOf, horizon}
 use Rattle.model.specs.Walk.{Step}
 use Rattle.model.specs.Plan.{Path, Leads, Plan, Before, PlanInOrder, Share, Trade}
 use Rattle.model.specs.Ready.{Ready}
 use Rattle.model.specs.ReadSheet.{knownPath}
 use Rattle.model.specs.Contracts.{RightPlan}
 use Rattle.model.proofs.Decide.{dec-eq, dec-le}
-use Rattle.model.proofs.Lists.{place-of}
+use Rattle.model.proofs.Lists.{place-of, rising-of, rising-at}
 use Rattle.model.proofs.Decisions.{track-eq, track-parts}
-use Rattle.job.specs.Arrays.{jobOf, Sized}
+use Rattle.job.specs.Arrays.{jobOf}
 use Rattle.job.specs.declared.state.Job.{Job}
 use Rattle.job.specs.Held.{pathAt, pathsOf}
 use Rattle.planjudge.specs.PlanTests.{cellOf, Listed, Lasts, Precedes, Ordered, Marks, Goes, AllLed, Apart, Untraded, Clear}
-use Rattle.job.proofs.Arrays.{Long, whole, calls-count, carts-count, call-at, cart-at, in-tracks}
-use Rattle.planjudge.proofs.PlanLaws.{Ranged, known-ranged, nodup-of, rising-of, rising-at, paths-length, path-at, in-paths, paths-in, cell-at}
+use Rattle.job.proofs.Arrays.{Whole, calls-count, carts-count, call-at, cart-at, in-tracks, deadline-by}
+use Rattle.job.proofs.Rows.{paths-length, path-at, in-paths, paths-in}
+use Rattle.planjudge.proofs.PlanLaws.{Ranged, known-ranged, nodup-of, cell-at}
 use Rattle.planjudge.proofs.PlanSteps.{before-later}
 
 -- What is given: the job as its arrays have it, and paths whose numbers are known.
 pub record Given (s : Job) (carts calls rows : List ℕ) : Type 0 where
   pub ready : Ready (jobOf s)
-  pub sized : Sized s
-  pub full : Long s
+  pub full : Whole s
   pub known : (p : Path) → In p (pathsOf (jobOf s) carts calls rows) → knownPath (jobOf s) p ≡ true
 
 module _ {s : Job} {carts calls rows : List ℕ} (g : Given s carts calls rows) where
@@ -41,7 +42,7 @@ module _ {s : Job} {carts calls rows : List ℕ} (g : Given s carts calls rows) 
   Ps = pathsOf (jobOf s) carts calls rows
 
   size : length (jobOf s .calls) ≡ s .calls
-  size = calls-count s (whole s (g .sized) (g .full))
+  size = calls-count s (g .full)
 
   in-plan : (k : ℕ) → k < s .calls → In (P k) Ps
   in-plan k h = in-paths (jobOf s) carts calls rows (length (jobOf s .calls)) k (omega (arith, size))
@@ -73,11 +74,11 @@ module _ {s : Job} {carts calls rows : List ℕ} (g : Given s carts calls rows) 
   known-call k h = omega (arith, ranged k h .call, size)
 
   pub known-cart : (k : ℕ) → k < s .calls → getD carts k 0 < s .carts
-  known-cart k h = omega (arith, ranged k h .cart, carts-count s (whole s (g .sized) (g .full)))
+  known-cart k h = omega (arith, ranged k h .cart, carts-count s (g .full))
 
   module _ (last : List ℕ) (due : Lasts (s .deadlines) calls last (s .calls)) where
     deadline : (k : ℕ) → k < s .calls → callOf (jobOf s) (getD calls k 0) .deadline ≡ getD last k 0
-    deadline k h = ap (λ q. q .deadline) (call-at s (whole s (g .sized) (g .full)) (getD calls k 0) (known-call k h)) ∙ sym (due k h)
+    deadline k h = ap (λ q. q .deadline) (call-at s (g .full) (getD calls k 0) (known-call k h)) ∙ sym (due k h)
 
     long : (k : ℕ) → k < s .calls → length (P k .cells) ≡ suc (getD last k 0)
     long k h = ranged k h .size ∙ ap suc (deadline k h)
@@ -91,7 +92,7 @@ module _ {s : Job} {carts calls rows : List ℕ} (g : Given s carts calls rows) 
     end-at : (k : ℕ) → k < s .calls → getD (P k .cells) (callOf (jobOf s) (getD calls k 0) .deadline) 0 ≡ cellOf rows k (getD last k 0)
     end-at k h = ap (λ t. getD (P k .cells) t 0) (deadline k h) ∙ at k (getD last k 0) h (omega arith)
 
-    small : (k t : ℕ) → k < s .calls → t ≤ getD last k 0 → cellOf rows k t < 256
+    small : (k t : ℕ) → k < s .calls → t ≤ getD last k 0 → cellOf rows k t < maxCells
     small k t h l = omega (arith, ranged k h .cells t (omega (arith, long k h)), at k t h l, g .ready .fit .few-cells)
 
     -- Order.
@@ -155,27 +156,27 @@ module _ {s : Job} {carts calls rows : List ℕ} (g : Given s carts calls rows) 
     -- Walks.
     track-listed : (u v : ℕ) → In (track u v) (jobOf s .tracks) → Listed (s .from) (s .to) (s .tracks) u v
     track-listed u v h =
-        let (i, l, e) = in-tracks s (whole s (g .sized) (g .full)) (track u v) .0 h in (i, l, sym (track-parts e .0), sym (track-parts e .1))
+        let (i, l, e) = in-tracks s (g .full) (track u v) .0 h in (i, l, sym (track-parts e .0), sym (track-parts e .1))
 
     listed-track : (u v : ℕ) → Listed (s .from) (s .to) (s .tracks) u v → In (track u v) (jobOf s .tracks)
-    listed-track u v (i, l, e, f) = in-tracks s (whole s (g .sized) (g .full)) (track u v) .1 (i, l, track-eq (sym e, sym f))
+    listed-track u v (i, l, e, f) = in-tracks s (g .full) (track u v) .1 (i, l, track-eq (sym e, sym f))
 
     module _ {table : List ℕ} (marks : Marks (s .from) (s .to) (s .tracks) table) where
-      goes : (t u v : ℕ) → u < 256 → v < 256 → Step (jobOf s) t u v → Goes table u v
+      goes : (t u v : ℕ) → u < maxCells → v < maxCells → Step (jobOf s) t u v → Goes table u v
       goes t u v a b (inl e) = inl e
       goes t u v a b (inr (inl x)) = inr (inl (marks .all u v a b (track-listed u v x)))
       goes t u v a b (inr (inr x)) = inr (inr (marks .all v u b a (track-listed v u x)))
 
-      step : (t u v : ℕ) → u < 256 → v < 256 → Goes table u v → Step (jobOf s) t u v
+      step : (t u v : ℕ) → u < maxCells → v < maxCells → Goes table u v → Step (jobOf s) t u v
       step t u v a b (inl e) = inl e
       step t u v a b (inr (inl x)) = inr (inl (listed-track u v (marks .only u v a b x)))
       step t u v a b (inr (inr x)) = inr (inr (listed-track v u (marks .only v u b a x)))
 
       start : (k : ℕ) → k < s .calls → cartCell (jobOf s) (getD carts k 0) ≡ getD (s .starts) (getD carts k 0) 0
-      start k h = cart-at s (whole s (g .sized) (g .full)) (getD carts k 0) (known-cart k h)
+      start k h = cart-at s (g .full) (getD carts k 0) (known-cart k h)
 
       lift : (k : ℕ) → k < s .calls → callOf (jobOf s) (getD calls k 0) .cell ≡ getD (s .lifts) (getD calls k 0) 0
-      lift k h = ap (λ q. q .cell) (call-at s (whole s (g .sized) (g .full)) (getD calls k 0) (known-call k h))
+      lift k h = ap (λ q. q .cell) (call-at s (g .full) (getD calls k 0) (known-call k h))
 
       abbrev All : Type 0
       All = AllLed table rows last carts (s .starts) calls (s .lifts) (s .calls)
@@ -206,7 +207,10 @@ module _ {s : Job} {carts calls rows : List ℕ} (g : Given s carts calls rows) 
         };
       }
 
-      module _ (h : ℕ) (top : (k : ℕ) → k < s .calls → getD last k 0 ≤ h) (clear : (t : ℕ) → t ≤ h → Clear last rows (s .calls) t) where
+      module _ (h : ℕ) (late : horizon (jobOf s) ≤ h) (clear : (t : ℕ) → t ≤ h → Clear last rows (s .calls) t) where
+        top : (k : ℕ) → k < s .calls → getD last k 0 ≤ h
+        top k a = omega (arith, late, due k a, deadline-by s (g .full) (getD calls k 0) (known-call k a))
+
         one-share : (k m t : ℕ) → k < s .calls → m < s .calls → Share (P k .cells) (P m .cells) t → k ≡ m
         one-share k m t a b (v, x, y) =
             let c : t ≤ getD last k 0 = omega (arith, long k a, x .0) in

@@ -8,7 +8,9 @@ use native.Mathlib.Omega.{arith}
 use lib.Dec.{ltb, eqb}
 use lib.ListN.{length, getD, set}
 use lib.Seq.{getD-set-same, getD-set-other}
+use borrow.Author.Count.{below-more}
 use borrow.Author.Tests.{ltb-true, ltb-false, eqb-true, eqb-false}
+use Rattle.model.specs.Limits.{maxCells, maxCalls}
 use Rattle.model.proofs.Decide.{dec-eq}
 use Rattle.job.specs.Held.{Decides}
 use Rattle.planjudge.specs.PlanTests.{cellOf, Lasts, Precedes, Ordered, Listed, Marks, Goes, Apart, Meets, Standing}
@@ -29,15 +31,6 @@ by-equal a b f g = ((λ e. f (eqb-true a b e)), λ e p. eqb-false a b e (g p))
 pub same-answer : {P Q : Type 0} {r : Bool} → (P → Q) → (Q → P) → Decides r P → Decides r Q
 same-answer f g d = ((λ e. f (d .0 e)), λ e q. d .1 e (g q))
 
--- What holds of every number below i, and of i, holds of every one below i + 1.
-module _ {P : ℕ → Type 0} where
-  pub all-more : (i : ℕ) → ((k : ℕ) → k < i → P k) → P i → (k : ℕ) → k < i + 1 → P k
-  all-more i f p k h = go (dec-eq k i)
-    where
-      go : Dec (k ≡ i) → P k
-      go (yes e) = rw e p
-      go (no n) = f k (omega arith)
-
 -- Order.
 module _ (last calls : List ℕ) where
   pub before-next : (k m l : ℕ) → Precedes last calls k m → Precedes last calls m l → Precedes last calls k l
@@ -57,18 +50,6 @@ module _ (last calls : List ℕ) where
       go (yes e) f = rw e next
       go (no n) f = before-next k m (suc m) (f (omega arith)) next
 
-  pub not-later : (k m : ℕ) → Precedes last calls k m → getD last k 0 ≤ getD last m 0
-  not-later k m (inl a) = omega arith
-  not-later k m (inr a) = omega arith
-
-  -- the last path has the latest deadline
-  pub latest-last : (n : ℕ) → Ordered last calls n → (m k : ℕ) → k ≤ m → m < n → getD last k 0 ≤ getD last m 0
-  latest-last n o m k h l = go (dec-eq k m)
-    where
-      go : Dec (k ≡ m) → getD last k 0 ≤ getD last m 0
-      go (yes e) = rw e (omega arith)
-      go (no d) = not-later k m (before-later n o m k (omega arith) l)
-
   -- where deadlines are equal the calls decide
   pub by-calls : (k m : ℕ) → getD last m 0 ≤ getD last k 0 → Precedes last calls k m → getD calls k 0 < getD calls m 0
   by-calls k m h (inl a) = absurd (omega arith)
@@ -81,55 +62,55 @@ module _ (last calls : List ℕ) where
 -- The next entry of a list of deadlines.
 pub lasts-more : (deadlines calls last : List ℕ) (k : ℕ) → k < length last → Lasts deadlines calls last k
     → Lasts deadlines calls (set last k (getD deadlines (getD calls k 0) 0)) (k + 1)
-lasts-more deadlines calls last k h l = all-more k
+lasts-more deadlines calls last k h l = below-more _ k
     (λ m d. getD-set-other last k m (getD deadlines (getD calls k 0) 0) 0 (λ e. omega arith) ∙ l m d)
     (getD-set-same last k (getD deadlines (getD calls k 0) 0) 0 h)
 
 -- Tracks.
 module _ (from to : List ℕ) where
-  pub marks-none : (table : List ℕ) → ((x : ℕ) → x < 65536 → getD table x 0 ≡ 0) → Marks from to 0 table
+  pub marks-none : (table : List ℕ) → ((x : ℕ) → x < maxCells * maxCells → getD table x 0 ≡ 0) → Marks from to 0 table
   marks-none table z = record {
     all = λ u v a b w. absurd (omega (arith, w .1));
-    only = λ u v a b e. absurd (omega (arith, z (u * 256 + v) (omega arith)));
+    only = λ u v a b e. absurd (omega (arith, z (u * maxCells + v) (omega arith)));
   }
 
-  module _ (i : ℕ) (table : List ℕ) (size : length table ≡ 65536) (a : getD from i 0 < 256) (b : getD to i 0 < 256) (m : Marks from to i table) where
+  module _ (i : ℕ) (table : List ℕ) (size : length table ≡ maxCells * maxCells) (a : getD from i 0 < maxCells) (b : getD to i 0 < maxCells) (m : Marks from to i table) where
     abbrev at : ℕ
-    at = getD from i 0 * 256 + getD to i 0
+    at = getD from i 0 * maxCells + getD to i 0
 
-    more-all : (u v : ℕ) → u < 256 → v < 256 → Listed from to (i + 1) u v → getD (set table at 1) (u * 256 + v) 0 ≡ 1
-    more-all u v c d (x, h, e, f) = go (dec-eq (u * 256 + v) at)
+    more-all : (u v : ℕ) → u < maxCells → v < maxCells → Listed from to (i + 1) u v → getD (set table at 1) (u * maxCells + v) 0 ≡ 1
+    more-all u v c d (x, h, e, f) = go (dec-eq (u * maxCells + v) at)
       where
-        go : Dec (u * 256 + v ≡ at) → getD (set table at 1) (u * 256 + v) 0 ≡ 1
+        go : Dec (u * maxCells + v ≡ at) → getD (set table at 1) (u * maxCells + v) 0 ≡ 1
         go (yes q) = rw q (getD-set-same table at 1 0 (omega arith))
-        go (no n) = getD-set-other table at (u * 256 + v) 1 0 n ∙ m .all u v c d (x, earlier (dec-eq x i), e, f)
+        go (no n) = getD-set-other table at (u * maxCells + v) 1 0 n ∙ m .all u v c d (x, earlier (dec-eq x i), e, f)
           where
             earlier : Dec (x ≡ i) → x < i
             earlier (yes q) = absurd (n (omega (arith, rw q at e, rw q at f)))
             earlier (no k) = omega arith
 
-    more-only : (u v : ℕ) → u < 256 → v < 256 → getD (set table at 1) (u * 256 + v) 0 ≡ 1 → Listed from to (i + 1) u v
-    more-only u v c d e = go (dec-eq (u * 256 + v) at)
+    more-only : (u v : ℕ) → u < maxCells → v < maxCells → getD (set table at 1) (u * maxCells + v) 0 ≡ 1 → Listed from to (i + 1) u v
+    more-only u v c d e = go (dec-eq (u * maxCells + v) at)
       where
         older : Listed from to i u v → Listed from to (i + 1) u v
         older (x, h, f, g) = (x, omega arith, f, g)
 
-        go : Dec (u * 256 + v ≡ at) → Listed from to (i + 1) u v
+        go : Dec (u * maxCells + v ≡ at) → Listed from to (i + 1) u v
         go (yes q) = (i, omega arith, omega arith, omega arith)
-        go (no n) = older (m .only u v c d (sym (getD-set-other table at (u * 256 + v) 1 0 n) ∙ e))
+        go (no n) = older (m .only u v c d (sym (getD-set-other table at (u * maxCells + v) 1 0 n) ∙ e))
 
     pub marks-more : Marks from to (i + 1) (set table at 1)
     marks-more = record { all = more-all; only = more-only }
 
 -- Steps by the table: neither the same cell nor marked either way is no step.
-pub no-go : (table : List ℕ) (u v : ℕ) → (u ≡ v → ⊥) → (getD table (u * 256 + v) 0 ≡ 1 → ⊥) → Goes table u v → getD table (v * 256 + u) 0 ≡ 1
+pub no-go : (table : List ℕ) (u v : ℕ) → (u ≡ v → ⊥) → (getD table (u * maxCells + v) 0 ≡ 1 → ⊥) → Goes table u v → getD table (v * maxCells + u) 0 ≡ 1
 no-go table u v a b (inl e) = absurd (a e)
 no-go table u v a b (inr (inl e)) = absurd (b e)
 no-go table u v a b (inr (inr e)) = e
 
 -- Who is on which cell at a step.
 module _ (last rows : List ℕ) (t : ℕ) where
-  pub standing-none : (on : List ℕ) → ((c : ℕ) → c < 256 → getD on c 0 ≡ 64) → Standing last rows 0 t on
+  pub standing-none : (on : List ℕ) → ((c : ℕ) → c < maxCells → getD on c 0 ≡ maxCalls) → Standing last rows 0 t on
   standing-none on z = record {
     there = λ k h. absurd (omega arith);
     back = λ c h l. absurd (omega (arith, z c h));
@@ -138,13 +119,13 @@ module _ (last rows : List ℕ) (t : ℕ) where
   -- path k has left the floor
   pub standing-left : (k : ℕ) (on : List ℕ) → getD last k 0 < t → Standing last rows k t on → Standing last rows (k + 1) t on
   standing-left k on h s = record {
-    there = all-more k (s .there) (λ l. absurd (omega arith));
+    there = below-more _ k (s .there) (λ l. absurd (omega arith));
     back = λ c l f. let b = s .back c l f in (omega (arith, b .0), b .1, b .2);
   }
 
   -- path k is put on a free cell
-  module _ (k : ℕ) (on : List ℕ) (size : length on ≡ 256) (small : k < 64) (known : cellOf rows k t < 256) (lives : t ≤ getD last k 0)
-      (free : 64 ≤ getD on (cellOf rows k t) 0) (s : Standing last rows k t on) where
+  module _ (k : ℕ) (on : List ℕ) (size : length on ≡ maxCells) (small : k < maxCalls) (known : cellOf rows k t < maxCells) (lives : t ≤ getD last k 0)
+      (free : maxCalls ≤ getD on (cellOf rows k t) 0) (s : Standing last rows k t on) where
     abbrev on′ : List ℕ
     on′ = set on (cellOf rows k t) k
 
@@ -153,7 +134,7 @@ module _ (last rows : List ℕ) (t : ℕ) where
         let e = s .there m h l in
         getD-set-other on (cellOf rows k t) (cellOf rows m t) k 0 (λ q. omega (arith, rw q at e)) ∙ e
 
-    put-back : (c : ℕ) → c < 256 → getD on′ c 0 < 64 → (getD on′ c 0 < k + 1) × (t ≤ getD last (getD on′ c 0) 0) × (cellOf rows (getD on′ c 0) t ≡ c)
+    put-back : (c : ℕ) → c < maxCells → getD on′ c 0 < maxCalls → (getD on′ c 0 < k + 1) × (t ≤ getD last (getD on′ c 0) 0) × (cellOf rows (getD on′ c 0) t ≡ c)
     put-back c h f = go (dec-eq c (cellOf rows k t))
       where
         go : Dec (c ≡ cellOf rows k t) → (getD on′ c 0 < k + 1) × (t ≤ getD last (getD on′ c 0) 0) × (cellOf rows (getD on′ c 0) t ≡ c)
@@ -167,7 +148,7 @@ module _ (last rows : List ℕ) (t : ℕ) where
 
     pub standing-more : Standing last rows (k + 1) t on′
     standing-more = record {
-      there = all-more k put-there (λ l. getD-set-same on (cellOf rows k t) k 0 (omega arith));
+      there = below-more _ k put-there (λ l. getD-set-same on (cellOf rows k t) k 0 (omega arith));
       back = put-back;
     }
 
@@ -175,26 +156,26 @@ module _ (last rows : List ℕ) (t : ℕ) where
   standing-apart n on s k m a b h l e = sym (s .there k a h) ∙ ap (λ c. getD on c 0) e ∙ s .there m b l
 
   -- the cell of path k is taken by an earlier path
-  pub standing-taken : (n k : ℕ) (on : List ℕ) → Standing last rows k t on → k < n → cellOf rows k t < 256 → t ≤ getD last k 0
-      → getD on (cellOf rows k t) 0 < 64 → Apart last rows n t → ⊥
+  pub standing-taken : (n k : ℕ) (on : List ℕ) → Standing last rows k t on → k < n → cellOf rows k t < maxCells → t ≤ getD last k 0
+      → getD on (cellOf rows k t) 0 < maxCalls → Apart last rows n t → ⊥
   standing-taken n k on s h c l f a =
       let (m, d, e) = s .back (cellOf rows k t) c f in
       omega (arith, a (getD on (cellOf rows k t) 0) k (omega arith) h d l e)
 
   -- Who meets path k is the path o that is on the cell that it goes to.
   pub record Met (k o : ℕ) : Type 0 where
-    pub known : o < 64
+    pub known : o < maxCalls
     pub other : o ≡ k → ⊥
     pub lives : t < getD last o 0
     pub back : cellOf rows o (t + 1) ≡ cellOf rows k t
 
-  module _ (n k : ℕ) (on : List ℕ) (few : n ≤ 64) (s : Standing last rows n t on) (o : ℕ) (e : o ≡ getD on (cellOf rows k (t + 1)) 0) where
+  module _ (n k : ℕ) (on : List ℕ) (few : n ≤ maxCalls) (s : Standing last rows n t on) (o : ℕ) (e : o ≡ getD on (cellOf rows k (t + 1)) 0) where
     pub met : Meets last rows n t k → Met k o
     met (m, h, d, l, f, f′) =
         let q : o ≡ m = e ∙ ap (λ c. getD on c 0) (sym f) ∙ s .there m h (omega arith) in
         rw q (record { known = omega arith; other = d; lives = l; back = f′ })
 
-    pub meets-of : cellOf rows k (t + 1) < 256 → Met k o → Meets last rows n t k
+    pub meets-of : cellOf rows k (t + 1) < maxCells → Met k o → Meets last rows n t k
     meets-of c m =
         let b = s .back (cellOf rows k (t + 1)) c (rw e at (m .known)) in
         (o, rw e (b .0), m .other, m .lives, rw e (b .2), m .back)

@@ -4,14 +4,15 @@ use mathlib.Core.Path.{_≡_}
 use mathlib.Core.List.{List}
 use mathlib.Core.Logic.{_⊎_}
 use lib.ListN.{getD}
+use Rattle.model.specs.Limits.{maxCells, maxCalls, maxSteps}
 
 -- the cell of path k at the step t
 abbrev pub cellOf : List ℕ → ℕ → ℕ → ℕ
-cellOf rows k t = getD rows (k * 256 + t) 0
+cellOf rows k t = getD rows (k * maxSteps + t) 0
 
 -- The first n entries of `calls` are known calls.
 abbrev pub Known : List ℕ → ℕ → Type 0
-Known calls n = (k : ℕ) → k < n → getD calls k 0 < 64
+Known calls n = (k : ℕ) → k < n → getD calls k 0 < maxCalls
 
 -- `last` has the deadline of each of the first n paths' calls.
 abbrev pub Lasts : List ℕ → List ℕ → List ℕ → ℕ → Type 0
@@ -31,12 +32,12 @@ Listed from to n u v = (i : ℕ) × (i < n) × (getD from i 0 ≡ u) × (getD to
 
 -- The table has a 1 for each of the first n pairs, and for no other.
 pub record Marks (from to : List ℕ) (n : ℕ) (table : List ℕ) : Type 0 where
-  pub all : (u v : ℕ) → u < 256 → v < 256 → Listed from to n u v → getD table (u * 256 + v) 0 ≡ 1
-  pub only : (u v : ℕ) → u < 256 → v < 256 → getD table (u * 256 + v) 0 ≡ 1 → Listed from to n u v
+  pub all : (u v : ℕ) → u < maxCells → v < maxCells → Listed from to n u v → getD table (u * maxCells + v) 0 ≡ 1
+  pub only : (u v : ℕ) → u < maxCells → v < maxCells → getD table (u * maxCells + v) 0 ≡ 1 → Listed from to n u v
 
 -- By the table, a cart may go from u to v in a step.
 abbrev pub Goes : List ℕ → ℕ → ℕ → Type 0
-Goes table u v = (u ≡ v) ⊎ ((getD table (u * 256 + v) 0 ≡ 1) ⊎ (getD table (v * 256 + u) 0 ≡ 1))
+Goes table u v = (u ≡ v) ⊎ ((getD table (u * maxCells + v) 0 ≡ 1) ⊎ (getD table (v * maxCells + u) 0 ≡ 1))
 
 -- By the table, path k walks up to the step d.
 abbrev pub Walks : List ℕ → List ℕ → ℕ → ℕ → Type 0
@@ -70,7 +71,7 @@ Untraded last rows n t = (k : ℕ) → k < n → t < getD last k 0 → Meets las
 abbrev pub Clear : List ℕ → List ℕ → ℕ → ℕ → Type 0
 Clear last rows n t = Apart last rows n t × Untraded last rows n t
 
--- `on` has for each cell the number of the path that is on it at the step t, of the first n; 64 or more for none.
+-- `on` has for each cell the number of the path that is on it at the step t, of the first n; maxCalls or more for none.
 pub record Standing (last rows : List ℕ) (n t : ℕ) (on : List ℕ) : Type 0 where
   pub there : (k : ℕ) → k < n → t ≤ getD last k 0 → getD on (cellOf rows k t) 0 ≡ k
-  pub back : (c : ℕ) → c < 256 → getD on c 0 < 64 → (getD on c 0 < n) × (t ≤ getD last (getD on c 0) 0) × (cellOf rows (getD on c 0) t ≡ c)
+  pub back : (c : ℕ) → c < maxCells → getD on c 0 < maxCalls → (getD on c 0 < n) × (t ≤ getD last (getD on c 0) 0) × (cellOf rows (getD on c 0) t ≡ c)

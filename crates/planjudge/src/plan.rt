@@ -1,11 +1,13 @@
 // Whether paths are a plan in the order of the sheet: each a walk of its cart to its call, no two sharing a cell or trading places.
 use job::state::Job;
 use model::Limits;
-ghost use Prim.Native.Nat.{ℕ, _+_, _<_, _≤_};
+use model::bytes::wide;
+ghost use Prim.Native.Nat.{ℕ, _+_, _*_, _<_, _≤_};
 ghost use mathlib.Core.Path.{_≡_};
 ghost use mathlib.Core.Bool.{true};
 ghost use lib.ListN.{length, getD};
 ghost use Rattle.model.specs.Lists.{In};
+ghost use Rattle.model.specs.Limits.{maxCells, maxTracks, maxCalls, maxSteps};
 ghost use Rattle.model.specs.Plan.{Path};
 ghost use Rattle.model.specs.Ready.{Ready};
 ghost use Rattle.model.specs.ReadSheet.{knownPath};
@@ -15,25 +17,19 @@ ghost use Rattle.job.specs.Held.{Room, pathsOf, Decides};
 ghost use Rattle.planjudge.specs.PlanTests.{cellOf, Known, Lasts, Precedes, Ordered, Marks, Goes, Walks, Led, AllLed, Apart, Meets, Untraded, Clear, Standing};
 
 // In the place of a path's number: no path.
-const NONE: u8 = 64;
-
-fn wide(x: u8) -> usize
-    ensures { λ r. ⌜ (r ≡ x) × (r < 256) ⌝ }
-{
-    x as usize
-}
+const NONE: u8 = Limits::CALLS as u8;
 
 // The cell of path k at the step t.
 fn cell(rows: &[u8], k: usize, t: usize) -> usize
-    requires { ⌜ (length (now rows) ≡ 16384) × (k < 64) × (t < 256) ⌝ }
-    ensures { λ r. ⌜ (r ≡ cellOf (now (rows .entry)) k t) × (r < 256) ⌝ }
+    requires { ⌜ (length (now rows) ≡ maxCalls * maxSteps) × (k < maxCalls) × (t < maxSteps) ⌝ }
+    ensures { λ r. ⌜ (r ≡ cellOf (now (rows .entry)) k t) × (r < maxCells) ⌝ }
 {
     wide(rows[k * Limits::STEPS + t])
 }
 
 // The last step of each path: the deadline of its call.
 fn lasts(calls: &[u8], deadlines: &[u8; Limits::CALLS], n: usize) -> [u8; Limits::CALLS]
-    requires { ⌜ (length (now calls) ≡ 64) × (n ≤ 64) × Known (now calls) n ⌝ }
+    requires { ⌜ (length (now calls) ≡ maxCalls) × (n ≤ maxCalls) × Known (now calls) n ⌝ }
     ensures { λ r. ⌜ Lasts (now (deadlines .entry)) (now (calls .entry)) r n ⌝ }
 {
     let mut last = [0u8; Limits::CALLS];
@@ -48,7 +44,7 @@ fn lasts(calls: &[u8], deadlines: &[u8; Limits::CALLS], n: usize) -> [u8; Limits
 
 // Whether path k stands before the next: its deadline is earlier, or the same and its call the earlier one.
 fn precedes(calls: &[u8], last: &[u8; Limits::CALLS], k: usize) -> bool
-    requires { ⌜ (length (now calls) ≡ 64) × (k < 63) ⌝ }
+    requires { ⌜ (length (now calls) ≡ maxCalls) × (k + 1 < maxCalls) ⌝ }
     ensures { λ r. ⌜ Decides r (Precedes (now (last .entry)) (now (calls .entry)) k (k + 1)) ⌝ }
 {
     if last[k] < last[k + 1] {
@@ -62,7 +58,7 @@ fn precedes(calls: &[u8], last: &[u8; Limits::CALLS], k: usize) -> bool
 
 // Whether each of the first n paths stands before the next.
 fn in_order(calls: &[u8], last: &[u8; Limits::CALLS], n: usize) -> bool
-    requires { ⌜ (length (now calls) ≡ 64) × (n ≤ 64) ⌝ }
+    requires { ⌜ (length (now calls) ≡ maxCalls) × (n ≤ maxCalls) ⌝ }
     ensures { λ r. ⌜ Decides r (Ordered (now (last .entry)) (now (calls .entry)) n) ⌝ }
 {
     let mut k = 0;
@@ -82,7 +78,7 @@ fn mark<'a>(
     n: usize,
     table: &mut [u8; Limits::CELLS * Limits::CELLS],
 )
-    requires { ⌜ (n ≤ 512) × (length (now table) ≡ 65536) × ((x : ℕ) → x < 65536 → getD (now table) x 0 ≡ 0) ⌝ }
+    requires { ⌜ (n ≤ maxTracks) × (length (now table) ≡ maxCells * maxCells) × ((x : ℕ) → x < maxCells * maxCells → getD (now table) x 0 ≡ 0) ⌝ }
     ensures { λ r. ⌜ Marks (now (from .entry)) (now (to .entry)) n (now (table .exit)) ⌝ }
 {
     let mut i = 0;
@@ -96,7 +92,7 @@ fn mark<'a>(
 
 // Whether a cart may go from u to v in a step.
 fn goes(table: &[u8; Limits::CELLS * Limits::CELLS], u: usize, v: usize) -> bool
-    requires { ⌜ (u < 256) × (v < 256) ⌝ }
+    requires { ⌜ (u < maxCells) × (v < maxCells) ⌝ }
     ensures { λ r. ⌜ Decides r (Goes (now (table .entry)) u v) ⌝ }
 {
     if u == v {
@@ -110,7 +106,7 @@ fn goes(table: &[u8; Limits::CELLS * Limits::CELLS], u: usize, v: usize) -> bool
 
 // Whether path k is a walk up to the step d.
 fn walks(table: &[u8; Limits::CELLS * Limits::CELLS], rows: &[u8], k: usize, d: usize) -> bool
-    requires { ⌜ (length (now rows) ≡ 16384) × (k < 64) × (d < 256) ⌝ }
+    requires { ⌜ (length (now rows) ≡ maxCalls * maxSteps) × (k < maxCalls) × (d < maxSteps) ⌝ }
     ensures { λ r. ⌜ Decides r (Walks (now (table .entry)) (now (rows .entry)) k d) ⌝ }
 {
     let mut t = 0;
@@ -132,7 +128,7 @@ fn leads(
     a: usize,
     b: usize,
 ) -> bool
-    requires { ⌜ (length (now rows) ≡ 16384) × (k < 64) × (d < 256) ⌝ }
+    requires { ⌜ (length (now rows) ≡ maxCalls * maxSteps) × (k < maxCalls) × (d < maxSteps) ⌝ }
     ensures { λ r. ⌜ Decides r (Led (now (table .entry)) (now (rows .entry)) k d a b) ⌝ }
 {
     if cell(rows, k, 0) != a {
@@ -155,7 +151,7 @@ fn all_lead<'a>(
     lifts: &'a [u8; Limits::CALLS],
     n: usize,
 ) -> bool
-    requires { ⌜ (length (now rows) ≡ 16384) × (length (now carts) ≡ 64) × (length (now calls) ≡ 64) × (n ≤ 64) × Known (now carts) n × Known (now calls) n ⌝ }
+    requires { ⌜ (length (now rows) ≡ maxCalls * maxSteps) × (length (now carts) ≡ maxCalls) × (length (now calls) ≡ maxCalls) × (n ≤ maxCalls) × Known (now carts) n × Known (now calls) n ⌝ }
     ensures { λ r. ⌜ Decides r (AllLed (now (table .entry)) (now (rows .entry)) (now (last .entry)) (now (carts .entry)) (now (starts .entry)) (now (calls .entry)) (now (lifts .entry)) n) ⌝ }
 {
     let mut k = 0;
@@ -185,7 +181,7 @@ fn stand(
     t: usize,
     on: &mut [u8; Limits::CELLS],
 ) -> bool
-    requires { ⌜ (length (now rows) ≡ 16384) × (n ≤ 64) × (t < 256) × (length (now on) ≡ 256) × ((c : ℕ) → c < 256 → getD (now on) c 0 ≡ 64) ⌝ }
+    requires { ⌜ (length (now rows) ≡ maxCalls * maxSteps) × (n ≤ maxCalls) × (t < maxSteps) × (length (now on) ≡ maxCells) × ((c : ℕ) → c < maxCells → getD (now on) c 0 ≡ maxCalls) ⌝ }
     ensures { λ r. ⌜ Decides r (Apart (now (last .entry)) (now (rows .entry)) n t) × (r ≡ true → Standing (now (last .entry)) (now (rows .entry)) n t (now (on .exit))) ⌝ }
 {
     let mut k: usize = 0;
@@ -211,7 +207,7 @@ fn meets(
     on: &[u8; Limits::CELLS],
     k: usize,
 ) -> bool
-    requires { ⌜ (length (now rows) ≡ 16384) × (n ≤ 64) × (t < 255) × (k < n) × Standing (now last) (now rows) n t (now on) ⌝ }
+    requires { ⌜ (length (now rows) ≡ maxCalls * maxSteps) × (n ≤ maxCalls) × (t + 1 < maxSteps) × (k < n) × Standing (now last) (now rows) n t (now on) ⌝ }
     ensures { λ r. ⌜ Decides r (Meets (now (last .entry)) (now (rows .entry)) n t k) ⌝ }
 {
     let m = wide(on[cell(rows, k, t + 1)]);
@@ -235,7 +231,7 @@ fn untraded(
     t: usize,
     on: &[u8; Limits::CELLS],
 ) -> bool
-    requires { ⌜ (length (now rows) ≡ 16384) × (n ≤ 64) × (t < 256) × Standing (now last) (now rows) n t (now on) ⌝ }
+    requires { ⌜ (length (now rows) ≡ maxCalls * maxSteps) × (n ≤ maxCalls) × (t < maxSteps) × Standing (now last) (now rows) n t (now on) ⌝ }
     ensures { λ r. ⌜ Decides r (Untraded (now (last .entry)) (now (rows .entry)) n t) ⌝ }
 {
     let mut k = 0;
@@ -252,7 +248,7 @@ fn untraded(
 
 // Whether the first n paths are in nobody's way at the step t.
 fn clear(last: &[u8; Limits::CALLS], rows: &[u8], n: usize, t: usize) -> bool
-    requires { ⌜ (length (now rows) ≡ 16384) × (n ≤ 64) × (t < 256) ⌝ }
+    requires { ⌜ (length (now rows) ≡ maxCalls * maxSteps) × (n ≤ maxCalls) × (t < maxSteps) ⌝ }
     ensures { λ r. ⌜ Decides r (Clear (now (last .entry)) (now (rows .entry)) n t) ⌝ }
 {
     let mut on = [NONE; Limits::CELLS];
@@ -264,7 +260,7 @@ fn clear(last: &[u8; Limits::CALLS], rows: &[u8], n: usize, t: usize) -> bool
 
 // Whether they are so at every step up to h.
 fn all_clear(last: &[u8; Limits::CALLS], rows: &[u8], n: usize, h: usize) -> bool
-    requires { ⌜ (length (now rows) ≡ 16384) × (n ≤ 64) × (h < 256) ⌝ }
+    requires { ⌜ (length (now rows) ≡ maxCalls * maxSteps) × (n ≤ maxCalls) × (h < maxSteps) ⌝ }
     ensures { λ r. ⌜ Decides r ((t : ℕ) → t ≤ h → Clear (now (last .entry)) (now (rows .entry)) n t) ⌝ }
 {
     let mut t = 0;
@@ -277,17 +273,6 @@ fn all_clear(last: &[u8; Limits::CALLS], rows: &[u8], n: usize, h: usize) -> boo
     true
 }
 
-// The last step of all: that of the last path, since they rise by their deadlines.
-fn horizon(calls: &[u8], last: &[u8; Limits::CALLS], n: usize) -> usize
-    requires { ⌜ (n ≤ 64) × Ordered (now last) (now calls) n ⌝ }
-    ensures { λ r. ⌜ (r < 256) × ((k : ℕ) → k < n → getD (now (last .entry)) k 0 ≤ r) ⌝ }
-{
-    if n == 0 {
-        return 0;
-    }
-    wide(last[n - 1])
-}
-
 pub fn is_plan(job: Job, carts: &[u8], calls: &[u8], rows: &[u8]) -> bool
     requires { ⌜ Ready (jobOf job) × Sized job × Room (now carts) (now calls) (now rows) × ((p : Path) → In p (pathsOf (jobOf job) (now carts) (now calls) (now rows)) → knownPath (jobOf job) p ≡ true) ⌝ }
     ensures { λ r. ⌜ Decides r (RightPlan (jobOf job) (pathsOf (jobOf job) (now (carts .entry)) (now (calls .entry)) (now (rows .entry)))) ⌝ }
@@ -298,8 +283,7 @@ pub fn is_plan(job: Job, carts: &[u8], calls: &[u8], rows: &[u8]) -> bool
         return false;
     }
     let mut table = [0u8; Limits::CELLS * Limits::CELLS];
-    let tracks = job.tracks;
-    mark(&job.from, &job.to, tracks, &mut table);
+    mark(&job.from, &job.to, job.tracks, &mut table);
     if !all_lead(
         &table,
         rows,
@@ -312,5 +296,5 @@ pub fn is_plan(job: Job, carts: &[u8], calls: &[u8], rows: &[u8]) -> bool
     ) {
         return false;
     }
-    all_clear(&last, rows, n, horizon(calls, &last, n))
+    all_clear(&last, rows, n, job::size::horizon(&job.deadlines, n))
 }

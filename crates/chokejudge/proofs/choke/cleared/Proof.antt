@@ -8,12 +8,13 @@ use mathlib.Core.Path.{_≡_, _∙_, ap, sym}
 use Rattle.chokejudge.proofs.ChokeLaws.{cleared-none, Off, cleared-more}
 use lib.ListN.{getD, length, set}
 use denote.Ref.{now}
+use Rattle.model.specs.Limits.{maxCells}
 use borrow.Author.Needs.{needs}
 use Rattle.chokejudge.proofs.choke.cleared.Statement.{statement}
 use Rattle.chokejudge.proofs.choke.cleared.Tie as tie
 
 abbrev Inv-loop : tie.InvT-loop
-Inv-loop cells steps n t left₀ i₀ left i = (i ≤ n) × (length left ≡ 256) × Marks left (λ v. (getD left₀ v 0 ≡ 1) × (Choked cells steps i t v → ⊥))
+Inv-loop cells steps n t left₀ i₀ left i = (i ≤ n) × (length left ≡ maxCells) × Marks left (λ v. (getD left₀ v 0 ≡ 1) × (Choked cells steps i t v → ⊥))
 
 abbrev μ-loop : tie.MeasureT-loop
 μ-loop cells steps n t left₀ i₀ left i = n - i

@@ -6,18 +6,19 @@ use mathlib.Core.Path.{_≡_}
 use lib.ListN.{length, length-set}
 use denote.Ref.{now}
 use Rattle.chokejudge.proofs.ChokeLaws.{placed-none, placed-more}
+use Rattle.model.specs.Limits.{maxCells}
 use borrow.Author.Needs.{needs}
 use Rattle.chokejudge.proofs.choke.placed.Statement.{statement}
 use Rattle.chokejudge.proofs.choke.placed.Tie as tie
 
 abbrev Inv-loop : tie.InvT-loop
-Inv-loop starts n layer₀ i₀ layer i = (i ≤ n) × (length layer ≡ 256) × Marks layer (Placed starts i)
+Inv-loop starts n layer₀ i₀ layer i = (i ≤ n) × (length layer ≡ maxCells) × Marks layer (Placed starts i)
 
 abbrev μ-loop : tie.MeasureT-loop
 μ-loop starts n layer₀ i₀ layer i = n - i
 
 loop-holds : tie.Need-loop-holds Inv-loop μ-loop
-loop-holds c = (search needs, search needs, placed-none (now (c .args .starts)) 256)
+loop-holds c = (search needs, search needs, placed-none (now (c .args .starts)) maxCells)
 
 element-copy-out-wide : tie.Need-element-copy-out-wide Inv-loop μ-loop
 element-copy-out-wide c = search needs

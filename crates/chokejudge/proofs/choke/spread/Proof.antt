@@ -8,12 +8,13 @@ use Rattle.chokejudge.specs.ChokeLayers.{Marks, Spread}
 use Prim.Native.Nat.{_-_, _≤_}
 use mathlib.Core.Path.{_≡_, _∙_}
 use lib.ListN.{length}
+use Rattle.model.specs.Limits.{maxCells}
 use borrow.Author.Needs.{needs}
 use Rattle.chokejudge.proofs.choke.spread.Statement.{statement}
 use Rattle.chokejudge.proofs.choke.spread.Tie as tie
 
 abbrev Inv-loop : tie.InvT-loop
-Inv-loop from to n layer next₀ i₀ next i = (i ≤ n) × (length next ≡ 256) × Marks next (Spread from to i layer)
+Inv-loop from to n layer next₀ i₀ next i = (i ≤ n) × (length next ≡ maxCells) × Marks next (Spread from to i layer)
 
 abbrev μ-loop : tie.MeasureT-loop
 μ-loop from to n layer next₀ i₀ next i = n - i

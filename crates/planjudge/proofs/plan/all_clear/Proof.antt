@@ -2,7 +2,8 @@
 -- Assumes nothing.
 use Rattle.planjudge.specs.PlanTests.{Clear}
 use Prim.Native.Nat.{_+_, _-_, _<_, _≤_, ℕ}
-use Rattle.planjudge.proofs.PlanSteps.{all-more, denied, told}
+use borrow.Author.Count.{below-more}
+use Rattle.planjudge.proofs.PlanSteps.{denied, told}
 use native.Mathlib.Omega.{arith}
 use borrow.Author.Needs.{needs}
 use borrow.Author.Tests.{not-false, not-true}
@@ -31,7 +32,7 @@ loop-less : tie.Need-loop-less Inv-loop μ-loop
 loop-less c = search needs
 
 loop-again : tie.Need-loop-again Inv-loop μ-loop
-loop-again c = (omega arith, all-more (c .before .before .before .loop .t) (c .before .before .before .loop .inv .1) (c .before .clear .ensures .0 (not-false _ (c .if1 .left))))
+loop-again c = (omega arith, below-more _ (c .before .before .before .loop .t) (c .before .before .before .loop .inv .1) (c .before .clear .ensures .0 (not-false _ (c .if1 .left))))
 
 returns-2 : tie.Need-returns-2 Inv-loop μ-loop
 returns-2 c = told (λ s l. c .before .loop .inv .1 s (omega arith))

@@ -4,7 +4,8 @@ use Rattle.job.specs.Held.{Decides}
 use Rattle.planjudge.specs.PlanTests.{AllLed, Led}
 use Prim.Native.Nat.{_-_, _≤_}
 use mathlib.Core.Path.{_∙_, _≡_, ap}
-use Rattle.planjudge.proofs.PlanSteps.{all-more, denied, told}
+use borrow.Author.Count.{below-more}
+use Rattle.planjudge.proofs.PlanSteps.{denied, told}
 use native.Mathlib.Omega.{arith}
 use lib.ListN.{getD}
 use borrow.Author.Needs.{needs}
@@ -79,7 +80,7 @@ loop-less : tie.Need-loop-less Inv-loop μ-loop
 loop-less c = search needs
 
 loop-again : tie.Need-loop-again Inv-loop μ-loop
-loop-again c = (omega arith, all-more (c .before .before .before .before .before .before .before .before .before .before .before .before .before .loop .k) (c .before .before .before .before .before .before .before .before .before .before .before .before .before .loop .inv .1) (answer (c .before) .0 (not-false _ (c .if1 .left))))
+loop-again c = (omega arith, below-more _ (c .before .before .before .before .before .before .before .before .before .before .before .before .before .loop .k) (c .before .before .before .before .before .before .before .before .before .before .before .before .before .loop .inv .1) (answer (c .before) .0 (not-false _ (c .if1 .left))))
 
 returns-2 : tie.Need-returns-2 Inv-loop μ-loop
 returns-2 c = told (λ k h. c .before .loop .inv .1 k (omega arith))

@@ -1,6 +1,7 @@
 -- `clear` decides whether the paths are in nobody's way at a step: first that they stand apart, then that none trades. Assumes nothing.
 use Rattle.planjudge.specs.PlanTests.{Apart}
 use Rattle.planjudge.proofs.PlanSteps.{denied, same-answer}
+use Rattle.model.specs.Limits.{maxCells, maxCalls}
 use lib.ListN.{getD-replicate, length-replicate}
 use borrow.Author.Tests.{not-false, not-true}
 use denote.Ref.{now}
@@ -9,7 +10,7 @@ use Rattle.planjudge.proofs.plan.clear.Statement.{statement}
 use Rattle.planjudge.proofs.plan.clear.Tie as tie
 
 stand-requires : tie.Need-stand-requires
-stand-requires c κs = (c .before .before .pre .0, c .before .before .pre .1, c .before .before .pre .2, length-replicate {A = ℕ} 256 64, λ x h. getD-replicate {A = ℕ} 256 x 64 0 h)
+stand-requires c κs = (c .before .before .pre .0, c .before .before .pre .1, c .before .before .pre .2, length-replicate {A = ℕ} maxCells maxCalls, λ x h. getD-replicate {A = ℕ} maxCells x maxCalls 0 h)
 
 returns : tie.Need-returns
 returns c = denied (λ q. c .before .stand .ensures .0 .1 (not-true _ (c .if1 .taken)) (q .0))

@@ -4,6 +4,7 @@ use Rattle.planjudge.proofs.PlanSteps.{by-equal, no-go, told}
 use lib.ListN.{getD}
 use mathlib.Core.Logic.{inl, inr}
 use denote.Ref.{now}
+use Rattle.model.specs.Limits.{maxCells}
 use borrow.Author.Needs.{needs}
 use Rattle.planjudge.proofs.plan.goes.Statement.{statement}
 use Rattle.planjudge.proofs.plan.goes.Tie as tie
@@ -37,7 +38,7 @@ returns-3 c =
     let table = now (c .before .before .before .before .args .table) in
     let u = c .before .before .before .before .args .u in
     let v = c .before .before .before .before .args .v in
-    by-equal (getD table (v * 256 + u) 0) 1 (λ e. inr (inr e)) (no-go table u v (c .before .before .before .if1 .left) (c .before .if2 .left))
+    by-equal (getD table (v * maxCells + u) 0) 1 (λ e. inr (inr e)) (no-go table u v (c .before .before .before .if1 .left) (c .before .if2 .left))
 
 pub goes-spec : {M : Type 1} → statement M
 goes-spec =

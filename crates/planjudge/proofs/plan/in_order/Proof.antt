@@ -2,14 +2,16 @@
 use Rattle.planjudge.specs.PlanTests.{Precedes}
 use Prim.Native.Nat.{_+_, _-_, _<_, ℕ, _≤_}
 use native.Mathlib.Omega.{arith}
-use Rattle.planjudge.proofs.PlanSteps.{denied, told, all-more}
+use borrow.Author.Count.{below-more}
+use Rattle.planjudge.proofs.PlanSteps.{denied, told}
+use Rattle.model.specs.Limits.{maxCalls}
 use borrow.Author.Needs.{needs}
 use borrow.Author.Tests.{not-false, not-true}
 use Rattle.planjudge.proofs.plan.in_order.Statement.{statement}
 use Rattle.planjudge.proofs.plan.in_order.Tie as tie
 
 abbrev Inv-loop : tie.InvT-loop
-Inv-loop calls last n k₀ k = (k ≤ 64) × ((m : ℕ) → m < k → Precedes last calls m (m + 1))
+Inv-loop calls last n k₀ k = (k ≤ maxCalls) × ((m : ℕ) → m < k → Precedes last calls m (m + 1))
 
 abbrev μ-loop : tie.MeasureT-loop
 μ-loop calls last n k₀ k = n - k
@@ -33,7 +35,7 @@ loop-less : tie.Need-loop-less Inv-loop μ-loop
 loop-less c = search needs
 
 loop-again : tie.Need-loop-again Inv-loop μ-loop
-loop-again c = (omega arith, all-more (c .before .before .before .loop .k) (c .before .before .before .loop .inv .1) (c .before .precedes .ensures .0 (not-false _ (c .if1 .left))))
+loop-again c = (omega arith, below-more _ (c .before .before .before .loop .k) (c .before .before .before .loop .inv .1) (c .before .precedes .ensures .0 (not-false _ (c .if1 .left))))
 
 returns-2 : tie.Need-returns-2 Inv-loop μ-loop
 returns-2 c = told (λ m h. c .before .loop .inv .1 m (omega arith))

@@ -3,10 +3,14 @@
 use native.Mathlib.Omega.{arith}
 use Rattle.planjudge.proofs.PlanSteps.{denied, same-answer}
 use Rattle.planjudge.proofs.PlanRight.{Given, known-call, known-cart, right-ordered, plan-led, plan-clear, tests-right}
+use Rattle.model.specs.Limits.{maxCells}
+use Rattle.job.proofs.Arrays.{long, whole, last-deadline}
 use borrow.Author.Tests.{not-false, not-true}
 use denote.Ref.{now}
 use lib.ListN.{getD-replicate, length-replicate}
-use Prim.Native.Nat.{ℕ}
+use Prim.Native.Nat.{ℕ, _*_, _≤_}
+use Rattle.model.specs.Job.{horizon}
+use Rattle.job.specs.Arrays.{jobOf}
 use borrow.Author.Needs.{needs}
 use Rattle.planjudge.proofs.plan.is_plan.Statement.{statement}
 use Rattle.planjudge.proofs.plan.is_plan.Tie as tie
@@ -14,8 +18,7 @@ use Rattle.planjudge.proofs.plan.is_plan.Tie as tie
 given : (c : tie.Start) → Given (c .args .t1) (now (c .args .carts)) (now (c .args .calls)) (now (c .args .rows))
 given c = record {
   ready = c .pre .0;
-  sized = c .pre .1;
-  full = record { from = search needs; to = search needs; starts = search needs; lifts = search needs; deadlines = search needs };
+  full = whole (c .args .t1) (c .pre .1) (long (c .args .t1) (c .good .0 .0) (c .good .0 .1 .1));
   known = c .pre .3;
 }
 
@@ -29,7 +32,7 @@ returns : tie.Need-returns
 returns c = denied (λ r. c .before .in-order .ensures .1 (not-true _ (c .if1 .taken)) (right-ordered (given (c .before .before .before .before .before .before .before .before .before)) (c .before .before .before .lasts .result) (c .before .before .before .lasts .ensures) (r .1)))
 
 mark-requires : tie.Need-mark-requires
-mark-requires c κs = (c .before .before .before .before .before .before .before .before .before .before .before .before .before .pre .1 .tracks, length-replicate {A = ℕ} 65536 0, λ x h. getD-replicate {A = ℕ} 65536 x 0 0 h)
+mark-requires c κs = (c .before .before .before .before .before .before .before .before .before .before .before .before .before .pre .1 .tracks, length-replicate {A = ℕ} (maxCells * maxCells) 0, λ x h. getD-replicate {A = ℕ} (maxCells * maxCells) x 0 0 h)
 
 all-lead-requires : tie.Need-all-lead-requires
 all-lead-requires c κs =
@@ -42,20 +45,22 @@ returns-2 c =
     denied (λ r. c .before .all-lead .ensures .1 (not-true _ (c .if2 .taken)) (plan-led (given (c .before .before .before .before .before .before .before .before .before .before .before .before .before .before .before .before .before .before .before .before .before)) (c .before .before .before .before .before .before .before .before .before .before .before .before .before .before .before .lasts .result) (c .before .before .before .before .before .before .before .before .before .before .before .before .before .before .before .lasts .ensures) (c .before .before .before .before .before .before .before .mark .ensures) (r .0 .leads)))
 
 horizon-requires : tie.Need-horizon-requires
-horizon-requires c κs = (c .before .before .before .before .before .before .before .before .before .before .before .before .before .before .before .before .before .before .before .before .before .before .before .pre .1 .calls, c .before .before .before .before .before .before .before .before .before .before .before .before .before .before .before .in-order .ensures .0 (not-false _ (c .before .before .before .before .before .before .before .before .before .before .before .before .before .before .if1 .left)))
+horizon-requires c κs = c .before .before .before .before .before .before .before .before .before .before .before .before .before .before .before .before .before .before .before .before .before .before .before .before .pre .1 .calls
 
 all-clear-requires : tie.Need-all-clear-requires
-all-clear-requires c κs = (c .before .before .before .before .before .before .before .before .before .before .before .before .before .before .before .before .before .before .before .before .before .before .before .before .pre .2 .cells, c .before .before .before .before .before .before .before .before .before .before .before .before .before .before .before .before .before .before .before .before .before .before .before .before .pre .1 .calls, c .horizon .ensures .0)
+all-clear-requires c κs = (c .before .before .before .before .before .before .before .before .before .before .before .before .before .before .before .before .before .before .before .before .before .before .before .before .before .pre .2 .cells, c .before .before .before .before .before .before .before .before .before .before .before .before .before .before .before .before .before .before .before .before .before .before .before .before .before .pre .1 .calls, c .horizon .ensures .1)
 
 returns-3 : tie.Need-returns-3
 returns-3 c =
-    let g = given (c .before .before .before .before .before .before .before .before .before .before .before .before .before .before .before .before .before .before .before .before .before .before .before .before .before) in
-    let last = c .before .before .before .before .before .before .before .before .before .before .before .before .before .before .before .before .before .before .before .lasts .result in
-    let due = c .before .before .before .before .before .before .before .before .before .before .before .before .before .before .before .before .before .before .before .lasts .ensures in
+    let g = given (c .before .before .before .before .before .before .before .before .before .before .before .before .before .before .before .before .before .before .before .before .before .before .before .before .before .before) in
+    let last = c .before .before .before .before .before .before .before .before .before .before .before .before .before .before .before .before .before .before .before .before .lasts .result in
+    let due = c .before .before .before .before .before .before .before .before .before .before .before .before .before .before .before .before .before .before .before .before .lasts .ensures in
+    let j = c .before .before .before .before .before .before .before .before .before .before .before .before .before .before .before .before .before .before .before .before .before .before .before .before .before .before .args .t1 in
     let h = c .before .horizon in
-    let order = c .before .before .before .before .before .before .before .before .before .before .before .before .before .before .before .before .before .in-order .ensures .0 (not-false _ (c .before .before .before .before .before .before .before .before .before .before .before .before .before .before .before .before .if1 .left)) in
-    let led = c .before .before .before .before .before .all-lead .ensures .0 (not-false _ (c .before .before .before .before .if2 .left)) in
-    same-answer (λ clear. tests-right g last due (c .before .before .before .before .before .before .before .before .before .before .before .mark .ensures) (h .result) (h .ensures .1) clear order led) (λ r t l. plan-clear g last due (r .0) t) (c .all-clear .ensures)
+    let order = c .before .before .before .before .before .before .before .before .before .before .before .before .before .before .before .before .before .before .in-order .ensures .0 (not-false _ (c .before .before .before .before .before .before .before .before .before .before .before .before .before .before .before .before .before .if1 .left)) in
+    let led = c .before .before .before .before .before .before .all-lead .ensures .0 (not-false _ (c .before .before .before .before .before .if2 .left)) in
+    let late : horizon (jobOf j) ≤ h .result = omega (arith, last-deadline j (g .full), h .ensures .0) in
+    same-answer (λ clear. tests-right g last due (c .before .before .before .before .before .before .before .before .before .before .before .before .mark .ensures) (h .result) late clear order led) (λ r t l. plan-clear g last due (r .0) t) (c .all-clear .ensures)
 
 pub is-plan-spec : {M : Type 1} → statement M
 is-plan-spec =

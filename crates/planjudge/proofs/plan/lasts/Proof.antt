@@ -5,19 +5,20 @@ use mathlib.Core.Path.{_≡_}
 use native.Mathlib.Omega.{arith}
 use Rattle.planjudge.proofs.PlanSteps.{lasts-more}
 use lib.ListN.{length, length-replicate, length-set}
+use Rattle.model.specs.Limits.{maxCalls}
 use borrow.Author.Needs.{needs}
 use denote.Ref.{now}
 use Rattle.planjudge.proofs.plan.lasts.Statement.{statement}
 use Rattle.planjudge.proofs.plan.lasts.Tie as tie
 
 abbrev Inv-loop : tie.InvT-loop
-Inv-loop calls deadlines n last₀ k₀ last k = (length last ≡ 64) × Lasts deadlines calls last k
+Inv-loop calls deadlines n last₀ k₀ last k = (length last ≡ maxCalls) × Lasts deadlines calls last k
 
 abbrev μ-loop : tie.MeasureT-loop
 μ-loop calls deadlines n last₀ k₀ last k = n - k
 
 loop-holds : tie.Need-loop-holds Inv-loop μ-loop
-loop-holds c = (length-replicate {A = ℕ} 64 0, λ m h. absurd (omega arith))
+loop-holds c = (length-replicate {A = ℕ} maxCalls 0, λ m h. absurd (omega arith))
 
 shared-slice-read-wide : tie.Need-shared-slice-read-wide Inv-loop μ-loop
 shared-slice-read-wide c = search needs

@@ -3,15 +3,16 @@ use native.Mathlib.Omega.{arith}
 use Rattle.planjudge.proofs.PlanSteps.{marks-more, marks-none}
 use denote.Ref.{now}
 use Rattle.planjudge.specs.PlanTests.{Marks}
-use Prim.Native.Nat.{_-_, _≤_}
+use Prim.Native.Nat.{_*_, _-_, _≤_}
 use mathlib.Core.Path.{_≡_}
 use lib.ListN.{length, getD, length-set}
+use Rattle.model.specs.Limits.{maxCells}
 use borrow.Author.Needs.{needs}
 use Rattle.planjudge.proofs.plan.mark.Statement.{statement}
 use Rattle.planjudge.proofs.plan.mark.Tie as tie
 
 abbrev Inv-loop : tie.InvT-loop
-Inv-loop from to n table₀ i₀ table i = (i ≤ n) × (length table ≡ 65536) × Marks from to i table
+Inv-loop from to n table₀ i₀ table i = (i ≤ n) × (length table ≡ maxCells * maxCells) × Marks from to i table
 
 abbrev μ-loop : tie.MeasureT-loop
 μ-loop from to n table₀ i₀ table i = n - i

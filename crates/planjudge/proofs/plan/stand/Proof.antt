@@ -7,6 +7,7 @@ use native.Mathlib.Omega.{arith}
 use Rattle.planjudge.proofs.PlanSteps.{denied, standing-apart, standing-none, standing-taken, told, standing-left, standing-more}
 use mathlib.Core.Bool.{false≢true}
 use lib.ListN.{getD, length, length-set, set}
+use Rattle.model.specs.Limits.{maxCells, maxCalls}
 use borrow.Author.Needs.{needs}
 use denote.Ref.{now}
 use mathlib.Core.Logic.{⊎-elim}
@@ -14,7 +15,7 @@ use Rattle.planjudge.proofs.plan.stand.Statement.{statement}
 use Rattle.planjudge.proofs.plan.stand.Tie as tie
 
 abbrev Inv-loop : tie.InvT-loop
-Inv-loop last rows n t on₀ k₀ on k = (k ≤ n) × (length on ≡ 256) × Standing last rows k t on
+Inv-loop last rows n t on₀ k₀ on k = (k ≤ n) × (length on ≡ maxCells) × Standing last rows k t on
 
 abbrev μ-loop : tie.MeasureT-loop
 μ-loop last rows n t on₀ k₀ on k = n - k
@@ -44,7 +45,7 @@ returns c =
     let rows = now (a .rows) in
     let x : c .before .before .cell .result ≡ cellOf rows (l .k) (a .t) = c .before .before .cell .ensures .0 in
     let d : c .before .before .before .before .wide .result ≡ getD last (l .k) 0 = c .before .before .before .before .wide .ensures .0 in
-    let f : getD (l .on) (c .before .before .cell .result) 0 < 64 = c .if2 .taken in (
+    let f : getD (l .on) (c .before .before .cell .result) 0 < maxCalls = c .if2 .taken in (
       denied (standing-taken last rows (a .t) (a .n) (l .k) (l .on) (l .inv .2) (c .before .before .before .before .before .before .loop-test .taken) (omega (arith, x, c .before .before .cell .ensures .1))
           (omega (arith, d, c .before .before .before .if1 .taken)) (rw x at f)),
       λ e. absurd (false≢true e),
@@ -73,7 +74,7 @@ loop-again c =
     (λ w.
     let x : w .1 .result ≡ cellOf rows (l .k) (a .t) = w .1 .ensures .0 in
     let e : c .if1 .on ≡ set (l .on) (w .1 .result) (l .k) = w .4 in
-    let f : 64 ≤ getD (l .on) (w .1 .result) 0 = w .3 .left in
+    let f : maxCalls ≤ getD (l .on) (w .1 .result) 0 = w .3 .left in
     rw (e, x) (
       omega arith,
       length-set (l .on) (cellOf rows (l .k) (a .t)) (l .k) ∙ l .inv .1,

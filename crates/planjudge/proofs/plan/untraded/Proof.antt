@@ -3,7 +3,8 @@
 use Rattle.planjudge.specs.PlanTests.{Meets}
 use Prim.Native.Nat.{_-_, _<_, _≤_, ℕ}
 use mathlib.Core.Path.{_≡_}
-use Rattle.planjudge.proofs.PlanSteps.{all-more, denied, told}
+use borrow.Author.Count.{below-more}
+use Rattle.planjudge.proofs.PlanSteps.{denied, told}
 use native.Mathlib.Omega.{arith}
 use lib.ListN.{getD}
 use borrow.Author.Needs.{needs}
@@ -47,7 +48,7 @@ loop-again c =
     let a = c .before .before .before .before .before .before .args in
     let l = c .before .before .before .before .loop in
     let d : c .before .wide .result ≡ getD (now (a .last)) (l .k) 0 = c .before .wide .ensures .0 in
-    (omega arith, all-more (l .k) (l .inv .1) (⊎-elim (λ w h. w .1 .ensures .1 (w .2 .left)) (λ w h. absurd (omega arith)) (c .if1 .came)))
+    (omega arith, below-more _ (l .k) (l .inv .1) (⊎-elim (λ w h. w .1 .ensures .1 (w .2 .left)) (λ w h. absurd (omega arith)) (c .if1 .came)))
 
 returns-2 : tie.Need-returns-2 Inv-loop μ-loop
 returns-2 c = told (λ m h. c .before .loop .inv .1 m (omega arith))
