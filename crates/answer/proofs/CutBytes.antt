@@ -1,6 +1,6 @@
 -- What the bytes say of a known node is `ChokeHere`. A used node that is no call's leads on, and the flow has its link along an edge, so that the next node is known too
 -- and its bytes are in the planes. Assumes nothing.
-use Prim.Native.Nat.{ℕ, _+_, _≤_, _<_}
+use Prim.Native.Nat.{ℕ, _+_, _*_, _≤_, _<_}
 use mathlib.Core.Path.{_≡_, refl, sym, ap, _∙_}
 use mathlib.Core.List.{List}
 use mathlib.Core.Bool.{Bool, true, false, not, cond, _&&_}
@@ -10,11 +10,12 @@ use native.Mathlib.Nat.{mul-le-mul-right}
 use lib.Dec.{eqb, ltb, leb}
 use lib.ListN.{getD}
 use borrow.Author.Tests.{eqb-true, eqb-false, eq-eqb, ne-eqb, lt-ltb, le-leb, not-true}
+use Rattle.model.specs.Limits.{maxCells, maxSteps}
 use Rattle.model.specs.Job.{Job, horizon}
 use Rattle.model.specs.Choke.{Point, point, Known}
 use Rattle.model.specs.Ready.{Ready}
 use Rattle.model.specs.ReadSheet.{knownPoint}
-use Rattle.model.proofs.Basics.{nope, and-both}
+use Rattle.model.proofs.Basics.{nope, and-both, and-second}
 use Rattle.model.proofs.Agree.{within}
 use Rattle.flow.specs.Flow.{off, end, to}
 use Rattle.network.specs.Graph.{isLift, Earlier}
@@ -23,47 +24,23 @@ use Rattle.network.specs.Links.{FlowIn, onLink}
 use Rattle.network.specs.Stuck.{ChokeHere}
 use Rattle.network.specs.Tables.{Due}
 use Rattle.answer.specs.Cut.{Legible, ChokeBytes}
+use Rattle.model.proofs.Floor.{known-test}
+use Rattle.network.proofs.NodeBytes.{link-to, link-of, few-nodes}
+use Rattle.network.proofs.Planes.{idx-below}
 use Rattle.network.proofs.Points.{to-eq}
-
-and-second : (x y : Bool) → x ≡ true → (x && y) ≡ y
-and-second true y e = refl
-and-second false y e = nope (cc)
 
 no-true : (x : Bool) → (x ≡ true → ⊥) → x ≡ false
 no-true true h = absurd (h refl)
 no-true false h = refl
 
-link-to : (p : Point) (used lift : Bool) → used ≡ true → lift ≡ false → cond used (cond lift end (to p)) off ≡ to p
-link-to p true true e f = nope (cc)
-link-to p true false e f = refl
-link-to p false lift e f = nope (cc)
-
-link-of : (p w : Point) (used lift : Bool) → cond used (cond lift end (to p)) off ≡ to w → (used ≡ true) × (p ≡ w)
-link-of p w true true e = nope (cc)
-link-of p w true false e = (refl, to-eq e)
-link-of p w false lift e = nope (cc)
-
-known-true : (j : Job) (x : Point) → Known j x → knownPoint j x ≡ true
-known-true j x h = and-both (ltb (x .cell) (j .cells)) (leb (x .step) (horizon j)) (lt-ltb (x .cell) (j .cells) (h .0)) (le-leb (x .step) (horizon j) (h .1))
-
-place : (j : Job) (x : Point) → Known j x → idx j x < nodes j
-place j x h =
-    let l : x .step + 1 ≤ horizon j + 1 = omega (arith, h .1) in
-    omega (arith, mul-le-mul-right (j .cells) l, h .0)
-
-few-nodes : (j : Job) → Ready j → nodes j ≤ 65536
-few-nodes j ready =
-    let l : horizon j + 1 ≤ 256 = omega (arith, within j (ready .fit) .few-steps) in
-    omega (arith, mul-le-mul-right (j .cells) l, ready .fit .few-cells)
-
 module _ (j : Job) (s : List ℕ) (stamp : ℕ) where
   mark-is : (x : Point) → Known j x → isMarked j s stamp x ≡ eqb (getD s (nodes j + idx j x) 0) stamp
   mark-is x h =
-      and-second (knownPoint j x) (eqb (at (nodes j) s 1 (idx j x)) stamp) (known-true j x h) ∙ ap (λ (v : ℕ). eqb (getD s v 0) stamp) (omega arith)
+      and-second (knownPoint j x) (eqb (at (nodes j) s 1 (idx j x)) stamp) (known-test j x h) ∙ ap (λ (v : ℕ). eqb (getD s v 0) stamp) (omega arith)
 
   used-is : (x : Point) → Known j x → isUsed j s x ≡ not (eqb (getD s (idx j x) 0) 0)
   used-is x h =
-      and-second (knownPoint j x) (not (eqb (at (nodes j) s 0 (idx j x)) 0)) (known-true j x h) ∙ ap (λ (v : ℕ). not (eqb (getD s v 0) 0)) (omega arith)
+      and-second (knownPoint j x) (not (eqb (at (nodes j) s 0 (idx j x)) 0)) (known-test j x h) ∙ ap (λ (v : ℕ). not (eqb (getD s v 0) 0)) (omega arith)
 
   -- where a used node that is no call's leads
   abbrev after : Point → Point
@@ -72,7 +49,7 @@ module _ (j : Job) (s : List ℕ) (stamp : ℕ) where
   module _ (ok : FlowIn j s) where
     leads-on : (x : Point) → Known j x → (getD s (idx j x) 0 ≡ 0 → ⊥) → isLift j x ≡ false → onLink j s x ≡ to (after x)
     leads-on x h u f =
-        link-to (after x) (isUsed j s x) (isLift j x) (used-is x h ∙ ap not (ne-eqb (getD s (idx j x) 0) 0 u)) f
+        link-to (isUsed j s x) (isLift j x) (after x) (used-is x h ∙ ap not (ne-eqb (getD s (idx j x) 0) 0 u)) f
 
     after-known : (x : Point) → onLink j s x ≡ to (after x) → Known j (after x)
     after-known x e =
@@ -87,8 +64,8 @@ module _ (j : Job) (s : List ℕ) (stamp : ℕ) where
         dues = dues .size;
         cell = omega (arith, h .0, ready .fit .few-cells);
         step = omega (arith, h .1, within j (ready .fit) .few-steps);
-        here = place j (point c t) h;
-        leads = λ u d. place j (after (point c t)) (after-known (point c t) (leads-on (point c t) h u (no-true (isLift j (point c t)) (λ l. d (dues .lifts c t (h .0) .1 l)))));
+        here = idx-below j {x = (point c t)} h;
+        leads = λ u d. idx-below j {x = (after (point c t))} (after-known (point c t) (leads-on (point c t) h u (no-true (isLift j (point c t)) (λ l. d (dues .lifts c t (h .0) .1 l)))));
       })
 
       pub choke-here : ChokeBytes (j .cells) k due s stamp c t → ChokeHere j (onLink j s) (isMarked j s stamp) (point c t)
@@ -120,5 +97,5 @@ module _ (j : Job) (s : List ℕ) (stamp : ℕ) where
           from : ChokeHere j (onLink j s) (isMarked j s stamp) (point c t) → ChokeBytes (j .cells) (nodes j) due s stamp c t
           from (m, inl l) = (unmarked m, inl (dues .lifts c t (h .0) .1 l))
           from (m, inr (w, e, n)) =
-              let p = link-of (after (point c t)) w (isUsed j s (point c t)) (isLift j (point c t)) e in
-              (unmarked m, inr (used (p .0), marked (after (point c t)) (after-known (point c t) (e ∙ ap to (sym (p .1)))) (rw (sym (p .1)) at n)))
+              let p = link-of (isUsed j s (point c t)) (isLift j (point c t)) (after (point c t)) w e in
+              (unmarked m, inr (used (p .0), marked (after (point c t)) (after-known (point c t) (e ∙ ap to (sym (p .2)))) (rw (sym (p .2)) at n)))

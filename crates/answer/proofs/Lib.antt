@@ -2,7 +2,6 @@ pub mod CutBytes
 pub mod CutLaws
 pub mod PathList
 pub mod PathPlan
-pub mod PathRows
 pub mod PathTrail
 pub mod UncrossLinks
 pub mod UncrossSteps

@@ -1,15 +1,30 @@
--- What is read off the arrays of a job by an equal number is the call's. Assumes nothing.
-use Prim.Native.Nat.{ℕ, _<_}
+-- What is read off the arrays of a job's calls by a call's number is the call's: the arrays are long enough, since they list as many calls as the job has. Assumes nothing.
+use Prim.Native.Nat.{ℕ, _≤_, _<_}
 use mathlib.Core.Path.{_≡_, sym, ap, _∙_}
-use lib.ListN.{getD}
-use Rattle.model.specs.Job.{callOf}
-use Rattle.job.specs.declared.state.Job.{Job}
-use Rattle.job.specs.Arrays.{jobOf}
-use Rattle.job.proofs.Arrays.{Whole, call-at}
+use mathlib.Core.List.{List, [], _∷_}
+use native.Mathlib.Omega.{arith}
+use lib.ListN.{length, getD, take, length-take}
+use Rattle.model.specs.Job.{Job, Call, call, callOf}
+use Rattle.job.specs.Arrays.{pairs}
+use Rattle.job.proofs.Pairs.{pairs-at}
 
-module _ (s : Job) (w : Whole s) where
-  pub lift-read : (k q c : ℕ) → k < s .calls → q ≡ k → c ≡ getD (s .lifts) q 0 → c ≡ callOf (jobOf s) k .cell
-  lift-read k q c h e f = f ∙ ap (λ x. getD (s .lifts) x 0) e ∙ sym (ap (λ x. x .cell) (call-at s w k h))
+no-more : (xs ys : List ℕ) → (length (pairs call xs ys) ≤ length xs) × (length (pairs call xs ys) ≤ length ys)
+no-more [] ys = (omega arith, omega arith)
+no-more (x ∷ xs) [] = (omega arith, omega arith)
+no-more (x ∷ xs) (y ∷ ys) = let h = no-more xs ys in (omega arith, omega arith)
 
-  pub deadline-read : (k q t : ℕ) → k < s .calls → q ≡ k → t ≡ getD (s .deadlines) q 0 → t ≡ callOf (jobOf s) k .deadline
-  deadline-read k q t h e f = f ∙ ap (λ x. getD (s .deadlines) x 0) e ∙ sym (ap (λ x. x .deadline) (call-at s w k h))
+module _ (j : Job) (lifts deadlines : List ℕ) (calls : ℕ) (counted : length (j .calls) ≡ calls)
+    (listed : j .calls ≡ pairs call (take calls lifts) (take calls deadlines)) where
+  call-is : (k : ℕ) → k < calls → callOf j k ≡ call (getD lifts k 0) (getD deadlines k 0)
+  call-is k l =
+      let s = no-more (take calls lifts) (take calls deadlines) in
+      let n : calls ≡ length (pairs call (take calls lifts) (take calls deadlines)) = sym counted ∙ ap length listed in
+      let h : calls ≤ length lifts = omega (arith, s .0, length-take calls lifts) in
+      let g : calls ≤ length deadlines = omega (arith, s .1, length-take calls deadlines) in
+      ap (λ (qs : List Call). getD qs k (call 0 0)) listed ∙ pairs-at call lifts deadlines calls h g k (call 0 0) l
+
+  pub lift-read : (k q c : ℕ) → k < calls → q ≡ k → c ≡ getD lifts q 0 → c ≡ callOf j k .cell
+  lift-read k q c l e f = f ∙ ap (λ x. getD lifts x 0) e ∙ sym (ap (λ x. x .cell) (call-is k l))
+
+  pub deadline-read : (k q t : ℕ) → k < calls → q ≡ k → t ≡ getD deadlines q 0 → t ≡ callOf j k .deadline
+  deadline-read k q t l e f = f ∙ ap (λ x. getD deadlines x 0) e ∙ sym (ap (λ x. x .deadline) (call-is k l))

@@ -8,6 +8,7 @@ use mathlib.Core.Logic.{_⊎_, inl, inr, ⊎-elim, _↔_}
 use native.Mathlib.Decide.{ℕ-discrete}
 use native.Mathlib.Nat.{mul-le-mul-right}
 use native.Mathlib.Omega.{arith}
+use lib.Dec.{eqb}
 use lib.ListN.{length, getD, set, length-set}
 use Rattle.model.specs.Job.{Job, horizon}
 use Rattle.model.specs.Choke.{Point, point, Known}
@@ -18,12 +19,13 @@ use Rattle.flow.proofs.Update.{Upd2, first, second, neither, look2}
 use Rattle.network.specs.Graph.{isLift}
 use Rattle.network.specs.Store.{nodes, idx, at, isUsed, Spacious}
 use Rattle.network.specs.Links.{FlowIn, backLink, onLink}
-use Rattle.answer.specs.Uncrossed.{Uncrossed}
+use Rattle.answer.specs.Uncrossed.{Flowing, Passed, SoFar, Uncrossed}
 use Rattle.answer.specs.Straight.{Later, TradeAt, Straightened}
 use Rattle.network.proofs.Points.{dec-point, point-cell}
 use Rattle.network.proofs.Calm.{Trades, straight, straight-on, straightened, straight-starts, calm-step, calm-all}
 use Rattle.network.proofs.Planes.{at-same, at-other, idx-below, idx-one}
-use Rattle.answer.proofs.UncrossLinks.{used, used-byte, used-same, back-to, back-of, on-to, on-of, back-same, on-same}
+use Rattle.network.proofs.NodeBytes.{used, used-byte, used-same}
+use Rattle.answer.proofs.UncrossLinks.{back-to, back-of, on-to, on-of, back-same, on-same}
 
 zero-plane : (k v : ℕ) (s : List ℕ) → at k s 0 v ≡ getD s v 0
 zero-plane k v s = let e : 0 * k + v ≡ v = omega arith in ap (λ i. getD s i 0) e
@@ -89,7 +91,7 @@ module _ (j : Job) (s : List ℕ) (a b t : ℕ) (room : Spacious j s) (ka : Know
       ∙ past-back 2 v h (λ e. omega arith)
 
   use-same : (v : Point) → isUsed j written v ≡ isUsed j s v
-  use-same v = used-same j s written v (use-kept v)
+  use-same v = used-same j s written v (λ k. ap (λ n. eqb n 0) (use-kept v k))
 
   -- The links are those of the two that stand.
   module _ (ok : FlowIn j s) (tr : Trades (backLink j s) a b t) where
@@ -126,16 +128,6 @@ module _ (j : Job) (s : List ℕ) (a b t : ℕ) (room : Spacious j s) (ka : Know
 
     serves-led : (v : Point) → (onLink j written v ≡ end) ↔ (onLink j s v ≡ end)
     serves-led v = let st = straight-starts ok tr v in (λ e. st .0 (sym (on-led v) ∙ e), λ e. on-led v ∙ st .1 e)
-
--- The nodes that were looked at before (b, t).
-abbrev pub Passed : ℕ → ℕ → ℕ → ℕ → Type 0
-Passed t b u r = (suc r < t) ⊎ ((suc r ≡ t) × (u < b))
-
-pub record SoFar (j : Job) (s₀ s : List ℕ) (t b : ℕ) : Type 0 where
-  pub long : length s ≡ length s₀
-  pub flow : FlowIn j s
-  pub serves : (v : Point) → (onLink j s v ≡ end) ↔ (onLink j s₀ v ≡ end)
-  pub free : (u w r : ℕ) → Passed t b u r → Trades (backLink j s) u w r → u ≡ w
 
 module _ (j : Job) (s₀ s : List ℕ) (b : ℕ) where
   -- Bytes that say a trade are links that do, and the other way round.
@@ -210,16 +202,7 @@ module _ (j : Job) (s₀ s : List ℕ) (b : ℕ) where
   more zero s′ so h lt hb room st = absurd (omega arith)
   more (suc t) s′ so h lt hb room st = step t s′ so lt hb room st
 
--- A job that the loop's numbers and the store where it begins are of.
-pub record Begun (j : Job) (n k last : ℕ) (s : List ℕ) : Type 0 where
-  pub width : n ≡ j .cells
-  pub size : k ≡ nodes j
-  pub steps : last ≡ horizon j
-  pub few : n ≤ 256
-  pub room : Spacious j s
-  pub flow : FlowIn j s
-
-pub so-far-none : {j : Job} {n k last : ℕ} {s : List ℕ} → Begun j n k last s → SoFar j s s 1 0
+pub so-far-none : {j : Job} {n k last : ℕ} {s : List ℕ} → Flowing j n k last s → SoFar j s s 1 0
 so-far-none g = record {
   long = refl;
   flow = g .flow;
@@ -227,12 +210,12 @@ so-far-none g = record {
   free = λ u w r p tr. absurd (⊎-elim (λ h. omega arith) (λ h. omega arith) p);
 }
 
-module _ {j : Job} {n k last : ℕ} {s₀ : List ℕ} (g : Begun j n k last s₀) {s : List ℕ} {t b : ℕ} (so : SoFar j s₀ s t b) where
+module _ {j : Job} {n k last : ℕ} {s₀ : List ℕ} (g : Flowing j n k last s₀) {s : List ℕ} {t b : ℕ} (so : SoFar j s₀ s t b) where
   pub so-far-all : last < t → Uncrossed j s₀ s
   so-far-all h = record {
     long = so .long;
     flow = so .flow;
-    calm = calm-all (so .flow) (λ u w r hu hr tr. so .free u w r (inl (omega (arith, g .steps))) tr);
+    calm = calm-all (so .flow) (λ u w r hu hr tr. so .free u w r (inl (omega (arith, g .ends))) tr);
     serves = so .serves;
   }
 
@@ -252,7 +235,7 @@ module _ {j : Job} {n k last : ℕ} {s₀ : List ℕ} (g : Begun j n k last s₀
     came : (t : ℕ) → 0 < t → t ≤ last → (getD s (t * n + b) 0 ≡ 0 → ⊥) → getD s (3 * k + (t * n + b)) 0 < n
     came zero h lt u = absurd (omega arith)
     came (suc t) h lt u =
-        let kb : Known j (point b (suc t)) = (omega (arith, g .width), omega (arith, g .steps)) in
+        let kb : Known j (point b (suc t)) = (omega (arith, g .width), omega (arith, g .ends)) in
         let v = used j s (point b (suc t)) kb (λ z. u (rw (g .width) (sym (zero-plane (nodes j) (suc t * j .cells + b) s) ∙ z))) in
         rw (g .width, g .size) (so .flow .edge _ _ (back-to j s (point b (suc t)) _ t v refl refl) .known-before)
 
@@ -260,13 +243,13 @@ module _ {j : Job} {n k last : ℕ} {s₀ : List ℕ} (g : Begun j n k last s₀
     so-far-later = record {
       later = later;
       known = known;
-      small = g .few;
-      fits = rw (g .size, g .width) (omega (arith, mul-le-mul-right (j .cells) in-time, ap (λ z. z * j .cells) (g .steps)));
+      small = omega (arith, g .width, g .ready .fit .few-cells);
+      fits = rw (g .size, g .width) (omega (arith, mul-le-mul-right (j .cells) in-time, ap (λ z. z * j .cells) (g .ends)));
       room = rw (g .size) (omega (arith, g .room, so .long));
       came = came t later in-time;
     }
 
     pub so-far-more : {s′ : List ℕ} → Straightened n k s t b s′ → SoFar j s₀ s′ t (b + 1)
     so-far-more {s′} st =
-        more j s₀ s b t s′ so later (omega (arith, g .steps)) (omega (arith, g .width)) (omega (arith, g .room, so .long))
+        more j s₀ s b t s′ so later (omega (arith, g .ends)) (omega (arith, g .width)) (omega (arith, g .room, so .long))
         (subst (λ m. Straightened m (nodes j) s t b s′) (g .width) (subst (λ m. Straightened n m s t b s′) (g .size) st))

@@ -4,12 +4,13 @@ use mathlib.Core.Path.{_≡_}
 use mathlib.Core.List.{List}
 use mathlib.Core.Logic.{_⊎_}
 use lib.ListN.{length, getD, set}
+use Rattle.model.specs.Limits.{maxCells}
 
 -- The node is one of the job's, after step 0, and has come from a cell if it is used.
 pub record Later (n k : ℕ) (s : List ℕ) (t b : ℕ) : Type 0 where
   pub later : 0 < t
   pub known : b < n
-  pub small : n ≤ 256
+  pub small : n ≤ maxCells
   pub fits : t * n + n ≤ k
   pub room : 8 * k ≤ length s
   pub came : (getD s (t * n + b) 0 ≡ 0 → ⊥) → getD s (3 * k + (t * n + b)) 0 < n

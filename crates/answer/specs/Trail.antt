@@ -2,6 +2,7 @@
 use Prim.Native.Nat.{ℕ, zero, suc, _+_, _*_, _<_, _≤_}
 use mathlib.Core.List.{List, [], _∷_, _++_}
 use lib.ListN.{length, getD}
+use Rattle.model.specs.Limits.{maxCells}
 
 -- where the cart on c at step t came from
 abbrev pub cameFrom : ℕ → ℕ → List ℕ → ℕ → ℕ → ℕ
@@ -20,7 +21,7 @@ Inside k n s c (suc t) = (c < n) × Inside k n s (cameFrom k n s c (suc t)) t
 -- The trail can be read, and the row has room for it.
 pub record Trailed (k n : ℕ) (s row : List ℕ) (c t : ℕ) : Type 0 where
   pub inside : Inside k n s c t
-  pub small : n ≤ 256
+  pub small : n ≤ maxCells
   pub fits : t * n + n ≤ k
   pub room : 4 * k ≤ length s
   pub long : t < length row

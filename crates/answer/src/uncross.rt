@@ -1,20 +1,12 @@
 // Two carts that would trade places both stand instead, and each takes over the other's way from there on.
-use job::state::Job;
+use model::bytes::wide;
 ghost use mathlib.Core.Path.{_≡_};
-ghost use Prim.Native.Nat.{_<_};
-ghost use Rattle.model.specs.Job.{horizon};
-ghost use Rattle.model.specs.Ready.{Ready};
-ghost use Rattle.job.specs.Arrays.{jobOf, Sized};
-ghost use Rattle.network.specs.Store.{nodes, Spacious};
-ghost use Rattle.network.specs.Links.{FlowIn};
-ghost use Rattle.answer.specs.Uncrossed.{Uncrossed};
+ghost use mathlib.Core.List.{List};
+ghost use Prim.Native.Nat.{ℕ, _+_, _<_, _≤_};
+ghost use lib.ListN.{length};
+ghost use Rattle.model.specs.Job as model;
+ghost use Rattle.answer.specs.Uncrossed.{Flowing, SoFar, Calmed, Uncrossed};
 ghost use Rattle.answer.specs.Straight.{Later, Straightened};
-
-fn wide(x: u8) -> usize
-    ensures { λ r. ⌜ (r ≡ x) × (r < 256) ⌝ }
-{
-    x as usize
-}
 
 // The node (b, t), t > 0: where its cart came from a and the one on a came from b, both stood.
 fn straighten(store: &mut [u8], n: usize, k: usize, t: usize, b: usize)
@@ -42,19 +34,26 @@ fn straighten(store: &mut [u8], n: usize, k: usize, t: usize, b: usize)
     store[2 * k + w - n] = a as u8;
 }
 
-pub fn uncross(job: Job, store: &mut [u8], k: usize, last: usize)
-    requires { ⌜ Ready (jobOf job) × Sized job × (k ≡ nodes (jobOf job)) × (last ≡ horizon (jobOf job)) × Spacious (jobOf job) (now store) × FlowIn (jobOf job) (now store) ⌝ }
-    ensures { λ _. ⌜ Uncrossed (jobOf job) (now (store .entry)) (now (store .exit)) ⌝ }
+// The nodes of step t, cell by cell. The job has n cells and k nodes.
+fn straighten_step(store: &mut [u8], n: usize, k: usize, t: usize)
+    requires { ⌜ ((j : model.Job) × (last : ℕ) × (s : List ℕ) × Calmed j n k last s (now store) t × (0 < t) × (t ≤ last)) ⌝ }
+    ensures { λ _. ⌜ (length (now (store .exit)) ≡ length (now (store .entry))) × ((j : model.Job) (last : ℕ) (s : List ℕ) → Calmed j n k last s (now (store .entry)) t → 0 < t → t ≤ last → SoFar j s (now (store .exit)) (t + 1) 0) ⌝ }
 {
-    let n = job.cells;
-    let mut t = 1;
     let mut b = 0;
-    while t <= last {
+    while b < n {
         straighten(store, n, k, t, b);
         b += 1;
-        if b == n {
-            b = 0;
-            t += 1;
-        }
+    }
+}
+
+// All nodes after step 0, step by step.
+pub fn uncross(store: &mut [u8], n: usize, k: usize, last: usize)
+    requires { ⌜ ((j : model.Job) × Flowing j n k last (now store)) ⌝ }
+    ensures { λ _. ⌜ ((j : model.Job) → Flowing j n k last (now (store .entry)) → Uncrossed j (now (store .entry)) (now (store .exit))) ⌝ }
+{
+    let mut t = 1;
+    while t <= last {
+        straighten_step(store, n, k, t);
+        t += 1;
     }
 }

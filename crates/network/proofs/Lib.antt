@@ -8,4 +8,6 @@ pub mod Calm
 pub mod Planes
 pub mod TableLaws
 pub mod OrderLaws
+pub mod JobTables
 pub mod AimLaws
+pub mod NodeBytes

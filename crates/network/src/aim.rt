@@ -1,20 +1,12 @@
 // A guess that only saves time: over the floor alone, along a shortest way from a call's cell to a free cart, where to look first.
-use job::state::Job;
 use model::Limits;
+use model::bytes::wide;
 ghost use mathlib.Core.Path.{_≡_};
 ghost use Prim.Native.Nat.{ℕ, _+_, _*_, _<_, _≤_};
 ghost use lib.ListN.{length, getD};
-ghost use Rattle.model.specs.Ready.{Ready};
-ghost use Rattle.job.specs.Arrays.{jobOf, Sized};
-ghost use Rattle.network.specs.Store.{Spacious};
-ghost use Rattle.network.specs.Tables.{Near, CartOn};
+ghost use Rattle.model.specs.Limits.{maxCells};
+ghost use Rattle.network.specs.Rows.{Readable};
 ghost use Rattle.network.specs.Queue.{Queue};
-
-fn wide(x: u8) -> usize
-    ensures { λ r. ⌜ (r ≡ x) × (r < 256) ⌝ }
-{
-    x as usize
-}
 
 // Puts the cells of row c that were not seen at the end of the queue, with the way back to c. Answers where the queue ends then. It never has more entries than
 // there are cells: the test of the tail only says so to the proof.
@@ -29,13 +21,13 @@ fn expand(
     place: &mut [u8; Limits::CELLS],
     end: usize,
 ) -> usize
-    requires { ⌜ (c < 256) × (length (now near) ≡ 65536) × (length (now degree) ≡ 256) × (getD (now degree) c 0 ≤ 256) × ((i : ℕ) → i < getD (now degree) c 0 → getD (now near) (c * 256 + i) 0 < cells) × Queue cells (now queue) end ⌝ }
+    requires { ⌜ (c < maxCells) × (length (now near) ≡ maxCells * maxCells) × (length (now degree) ≡ maxCells) × (getD (now degree) c 0 ≤ maxCells) × ((i : ℕ) → i < getD (now degree) c 0 → getD (now near) (c * maxCells + i) 0 < cells) × Queue cells (now queue) end ⌝ }
     ensures { λ r. ⌜ Queue cells (now (queue .exit)) r ⌝ }
 {
     let mut tail = end;
     let n = degree[c] as usize;
     for i in 0..n {
-        let b = near[c * 256 + i];
+        let b = near[c * Limits::CELLS + i];
         let x = wide(b);
         if seen[x] == 0 && tail < cells {
             seen[x] = 1;
@@ -57,8 +49,8 @@ fn lay<'a>(
     c: usize,
     cell: usize,
 )
-    requires { ⌜ (length (now hint) ≡ 256) × (c < 256) ⌝ }
-    ensures { λ _. ⌜ length (now (hint .exit)) ≡ 256 ⌝ }
+    requires { ⌜ (length (now hint) ≡ maxCells) × (c < maxCells) ⌝ }
+    ensures { λ _. ⌜ length (now (hint .exit)) ≡ maxCells ⌝ }
 {
     let mut x = c;
     for _ in 0..cells {
@@ -73,7 +65,7 @@ fn lay<'a>(
 
 // hint[c] is the place in row c of the cell to come from. Nothing rests on what it is.
 pub fn aim(
-    job: Job,
+    cells: usize,
     near: &[u8],
     degree: &[u16],
     cart_on: &[u8],
@@ -81,8 +73,8 @@ pub fn aim(
     cell: usize,
     hint: &mut [u8],
 )
-    requires { ⌜ Ready (jobOf job) × Sized job × Near (jobOf job) (now near) (now degree) × CartOn (jobOf job) (now «cart_on») × Spacious (jobOf job) (now store) × (cell < job .cells) × (length (now hint) ≡ 256) ⌝ }
-    ensures { λ _. ⌜ length (now (hint .exit)) ≡ 256 ⌝ }
+    requires { ⌜ (cells ≤ maxCells) × Readable cells (now near) (now degree) × (length (now «cart_on») ≡ maxCells) × (cells ≤ length (now store)) × (cell < cells) × (length (now hint) ≡ maxCells) ⌝ }
+    ensures { λ _. ⌜ length (now (hint .exit)) ≡ maxCells ⌝ }
 {
     let mut queue = [0u8; Limits::CELLS];
     let mut seen = [0u8; Limits::CELLS];
@@ -96,13 +88,13 @@ pub fn aim(
         let c = wide(queue[head]);
         if cart_on[c] != 0 && store[c] == 0 {
             hint[c] = 0;
-            lay(hint, &to, &place, job.cells, c, cell);
+            lay(hint, &to, &place, cells, c, cell);
             return;
         }
         tail = expand(
             near,
             degree,
-            job.cells,
+            cells,
             c,
             &mut queue,
             &mut seen,

@@ -1,1 +1,2 @@
 pub mod SolveLaws
+pub mod SolveParts

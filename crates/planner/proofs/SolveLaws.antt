@@ -7,42 +7,35 @@ use mathlib.Core.Bool.{Bool, true, false, cond}
 use mathlib.Core.Logic.{_⊎_, inl, inr, _↔_}
 use native.Mathlib.Nat.{mul-le-mul-left, mul-le-mul-right, suc-mul}
 use native.Mathlib.Omega.{arith}
+use lib.Dec.{eqb}
 use lib.ListN.{length, getD, drop, replicate, length-append, length-drop, length-replicate, getD-replicate, List·getD-append}
+use Rattle.model.specs.Limits.{maxCells}
 use Rattle.model.specs.Lists.{In}
 use Rattle.model.specs.Job.{Job, Call, call, callOf, horizon, storeLeast}
 use Rattle.model.specs.Choke.{Point, point, Known}
 use Rattle.model.specs.Ready.{Ready}
 use Rattle.model.proofs.Basics.{nope}
 use Rattle.model.proofs.Decide.{dec-lt, dec-eq}
-use Rattle.model.proofs.Lists.{remove, remove-length, remove-keeps, pigeon, in-getD, place-of}
-use Rattle.model.proofs.Listed.{below, in-below}
-use Rattle.job.specs.Arrays.{jobOf}
-use Rattle.job.specs.declared.state.Job as arrays
-use Rattle.job.proofs.Arrays.{Whole, calls-count, call-at}
+use Rattle.model.proofs.Lists.{remove, remove-length, remove-keeps, pigeon, in-getD, place-of, in-place}
+use Rattle.model.proofs.Listed.{below, in-below, length-below}
 use Rattle.flow.specs.Flow.{Link, off, end}
 use Rattle.flow.proofs.Flow.{empty-flow, flow-same}
 use Rattle.network.specs.Graph.{isLift}
-use Rattle.network.specs.Store.{nodes, idx, at, isUsed, isMarked, Spacious}
+use Rattle.network.specs.Store.{nodes, idx, at, isUsed, Spacious}
 use Rattle.network.specs.Links.{FlowIn, backLink, onLink}
 use Rattle.network.specs.Order.{Order}
-use Rattle.network.specs.Stuck.{Stuck}
 use Rattle.network.proofs.ChokeLifts.{nodeOf, in-lift, by-horizon}
 use Rattle.network.proofs.Points.{point-cell, point-eq}
-use Rattle.answer.specs.Uncrossed.{Uncrossed}
+use Rattle.answer.proofs.PathArrays.{lift-read, deadline-read}
 use Rattle.answer.proofs.PathList.{calls-once}
-use Rattle.answer.proofs.UncrossLinks.{used-byte, used-known}
+use Rattle.network.proofs.NodeBytes.{link-off, link-end, used-byte, used-known}
 use Rattle.route.specs.declared.serve.Served.{Served}
 use Rattle.route.specs.declared.serve.Served.the-variants.{Yes, No}
 use Rattle.route.specs.Search.{Fresh}
-use Rattle.route.specs.Serve.{MarksUpTo, ServedBy}
-use Rattle.planner.specs.Solved.{ServedAll}
+use Rattle.route.specs.Serve.{MarksUpTo, Serving, ServedBy}
+use borrow.Author.Tests.{eqb-true}
+use Rattle.planner.specs.Solved.{Begun, ServedAll}
 use Rattle.network.proofs.Planes.{idx-below}
-
-link-off : (b : Bool) (y : Link Point) → b ≡ false → cond b y off ≡ off
-link-off b y e = rw e
-
-link-end : (b c : Bool) (y : Link Point) → b ≡ true → c ≡ true → cond b (cond c end y) off ≡ end
-link-end b c y e f = rw (e, f)
 
 -- The node of the i-th call in the order.
 abbrev pub nodeAt : Job → List ℕ → ℕ → Point
@@ -53,7 +46,7 @@ abbrev pub Among : Job → List ℕ → ℕ → Point → Type 0
 Among j order i v = (m : ℕ) × (m < i) × (v ≡ nodeAt j order m)
 
 -- The flow serves the first i calls of the order and no other.
-pub record Serving (j : Job) (order s : List ℕ) (i stamp : ℕ) : Type 0 where
+pub record SoFar (j : Job) (order s : List ℕ) (i stamp : ℕ) : Type 0 where
   pub flow : FlowIn j s
   pub low : 0 < stamp
   pub high : stamp ≤ i + 1
@@ -76,8 +69,8 @@ module _ (j : Job) (order s : List ℕ) (blank : (v : ℕ) → v < nodes j → (
   not-end : (l : Link Point) → l ≡ off → l ≡ end → ⊥
   not-end l e f = nope (cc)
 
-  pub serving-none : Serving j order s 0 1
-  serving-none = record {
+  pub so-far-none : SoFar j order s 0 1
+  so-far-none = record {
     flow = flow-same (λ x. link-off (isUsed j s x) _ (unused x)) no-line empty-flow;
     low = omega arith;
     high = omega arith;
@@ -107,7 +100,7 @@ module _ {j : Job} {order : List ℕ} (r : Ready j) (o : Order j order) (i : ℕ
       let f : getD order m 0 ≡ q = place-of (λ (c : Call). c .cell) (j .calls) (r .fit .own-lifts) (getD order m 0) q (call 0 0) (o .known m l′) (o .known i more) (sym (point-cell e)) in
       calls-once j order o m i l more f
 
-  next-free : {s : List ℕ} {stamp : ℕ} → Serving j order s i stamp → backLink j s (nodeAt j order i) ≡ off
+  next-free : {s : List ℕ} {stamp : ℕ} → SoFar j order s i stamp → backLink j s (nodeAt j order i) ≡ off
   next-free {s} v = go (isUsed j s (nodeAt j order i)) refl
     where
       go : (b : Bool) → isUsed j s (nodeAt j order i) ≡ b → backLink j s (nodeAt j order i) ≡ off
@@ -115,12 +108,12 @@ module _ {j : Job} {order : List ℕ} (r : Ready j) (o : Order j order) (i : ℕ
       go true e = absurd (later (v .served (nodeAt j order i) .0 (link-end (isUsed j s (nodeAt j order i)) (isLift j (nodeAt j order i)) _ e next-lift)))
 
   -- The code has its cell and step in locals.
-  module _ {s : List ℕ} {stamp : ℕ} (v : Serving j order s i stamp) (x : Point) (here : x ≡ nodeAt j order i) where
+  module _ {s : List ℕ} {stamp : ℕ} (v : SoFar j order s i stamp) (x : Point) (here : x ≡ nodeAt j order i) where
     pub next : Known j x × (isLift j x ≡ true) × (backLink j s x ≡ off)
     next = rw here (next-known, next-lift, next-free v)
 
-    pub serving-more : {s′ : List ℕ} {n : ℕ} → FlowIn j s′ → ServedBy j s s′ stamp x (Yes n) → Serving j order s′ (i + 1) n
-    serving-more {s′} {n} f (hi, lo, marks, serves) = record {
+    pub so-far-more : {s′ : List ℕ} {n : ℕ} → FlowIn j s′ → ServedBy j s s′ stamp x (Yes n) → SoFar j order s′ (i + 1) n
+    so-far-more {s′} {n} f (hi, lo, marks, serves) = record {
       flow = f;
       low = omega (arith, v .low);
       high = omega (arith, v .high);
@@ -140,36 +133,52 @@ module _ {j : Job} {order : List ℕ} (r : Ready j) (o : Order j order) (i : ℕ
             go (yes h) = inl (v .served w .1 (m, h, e))
             go (no h) = let z : m ≡ i = omega arith in inr (e ∙ ap (nodeAt j order) z ∙ sym here)
 
--- The same, where the call is read from the job's arrays.
-module _ (a : arrays.Job) (w : Whole a) {order s : List ℕ} (r : Ready (jobOf a)) (o : Order (jobOf a) order) {i stamp : ℕ} (v : Serving (jobOf a) order s i stamp) (more : i < a .calls) where
-  more-calls : i < length (jobOf a .calls)
-  more-calls = omega (arith, calls-count a w)
+-- The same, where the call is read from the arrays.
+module _ {j : Job} {lifts deadlines : List ℕ} {calls : ℕ} {near degree due cartOn order s₀ : List ℕ} {n k : ℕ} (g : Begun j lifts deadlines calls near degree due cartOn order s₀ n k)
+    {s : List ℕ} {i stamp : ℕ} (v : SoFar j order s i stamp) (more : i < calls) where
+  more-calls : i < length (j .calls)
+  more-calls = omega (arith, g .counted)
 
-  pub call-known : getD order i 0 < a .calls
-  call-known = omega (arith, o .known i more-calls, calls-count a w)
+  pub call-known : getD order i 0 < calls
+  call-known = omega (arith, g .ordered .known i more-calls, g .counted)
 
-  module _ (q c t : ℕ) (e : q ≡ getD order i 0) (f : c ≡ getD (a .lifts) q 0) (g : t ≡ getD (a .deadlines) q 0) where
-    here : point c t ≡ nodeAt (jobOf a) order i
+  module _ (q c t : ℕ) (number : q ≡ getD order i 0) (lift : c ≡ getD lifts q 0) (deadline : t ≡ getD deadlines q 0) where
+    here : point c t ≡ nodeAt j order i
     here =
-        point-eq (f ∙ ap (λ x. getD (a .lifts) x 0) e ∙ sym (ap (λ (x : Call). x .cell) (call-at a w (getD order i 0) call-known)))
-        (g ∙ ap (λ x. getD (a .deadlines) x 0) e ∙ sym (ap (λ (x : Call). x .deadline) (call-at a w (getD order i 0) call-known)))
+        point-eq (lift-read j lifts deadlines calls (g .counted) (g .listed) (getD order i 0) q c call-known number lift)
+        (deadline-read j lifts deadlines calls (g .counted) (g .listed) (getD order i 0) q t call-known number deadline)
 
-    pub call-next : Known (jobOf a) (point c t) × (isLift (jobOf a) (point c t) ≡ true) × (backLink (jobOf a) s (point c t) ≡ off)
-    call-next = next r o i more-calls v (point c t) here
+    call-next : Known j (point c t) × (isLift j (point c t) ≡ true) × (backLink j s (point c t) ≡ off)
+    call-next = next (g .ready) (g .ordered) i more-calls v (point c t) here
 
-    pub call-served : {s′ : List ℕ} {n : ℕ} (answer : Served) → answer ≡ Yes n → FlowIn (jobOf a) s′ → ServedBy (jobOf a) s s′ stamp (point c t) answer
-        → Serving (jobOf a) order s′ (i + 1) n
-    call-served answer h flow b = serving-more r o i more-calls v (point c t) here flow (rw h at b)
+    pub call-cell : c < n
+    call-cell = omega (arith, call-next .0 .0, g .width)
 
--- A member of a list has its place there.
-place : {A : Type 0} (a : A) (l : List A) (d : A) → In a l → (k : ℕ) × (k < length l) × (a ≡ getD l k d)
-place a [] d m = absurd m
-place a (b ∷ l) d (inl e) = (0, omega arith, e)
-place a (b ∷ l) d (inr m) = let (k, h, e) = place a l d m in (suc k, omega arith, e)
+    -- Its search may start.
+    pub call-serving : length s ≡ length s₀ → (hint : List ℕ) → length hint ≡ maxCells → Serving j near degree due cartOn hint s n k c t stamp (eqb i 0)
+    call-serving same hint h = record {
+      search = record {
+        ready = g .ready;
+        cells = g .width;
+        size = g .size;
+        rows = g .rows;
+        dues = g .dues;
+        carts = g .carts;
+        hints = h;
+        room = omega (arith, g .room);
+        ok = v .flow;
+        known = call-next .0;
+        lift = call-next .1;
+        idle = call-next .2;
+        some = v .low;
+      };
+      small = omega (arith, v .high, g .counted, g .ready .fit .few-calls);
+      marks = v .marks;
+      clean = λ e. v .fresh (eqb-true i 0 e);
+    }
 
-length-below : (n : ℕ) → length (below n) ≡ n
-length-below zero = refl
-length-below (suc n) = ap suc (length-below n)
+    pub call-served : {s′ : List ℕ} {m : ℕ} (answer : Served) → answer ≡ Yes m → FlowIn j s′ → ServedBy j s s′ stamp (point c t) answer → SoFar j order s′ (i + 1) m
+    call-served answer h flow b = so-far-more (g .ready) (g .ordered) i more-calls v (point c t) here flow (rw h at b)
 
 -- A number is one of the first n of a list, or none of them.
 look : (l : List ℕ) (k n : ℕ) → ((m : ℕ) × (m < n) × (getD l m 0 ≡ k)) ⊎ ((m : ℕ) → m < n → getD l m 0 ≡ k → ⊥)
@@ -219,24 +228,15 @@ module _ {j : Job} {order : List ℕ} (o : Order j order) where
           fits : n ≤ length (remove k (below n) p)
           fits = pigeon (λ i y. getD order i 0 ≡ y) n (remove k (below n) p) (λ i l. (getD order i 0, kept i l, refl)) own
 
-  pub all-served : {s : List ℕ} {stamp : ℕ} (i : ℕ) → i ≡ length (j .calls) → Serving j order s i stamp → ServedAll j s (Yes stamp)
+  pub all-served : {s : List ℕ} {stamp : ℕ} (i : ℕ) → i ≡ length (j .calls) → SoFar j order s i stamp → ServedAll j s (Yes stamp)
   all-served i e v c h =
-      let (k, l, f) = place c (j .calls) (call 0 0) h in
+      let (k, l, f) = in-place c (j .calls) (call 0 0) h in
       let (m, b, g) = each-once k l in
       v .served (nodeOf c) .1 (m, omega arith, ap nodeOf (f ∙ ap (callOf j) (sym g)))
 
 -- A call that cannot be served ends it.
 pub failed : (j : Job) (s s′ : List ℕ) (stamp : ℕ) {n : ℕ} (x : Point) (answer : Served) → answer ≡ No n → ServedBy j s s′ stamp x answer → ServedAll j s′ answer
 failed j s s′ stamp {n} x answer e b = let r : ServedBy j s s′ stamp x (No n) = rw e at b in rw e (x, r .1)
-
--- What the answer of all says: every call is still served where no two carts trade places, or the marks show why one is not.
-pub all-still : {j : Job} {s s′ : List ℕ} {n : ℕ} → Uncrossed j s s′ → (answer : Served) → answer ≡ Yes n → ServedAll j s answer
-    → (q : Call) → In q (j .calls) → onLink j s′ (point (q .cell) (q .deadline)) ≡ end
-all-still {j} {s} {s′} {n} u answer e b q h = let r : ServedAll j s (Yes n) = rw e at b in u .serves (nodeOf q) .1 (r q h)
-
-pub stuck : (j : Job) (s : List ℕ) {n : ℕ} (answer : Served) → answer ≡ No n → ServedAll j s answer
-    → (x : Point) × Stuck j (backLink j s) (onLink j s) (isMarked j s n) x
-stuck j s answer e b = rw e at b
 
 -- The store has room for eight planes, before the first two are cleared and after.
 module _ (j : Job) (last : ℕ) (h : last ≡ horizon j) where

@@ -1,21 +1,19 @@
 -- Once all hops of the stack are laid, the links that the store holds are those of the flow with the way added: at the nodes that the way leaves or goes by
 -- they are read off the bytes written there, and at every other node off bytes that say the same as before. Assumes nothing.
 use Prim.Native.Nat.{ℕ, zero, suc, _+_, _-_, _*_, _<_, _≤_}
-use mathlib.Core.Path.{_≡_, refl, sym, _∙_, ap}
+use mathlib.Core.Path.{_≡_, sym, _∙_, ap}
 use mathlib.Core.List.{List, _∷_}
-use mathlib.Core.Bool.{Bool, true, false, cond, not, _&&_}
+use mathlib.Core.Bool.{true, false, cond}
 use mathlib.Core.Logic.{_⊎_, inl, inr, ⊎-elim, _↔_}
 use native.Mathlib.Omega.{arith}
-use borrow.Author.Tests.{lt-ltb, le-leb, ltb-true, leb-true, eq-eqb, ne-eqb, eqb-false, not-true}
-use lib.Dec.{eqb, ltb, leb}
+use borrow.Author.Tests.{eq-eqb, ne-eqb}
+use lib.Dec.{eqb, ltb}
 use lib.ListN.{length, set, length-set}
 use Rattle.model.specs.Lists.{In}
-use Rattle.model.specs.Job.{Job, horizon}
+use Rattle.model.specs.Job.{Job}
 use Rattle.model.specs.Choke.{Point, point, Known}
-use Rattle.model.specs.ReadSheet.{knownPoint}
-use Rattle.model.proofs.Basics.{nope, and-left, and-right, and-both}
 use Rattle.model.proofs.Decide.{dec-in, dec-eq}
-use Rattle.flow.specs.Flow.{Link, off, end, to}
+use Rattle.flow.specs.Flow.{off, end, to}
 use Rattle.flow.specs.Way.{Way, vias, ats, lastAt, join, nextBy, prevBy}
 use Rattle.flow.proofs.Flow.{flow-same}
 use Rattle.flow.proofs.Hops.{On, on-out, via-on, via-once}
@@ -26,66 +24,18 @@ use Rattle.network.specs.Store.{nodes, idx, at, isUsed}
 use Rattle.network.specs.Links.{FlowIn, backLink, onLink, posAt, hopsTo}
 use Rattle.route.specs.Search.{Augmented}
 use Rattle.route.specs.Lay.{useOf}
+use Rattle.network.proofs.NodeBytes.{link-off, link-end, link-to, link-used, link-same, used, unused, used-byte, used-known, used-same}
 use Rattle.network.proofs.Points.{point-step, point-eq, dec-point}
 use Rattle.network.proofs.Planes.{at-same, at-other, idx-below, idx-one}
 use Rattle.route.proofs.Stack.{viaAt, last-hops, hop-on, Form, frees, leads, via-late, via-in, places-apart, place-once, place-in, hop-arcs, form, known-via}
 use Rattle.route.proofs.Laid.{Laid}
 
--- A link from the test of use, the test of the end, and the node that it leads to.
-link-off : (b : Bool) (y : Link Point) → b ≡ false → cond b y off ≡ off
-link-off b y e = rw e
-
-link-end : (b c : Bool) (x : Point) → b ≡ true → c ≡ true → cond b (cond c end (to x)) off ≡ end
-link-end b c x e f = rw (e, f)
-
-link-to : (b c : Bool) (x : Point) → b ≡ true → c ≡ false → cond b (cond c end (to x)) off ≡ to x
-link-to b c x e f = rw (e, f)
-
-link-used : (b : Bool) (y : Link Point) (x : Point) → cond b y off ≡ to x → b ≡ true
-link-used true y x e = refl
-link-used false y x e = nope (cc)
-
-link-same : (b b′ c : Bool) (x x′ : Point) → b ≡ b′ → (b ≡ true → x ≡ x′) → cond b (cond c end (to x)) off ≡ cond b′ (cond c end (to x′)) off
-link-same true b′ c x x′ e h = rw (sym e, h refl)
-link-same false b′ c x x′ e h = rw (sym e)
-
 join-eq : {a a′ b b′ : Point} → a ≡ a′ → b ≡ b′ → join dec-point a b ≡ join dec-point a′ b′
 join-eq e f = rw (e, f)
-
-and-false : (b : Bool) → (b && false) ≡ false
-and-false true = refl
-and-false false = refl
 
 module _ (j : Job) where
   abbrev byte : List ℕ → Point → ℕ
   byte s v = at (nodes j) s 0 (idx j v)
-
-  known-test : (v : Point) → Known j v → knownPoint j v ≡ true
-  known-test v h = and-both (ltb (v .cell) (j .cells)) (leb (v .step) (horizon j)) (lt-ltb (v .cell) (j .cells) (h .0)) (le-leb (v .step) (horizon j) (h .1))
-
-  test-known : (v : Point) → knownPoint j v ≡ true → Known j v
-  test-known v h =
-      (ltb-true (v .cell) (j .cells) (and-left (ltb (v .cell) (j .cells)) (leb (v .step) (horizon j)) h), leb-true (v .step) (horizon j) (and-right (ltb (v .cell) (j .cells)) (leb (v .step) (horizon j)) h))
-
-  used : (s : List ℕ) (v : Point) → Known j v → (byte s v ≡ 0 → ⊥) → isUsed j s v ≡ true
-  used s v h ne = and-both (knownPoint j v) (not (eqb (byte s v) 0)) (known-test v h) (ap not (ne-eqb (byte s v) 0 ne))
-
-  unused : (s : List ℕ) (v : Point) → byte s v ≡ 0 → isUsed j s v ≡ false
-  unused s v e = ap (λ b. knownPoint j v && not b) (eq-eqb (byte s v) 0 e) ∙ and-false (knownPoint j v)
-
-  used-byte : (s : List ℕ) (v : Point) → isUsed j s v ≡ true → byte s v ≡ 0 → ⊥
-  used-byte s v h = eqb-false (byte s v) 0 (not-true (eqb (byte s v) 0) (and-right (knownPoint j v) (not (eqb (byte s v) 0)) h))
-
-  used-known : (s : List ℕ) (v : Point) → isUsed j s v ≡ true → Known j v
-  used-known s v h = test-known v (and-left (knownPoint j v) (not (eqb (byte s v) 0)) h)
-
-  -- The tests of use agree if they do at a known point.
-  used-same : (s s′ : List ℕ) (v : Point) → (Known j v → eqb (byte s′ v) 0 ≡ eqb (byte s v) 0) → isUsed j s′ v ≡ isUsed j s v
-  used-same s s′ v h = go (knownPoint j v) refl
-    where
-      go : (b : Bool) → knownPoint j v ≡ b → (b && not (eqb (byte s′ v) 0)) ≡ (b && not (eqb (byte s v) 0))
-      go true e = ap not (h (test-known v e))
-      go false e = refl
 
   -- What the store holds once all is laid.
   pub record Final (s s′ : List ℕ) (e : ℕ) : Type 0 where
@@ -154,7 +104,7 @@ module _ (j : Job) where
         go (leads f g) (inl q) = let t : byte s′ (viaAt j s m) ≡ 1 = leads-used m l f in omega (arith, ap (byte s′) q, z)
         go f (inr q) =
             let r = ok .back (posAt j s (suc m)) (viaAt j s m) q in
-            stays (suc m) l h (used-byte s (posAt j s (suc m)) (link-used (isUsed j s (posAt j s (suc m))) _ (viaAt j s m) r)) z
+            stays (suc m) l h (used-byte j s (posAt j s (suc m)) (link-used (isUsed j s (posAt j s (suc m))) _ (viaAt j s m) r)) z
 
     -- A node that is no position is used then as it was before.
     other-used : (v : Point) → (In v (x ∷ ats (hopsTo j s e)) → ⊥) → isUsed j s′ v ≡ isUsed j s v
@@ -166,12 +116,12 @@ module _ (j : Job) where
         both m l q (leads f g) (inl r) = absurd (h (rw (q ∙ sym r) (place-in j s ok e way (suc m) l)))
         both m l q (leads f g) (inr r) =
             let t : byte s′ v ≡ 1 = rw q (leads-used m l f) in
-            let u : byte s v ≡ 0 → ⊥ = rw q (used-byte s (viaAt j s m) (link-used (isUsed j s (viaAt j s m)) _ (posAt j s (suc m)) r)) in
+            let u : byte s v ≡ 0 → ⊥ = rw q (used-byte j s (viaAt j s m) (link-used (isUsed j s (viaAt j s m)) _ (posAt j s (suc m)) r)) in
             ne-eqb (byte s′ v) 0 (λ z. omega arith) ∙ sym (ne-eqb (byte s v) 0 u)
 
         go : Via v → isUsed j s′ v ≡ isUsed j s v
-        go (via m l q) = used-same s s′ v (λ _. both m l q (form j s ok e way m l) (entered m l))
-        go (none f) = used-same s s′ v (λ k. ap (λ b. eqb b 0) (fin .kept v k (λ q. h (inl q)) f))
+        go (via m l q) = used-same j s s′ v (λ _. both m l q (form j s ok e way m l) (entered m l))
+        go (none f) = used-same j s s′ v (λ k. ap (λ b. eqb b 0) (fin .kept v k (λ q. h (inl q)) f))
 
     pub back-laid : (v : Point) → backLink j s′ v ≡ nextBy dec-point x (hopsTo j s e) (backLink j s) v
     back-laid v = go (dec-in dec-point v (x ∷ ats (hopsTo j s e)))
@@ -179,20 +129,20 @@ module _ (j : Job) where
         kept : (In v (x ∷ ats (hopsTo j s e)) → ⊥) → backLink j s′ v ≡ backLink j s v
         kept h =
             link-same (isUsed j s′ v) (isUsed j s v) (eqb (v .step) 0) _ _ (other-used v h)
-            (λ u. ap (λ c. point c (v .step - 1)) (fin .prev-kept v (used-known s′ v u) (λ m l q. h (rw q (place-in j s ok e way m (omega arith))))))
+            (λ u. ap (λ c. point c (v .step - 1)) (fin .prev-kept v (used-known j s′ v u) (λ m l q. h (rw q (place-in j s ok e way m (omega arith))))))
 
         last : v ≡ lastAt x (hopsTo j s e) → backLink j s′ v ≡ nextBy dec-point x (hopsTo j s e) (backLink j s) v
         last q =
             let q′ : v ≡ posAt j s e = q ∙ last-hops j s e in
             let z : v .step ≡ 0 = point-step q ∙ way .goal .0 in
-            let u : isUsed j s′ v ≡ true = used s′ v (rw q′ (known e (omega arith))) (rw q′ (position-used e (omega arith) (λ l. absurd (omega arith)))) in
+            let u : isUsed j s′ v ≡ true = used j s′ v (rw q′ (known e (omega arith))) (rw q′ (position-used e (omega arith) (λ l. absurd (omega arith)))) in
             link-end (isUsed j s′ v) (eqb (v .step) 0) _ u (eq-eqb (v .step) 0 z) ∙ sym (rw q (next-last dec-point (backLink j s) x (hopsTo j s e) (way .once)))
 
         hop : (m : ℕ) → m < e → Form j s m → backLink j s′ (posAt j s m) ≡ join dec-point (posAt j s m) (viaAt j s m)
-        hop m l (frees f g) = link-off _ _ (unused s′ (posAt j s m) (ap (byte s′) (sym g) ∙ frees-used m l f)) ∙ sym (join-same dec-point (posAt j s m) (viaAt j s m) (sym g))
+        hop m l (frees f g) = link-off _ _ (unused j s′ (posAt j s m) (ap (byte s′) (sym g) ∙ frees-used m l f)) ∙ sym (join-same dec-point (posAt j s m) (viaAt j s m) (sym g))
         hop m l (leads f g) =
             let t = g .falls in
-            let u : isUsed j s′ (posAt j s m) ≡ true = used s′ (posAt j s m) (known m (omega arith)) (position-used m (omega arith) (λ _. g)) in
+            let u : isUsed j s′ (posAt j s m) ≡ true = used j s′ (posAt j s m) (known m (omega arith)) (position-used m (omega arith) (λ _. g)) in
             link-to (isUsed j s′ (posAt j s m)) (eqb (posAt j s m .step) 0) _ u (ne-eqb (posAt j s m .step) 0 (λ z. omega arith))
             ∙ ap to (point-eq (fin .prev m l) (omega arith))
             ∙ sym (join-other dec-point (posAt j s m) (viaAt j s m) (λ q. let t′ = point-step q in omega arith))
@@ -213,18 +163,18 @@ module _ (j : Job) where
         kept : (In v (x ∷ vias (hopsTo j s e)) → ⊥) → onLink j s′ v ≡ onLink j s v
         kept h =
             let no : (m : ℕ) → m < e → v ≡ viaAt j s m → ⊥ = λ m l q. h (inr (rw q (via-in j s ok e way m l))) in
-            link-same (isUsed j s′ v) (isUsed j s v) (isLift j v) _ _ (used-same s s′ v (λ k. ap (λ b. eqb b 0) (fin .kept v k (λ q. h (inl q)) no)))
-            (λ u. ap (λ c. point c (v .step + 1)) (fin .next-kept v (used-known s′ v u) no))
+            link-same (isUsed j s′ v) (isUsed j s v) (isLift j v) _ _ (used-same j s s′ v (λ k. ap (λ b. eqb b 0) (fin .kept v k (λ q. h (inl q)) no)))
+            (λ u. ap (λ c. point c (v .step + 1)) (fin .next-kept v (used-known j s′ v u) no))
 
         first : onLink j s′ x ≡ end
-        first = let t = fin .start in link-end (isUsed j s′ x) (isLift j x) _ (used s′ x (known 0 (omega arith)) (λ z. omega arith)) (way .start)
+        first = let t = fin .start in link-end (isUsed j s′ x) (isLift j x) _ (used j s′ x (known 0 (omega arith)) (λ z. omega arith)) (way .start)
 
         hop : (m : ℕ) → m < e → Form j s m → onLink j s′ (viaAt j s m) ≡ join dec-point (viaAt j s m) (posAt j s m)
-        hop m l (frees f g) = link-off _ _ (unused s′ (viaAt j s m) (frees-used m l f)) ∙ sym (join-same dec-point (viaAt j s m) (posAt j s m) g)
+        hop m l (frees f g) = link-off _ _ (unused j s′ (viaAt j s m) (frees-used m l f)) ∙ sym (join-same dec-point (viaAt j s m) (posAt j s m) g)
         hop m l (leads f g) =
             let t = g .falls in
             let b = leads-used m l f in
-            let u : isUsed j s′ (viaAt j s m) ≡ true = used s′ (viaAt j s m) (known-via j s ok e way known m l) (λ z. omega arith) in
+            let u : isUsed j s′ (viaAt j s m) ≡ true = used j s′ (viaAt j s m) (known-via j s ok e way known m l) (λ z. omega arith) in
             link-to (isUsed j s′ (viaAt j s m)) (isLift j (viaAt j s m)) _ u (g .leaves)
             ∙ ap to (point-eq (fin .next m l) (omega arith))
             ∙ sym (join-other dec-point (viaAt j s m) (posAt j s m) (λ q. let t′ = point-step q in omega arith))

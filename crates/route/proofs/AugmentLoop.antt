@@ -1,5 +1,5 @@
 -- The turns of augment's loop: each may lay its hop, as the stack is as it was and every node on it has its place, and has one hop more laid then;
--- after the last the way is in the flow. They are stated with the code's k, which is the number of nodes. Assumes nothing.
+-- after the last the way is in the flow. They are stated with the code's n and k, the numbers of cells and nodes. Assumes nothing.
 use Prim.Native.Nat.{ℕ, suc, _+_, _-_, _*_, _<_, _≤_}
 use mathlib.Core.Path.{_≡_}
 use mathlib.Core.List.{List}
@@ -8,11 +8,9 @@ use borrow.Author.Tests.{ltb-true}
 use lib.ListN.{length, set}
 use Rattle.model.specs.Job.{Job}
 use Rattle.model.specs.Choke.{Known}
-use Rattle.flow.specs.Way.{Way}
-use Rattle.network.specs.Graph.{graph}
-use Rattle.network.specs.Store.{nodes, at, Spacious}
-use Rattle.network.specs.Links.{FlowIn, backLink, onLink, posAt, hopsTo}
-use Rattle.route.specs.Search.{Augmented}
+use Rattle.network.specs.Store.{nodes, at}
+use Rattle.network.specs.Links.{posAt}
+use Rattle.route.specs.Search.{Laying, Augmented}
 use Rattle.route.specs.Lay.{laid, Layable}
 use Rattle.network.proofs.Planes.{idx-below}
 use Rattle.route.proofs.Stack.{Form, frees, leads, form, known-via}
@@ -38,17 +36,7 @@ layable-same n k s s′ i long h l =
       early = rw (t₀, t₁) (l .early);
     }
 
--- What augment is handed: a way on the stack, for the flow that the store holds.
-pub record Handed (j : Job) (s : List ℕ) (k depth : ℕ) : Type 0 where
-  pub size : k ≡ nodes j
-  pub room : Spacious j s
-  pub ok : FlowIn j s
-  pub deep : 0 < depth
-  pub fit : depth ≤ k
-  pub known : (i : ℕ) → i < depth → Known j (posAt j s i)
-  pub way : Way (graph j) (backLink j s) (onLink j s) (posAt j s 0) (hopsTo j s (depth - 1))
-
-module _ {j : Job} {s : List ℕ} {k depth : ℕ} (a : Handed j s k depth) where
+module _ {j : Job} {s : List ℕ} {n k depth : ℕ} (a : Laying j s n k depth) where
   there : (i : ℕ) → i ≤ depth - 1 → Known j (posAt j s i)
   there i l = a .known i (omega (arith, a .deep))
 
@@ -66,23 +54,23 @@ module _ {j : Job} {s : List ℕ} {k depth : ℕ} (a : Handed j s k depth) where
       early (frees q f) h = absurd (omega (arith, ltb-true (posAt j s i .step) (posAt j s (suc i) .step) q))
       early (leads q f) h = omega (arith, f .falls)
 
-  pub may-lay : (s′ : List ℕ) (i : ℕ) → 0 < i → i ≤ depth - 1 → Laid (j .cells) k s s′ i (depth - 1) → Layable (j .cells) k s′ (i - 1)
-  may-lay s′ i h l done = layable-same (j .cells) k s s′ (i - 1) (done .long) (done .stack) (rw (a .size) (layable (i - 1) (omega arith)))
+  pub may-lay : (s′ : List ℕ) (i : ℕ) → 0 < i → i ≤ depth - 1 → Laid n k s s′ i (depth - 1) → Layable n k s′ (i - 1)
+  may-lay s′ i h l done = layable-same n k s s′ (i - 1) (done .long) (done .stack) (rw (a .cells, a .size) (layable (i - 1) (omega arith)))
 
-  pub more-laid : (s′ s″ : List ℕ) (i : ℕ) → 0 < i → i ≤ depth - 1 → s″ ≡ laid (j .cells) k s′ (i - 1) → Laid (j .cells) k s s′ i (depth - 1)
-      → Laid (j .cells) k s s″ (i - 1) (depth - 1)
+  pub more-laid : (s′ s″ : List ℕ) (i : ℕ) → 0 < i → i ≤ depth - 1 → s″ ≡ laid n k s′ (i - 1) → Laid n k s s′ i (depth - 1)
+      → Laid n k s s″ (i - 1) (depth - 1)
   more-laid s′ s″ i h l e done =
       let up : i ≡ suc (i - 1) = omega arith in
-      let done′ : Laid (j .cells) (nodes j) s s′ (suc (i - 1)) (depth - 1) = rw up at (rw (a .size) at done) in
-      rw (e, a .size)
+      let done′ : Laid (j .cells) (nodes j) s s′ (suc (i - 1)) (depth - 1) = rw up at (rw (a .cells, a .size) at done) in
+      rw (e, a .cells, a .size)
       (laid-more j s (depth - 1) (a .room) (omega (arith, a .fit, a .size, a .deep)) there (a .ok) (a .way) s′ (i - 1) (omega arith) done′)
 
-  pub start-below : (c t : ℕ) → c ≡ at k s 4 0 → t ≡ at k s 5 0 → t * j .cells + c < k
-  start-below c t ec et = rw (ec, et, a .size) (idx-below j (there 0 (omega arith)))
+  pub start-below : (c t : ℕ) → c ≡ at k s 4 0 → t ≡ at k s 5 0 → t * n + c < k
+  start-below c t ec et = rw (ec, et, a .cells, a .size) (idx-below j (there 0 (omega arith)))
 
-  pub is-laid : (s′ s₁ s₂ : List ℕ) (i c t : ℕ) → i ≤ 0 → c ≡ at k s 4 0 → t ≡ at k s 5 0 → Laid (j .cells) k s s′ i (depth - 1)
-      → s₁ ≡ set s′ (0 * k + (t * j .cells + c)) 1 → s₂ ≡ set s₁ (1 * k + (t * j .cells + c)) 0 → Augmented j s s₂ (posAt j s 0)
+  pub is-laid : (s′ s₁ s₂ : List ℕ) (i c t : ℕ) → i ≤ 0 → c ≡ at k s 4 0 → t ≡ at k s 5 0 → Laid n k s s′ i (depth - 1)
+      → s₁ ≡ set s′ (0 * k + (t * n + c)) 1 → s₂ ≡ set s₁ (1 * k + (t * n + c)) 0 → Augmented j s s₂ (posAt j s 0)
   is-laid s′ s₁ s₂ i c t h ec et done e₁ e₂ =
       let none : i ≡ 0 = omega arith in
-      let done′ : Laid (j .cells) (nodes j) s s′ 0 (depth - 1) = rw none at (rw (a .size) at done) in
-      rw (e₂, e₁, ec, et, a .size) (all-laid j s s′ (depth - 1) (a .room) there (a .ok) (a .way) done′)
+      let done′ : Laid (j .cells) (nodes j) s s′ 0 (depth - 1) = rw none at (rw (a .cells, a .size) at done) in
+      rw (e₂, e₁, ec, et, a .cells, a .size) (all-laid j s s′ (depth - 1) (a .room) there (a .ok) (a .way) done′)

@@ -4,6 +4,7 @@ pub mod Laid
 pub mod LayHop
 pub mod SearchBytes
 pub mod SearchCount
+pub mod SearchEnds
 pub mod SearchFinds
 pub mod SearchHops
 pub mod SearchRuns

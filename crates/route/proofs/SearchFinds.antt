@@ -7,6 +7,7 @@ use native.Mathlib.Omega.{arith}
 use native.Mathlib.Nat.{mul-le-mul-left}
 use native.Mathlib.Decide.{decLt}
 use lib.ListN.{getD}
+use Rattle.model.specs.Limits.{maxCells}
 use Rattle.network.specs.Store.{at}
 use Rattle.route.specs.declared.search.Found.{Found}
 use Rattle.route.specs.Finds.{Held, By, ByRow, Down, From, Stamped, Answers}
@@ -90,7 +91,7 @@ pub answer-push : (P Q : ℕ → ℕ → ℕ → Type 0) (M : ℕ → ℕ → Ty
     → ((c t via : ℕ) → P c t via → Q c t via) → Answers P M r → Answers Q M r
 answer-push P Q M r a b v e f x = let y : Answers P M (Found.Push a b v) = rw e at x in rw e (f a b v (y .0), y .1)
 
-module _ (n k : ℕ) (s due near : List ℕ) (c i t stamp x : ℕ) (ex : x ≡ getD near (c * 256 + i) 0) where
+module _ (n k : ℕ) (s due near : List ℕ) (c i t stamp x : ℕ) (ex : x ≡ getD near (c * maxCells + i) 0) where
   pub row-more : (r : Found) → r ≡ Found.Nothing → Answers (ByRow n k s due near c i t) (Stamped n k s stamp) Found.Nothing → Answers (By n k s due t x) (Stamped n k s stamp) r
       → Answers (ByRow n k s due near c (i + 1) t) (Stamped n k s stamp) Found.Nothing
   row-more r e a b c′ u via (i′, hi, by) = go (decLt i′ i)

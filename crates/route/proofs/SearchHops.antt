@@ -4,36 +4,28 @@ use Prim.Native.Nat.{ℕ, suc, _+_, _-_, _*_, _<_, _≤_}
 use mathlib.Core.Path.{_≡_, refl, sym, _∙_, ap}
 use mathlib.Core.List.{List}
 use mathlib.Core.Logic.{_⊎_, inl, inr}
-use mathlib.Core.Bool.{Bool, true, false, not, cond, _&&_}
+use mathlib.Core.Bool.{Bool, true, false, not, cond}
 use native.Mathlib.Omega.{arith}
 use native.Mathlib.Nat.{mul-le-mul-right}
 use native.Mathlib.Decide.{ℕ-discrete, decLt}
-use lib.Dec.{eqb, ltb, leb}
+use lib.Dec.{eqb, ltb}
 use lib.ListN.{length, getD}
-use borrow.Author.Tests.{ltb-true, leb-true, lt-ltb, le-ltb, le-leb, eq-eqb, ne-eqb, not-true}
+use borrow.Author.Tests.{lt-ltb, le-ltb, eq-eqb, not-true}
+use Rattle.model.specs.Limits.{maxCells}
 use Rattle.model.specs.Job.{Job, horizon}
 use Rattle.model.specs.Choke.{Point, point, Known}
 use Rattle.model.specs.ReadSheet.{knownPoint}
 use Rattle.model.specs.Ready.{Ready}
-use Rattle.model.proofs.Basics.{nope, and-left, and-right, and-both}
-use Rattle.model.proofs.Agree.{within}
+use Rattle.model.proofs.Basics.{nope, and-right}
 use Rattle.flow.specs.Flow.{Link, off, end, to, arr, dep, Residual}
 use Rattle.network.specs.Graph.{graph, isLift, Earlier}
 use Rattle.network.specs.Store.{nodes, idx, at, Spacious, isUsed}
 use Rattle.network.specs.Links.{FlowIn, backLink, onLink}
 use Rattle.network.specs.Tables.{Near, Due}
 use Rattle.route.specs.Finds.{Held, Rows, By, From}
+use Rattle.network.proofs.NodeBytes as bytes
+use Rattle.network.proofs.NodeBytes.{link-off, row-in, few-nodes}
 use Rattle.network.proofs.Points.{point-cell, point-step}
-
-pub test-known : (j : Job) (x : Point) → knownPoint j x ≡ true → Known j x
-test-known j x e = (ltb-true _ _ (and-left (ltb (x .cell) (j .cells)) (leb (x .step) (horizon j)) e), leb-true _ _ (and-right (ltb (x .cell) (j .cells)) (leb (x .step) (horizon j)) e))
-
-pub known-test : (j : Job) (x : Point) → Known j x → knownPoint j x ≡ true
-known-test j x h = and-both (ltb (x .cell) (j .cells)) (leb (x .step) (horizon j)) (lt-ltb _ _ (h .0)) (le-leb _ _ (h .1))
-
--- The steps up to the horizon are the rows of a plane.
-pub row-in : (j : Job) (t : ℕ) → t ≤ horizon j → t * j .cells + j .cells ≤ nodes j
-row-in j t h = omega (arith, mul-le-mul-right (j .cells) h)
 
 in-row : (j : Job) (t : ℕ) → 0 < j .cells → t * j .cells + j .cells ≤ nodes j → t ≤ horizon j
 in-row j t h l = go (decLt (horizon j) t)
@@ -42,24 +34,9 @@ in-row j t h l = go (decLt (horizon j) t)
     go (yes g) = absurd (omega (arith, mul-le-mul-right (j .cells) g))
     go (no g) = omega arith
 
-pub idx-in : (j : Job) (x : Point) → Known j x → idx j x < nodes j
-idx-in j x h = omega (arith, row-in j (x .step) (h .1), h .0)
-
-pub few-nodes : (j : Job) → Ready j → nodes j ≤ 65536
-few-nodes j ready = omega (arith, mul-le-mul-right (j .cells) (within j (ready .fit) .few-steps), ready .fit .few-cells)
-
-and-false : (x : Bool) → (x && false) ≡ false
-and-false true = refl
-and-false false = refl
-
 module _ (j : Job) (s : List ℕ) (x : Point) where
-  used : Known j x → (at (nodes j) s 0 (idx j x) ≡ 0 → ⊥) → isUsed j s x ≡ true
-  used k u = and-both (knownPoint j x) (not (eqb (at (nodes j) s 0 (idx j x)) 0)) (known-test j x k) (ap not (ne-eqb _ _ u))
-
   pub unused : at (nodes j) s 0 (idx j x) ≡ 0 → backLink j s x ≡ off
-  unused e =
-      let f : isUsed j s x ≡ false = ap (λ (b : Bool). knownPoint j x && not b) (eq-eqb _ _ e) ∙ and-false (knownPoint j x) in
-      ap (λ (b : Bool). cond b (cond (eqb (x .step) 0) end (to (point (at (nodes j) s 3 (idx j x)) (x .step - 1)))) off) f
+  unused e = link-off _ _ (bytes.unused j s x e)
 
   pub off-unused : Known j x → backLink j s x ≡ off → at (nodes j) s 0 (idx j x) ≡ 0
   off-unused k e = go (ℕ-discrete (at (nodes j) s 0 (idx j x)) 0)
@@ -71,11 +48,11 @@ module _ (j : Job) (s : List ℕ) (x : Point) where
       go : Dec (at (nodes j) s 0 (idx j x) ≡ 0) → at (nodes j) s 0 (idx j x) ≡ 0
       go (yes f) = f
       go (no u) = absurd (some (eqb (x .step) 0) (point (at (nodes j) s 3 (idx j x)) (x .step - 1))
-          (sym (ap (λ (b : Bool). cond b (cond (eqb (x .step) 0) end (to (point (at (nodes j) s 3 (idx j x)) (x .step - 1)))) off) (used k u)) ∙ e))
+          (sym (ap (λ (b : Bool). cond b (cond (eqb (x .step) 0) end (to (point (at (nodes j) s 3 (idx j x)) (x .step - 1)))) off) (bytes.used j s x k u)) ∙ e))
 
   pub on-to : Known j x → (at (nodes j) s 0 (idx j x) ≡ 0 → ⊥) → isLift j x ≡ false → onLink j s x ≡ to (point (at (nodes j) s 2 (idx j x)) (x .step + 1))
   on-to k u l =
-      ap (λ (b : Bool). cond b (cond (isLift j x) end (to (point (at (nodes j) s 2 (idx j x)) (x .step + 1)))) off) (used k u)
+      ap (λ (b : Bool). cond b (cond (isLift j x) end (to (point (at (nodes j) s 2 (idx j x)) (x .step + 1)))) off) (bytes.used j s x k u)
       ∙ ap (λ (b : Bool). cond b end (to (point (at (nodes j) s 2 (idx j x)) (x .step + 1)))) l
 
   pub to-on : (y : Point) → onLink j s x ≡ to y
@@ -101,7 +78,7 @@ module _ {j : Job} {due : List ℕ} (d : Due j due) where
   not-due : (c t : ℕ) → c < j .cells → isLift j (point c t) ≡ false → getD due c 0 ≡ t + 1 → ⊥
   not-due c t h e f = nope (cc (d .lifts c t h .0 f))
 
-pub rows : {j : Job} {near degree hint : List ℕ} → Near j near degree → length hint ≡ 256 → Rows (j .cells) near degree hint
+pub rows : {j : Job} {near degree hint : List ℕ} → Near j near degree → length hint ≡ maxCells → Rows (j .cells) near degree hint
 rows n h = record { rows = n .rows; counts = n .counts; hints = h; few = n .few; cells = λ c i hc hi. n .only c i 0 hc hi .0 }
 
 -- Two residual arcs, to the arrival at w and on to the departure from y.
@@ -171,7 +148,7 @@ module _ (j : Job) (s : List ℕ) (ok : FlowIn j s) where
     pub found-hop : (c u via : ℕ) → From (j .cells) (nodes j) s near degree due (v .cell) (v .step) c u via
         → HopTo j (backLink j s) (onLink j s) v (hopVia v u via) (point c u)
     found-hop c u via (inl (pos, (i, hi, b))) =
-        let w : Point = point (getD near (v .cell * 256 + i) 0) (v .step - 1) in
+        let w : Point = point (getD near (v .cell * maxCells + i) 0) (v .step - 1) in
         let o = n .only (v .cell) i (v .step - 1) (k .0) hi in
         via-hop w (record {
           falls = omega arith;

@@ -19,11 +19,12 @@ use Rattle.flow.proofs.Flow.{flow-same}
 use Rattle.network.specs.Graph.{graph, isLift}
 use Rattle.network.specs.Store.{nodes, idx, at, isUsed, isMarked}
 use Rattle.network.specs.Links.{FlowIn, backLink, onLink, posAt, hopAt, hopsTo}
-use Rattle.route.specs.Search.{SameFlow, Fresh, Searched}
+use Rattle.route.specs.Search.{SameFlow, Fresh, Searching, Searched}
 use Rattle.route.specs.Finds.{Pushed}
-use Rattle.network.proofs.Points.{point-eq, dec-point}
-use Rattle.network.proofs.Planes.{idx-one}
-use Rattle.route.proofs.SearchHops.{test-known, known-test, idx-in, HopTo, hopVia}
+use Rattle.network.proofs.Points.{point-eq}
+use Rattle.network.proofs.Planes.{idx-one, idx-below}
+use Rattle.model.proofs.Floor.{test-known, known-test}
+use Rattle.route.proofs.SearchHops.{HopTo, hopVia}
 use Rattle.route.proofs.SearchStack.{Done, Dfs, dfs-start, dfs-pop, dfs-push, dfs-way}
 use Rattle.route.proofs.SearchCount.{unmarked, unmarked-less, unmarked-falls}
 
@@ -34,15 +35,16 @@ Marked j s stamp v = Known j v × (at (nodes j) s 1 (idx j v) ≡ stamp)
 abbrev pub Lone : Job → List ℕ → ℕ → Point → Type 0
 Lone j s stamp x = (v : ℕ) → v < nodes j → at (nodes j) s 1 v ≡ stamp → v ≡ idx j x
 
-abbrev pub left : Job → List ℕ → ℕ → ℕ
-left j s stamp = unmarked (λ v. at (nodes j) s 1 v) stamp (nodes j)
+-- how many of k nodes are not marked
+abbrev pub left : ℕ → List ℕ → ℕ → ℕ
+left k s stamp = unmarked (λ v. at k s 1 v) stamp k
 
 -- s₁ is the store after the first push.
 pub record Running (j : Job) (s₁ s : List ℕ) (stamp : ℕ) (x : Point) (d : ℕ) : Type 0 where
   pub flow : FlowIn j s
   pub same : SameFlow j s₁ s
   pub marks : (v : ℕ) → v < nodes j → (at (nodes j) s 1 v ≡ at (nodes j) s₁ 1 v) ⊎ (at (nodes j) s 1 v ≡ stamp)
-  pub room : d + left j s stamp ≤ nodes j
+  pub room : d + left (nodes j) s stamp ≤ nodes j
   pub dfs : Dfs (graph j) (backLink j s) (onLink j s) (Lone j s₁ stamp x) (Marked j s stamp) (posAt j s) (λ i. hopAt j s i .via) x d
 
 same-refl : (j : Job) (s : List ℕ) → SameFlow j s s
@@ -64,7 +66,7 @@ module _ (j : Job) (s t : List ℕ) (same : SameFlow j s t) where
     where
       go : (b : Bool) → knownPoint j x ≡ b → cond (isUsed j t x) (f x (at (nodes j) t p (idx j x))) off ≡ cond (isUsed j s x) (f x (at (nodes j) s p (idx j x))) off
       go true k =
-          let h = idx-in j x (test-known j x k) in
+          let h = idx-below j {x = x} (test-known j x k) in
           λ i. cond (knownPoint j x && not (eqb (same .used (idx j x) h i) 0)) (f x (e (idx j x) h i)) off
       go false k = rw k refl
 
@@ -76,6 +78,25 @@ module _ (j : Job) (s t : List ℕ) (same : SameFlow j s t) where
 
   pub flow-kept : FlowIn j s → FlowIn j t
   flow-kept ok = flow-same (λ v. ap (λ (l : Point → Link Point). l v) back-same) (λ v. ap (λ (l : Point → Link Point). l v) on-same) ok
+
+  -- A search may start from such a store too, with any stamp.
+  pub may-search : {near degree due cart-on hint : List ℕ} {n k cell step stamp : ℕ} (stamp′ : ℕ) → 0 < stamp′
+      → Searching j near degree due cart-on hint s n k cell step stamp → Searching j near degree due cart-on hint t n k cell step stamp′
+  may-search {cell = cell} {step = step} stamp′ some h = record {
+    ready = h .ready;
+    cells = h .cells;
+    size = h .size;
+    rows = h .rows;
+    dues = h .dues;
+    carts = h .carts;
+    hints = h .hints;
+    room = omega (arith, h .room, same .long);
+    ok = flow-kept (h .ok);
+    known = h .known;
+    lift = h .lift;
+    idle = ap (λ (l : Point → Link Point). l (point cell step)) back-same ∙ h .idle;
+    some = some;
+  }
 
 module _ (j : Job) (s t : List ℕ) (v d c u via stamp : ℕ) (p : Pushed (nodes j) s t v d c u via stamp) where
   pub pushed-same : SameFlow j s t
@@ -98,14 +119,14 @@ abbrev viaOf : Point → Point → ℕ → Point
 viaOf p q b = hopVia p (q .step) b
 
 module _ (j : Job) (stamp : ℕ) (x : Point) where
-  pub run-start : (s s₁ : List ℕ) → FlowIn j s → Known j x → Pushed (nodes j) s s₁ (idx j x) 0 (x .cell) (x .step) 0 stamp → Running j s₁ s₁ stamp x 1
+  pub run-start : (s s₁ : List ℕ) → FlowIn j s₁ → Known j x → Pushed (nodes j) s s₁ (idx j x) 0 (x .cell) (x .step) 0 stamp → Running j s₁ s₁ stamp x 1
   run-start s s₁ ok k p = record {
-    flow = flow-kept j s s₁ (pushed-same j s s₁ (idx j x) 0 (x .cell) (x .step) 0 stamp p) ok;
+    flow = ok;
     same = same-refl j s₁;
     marks = λ v h. inl refl;
-    room = omega (arith, unmarked-less stamp (λ v. at (nodes j) s₁ 1 v) (nodes j) (idx j x) (idx-in j x k) (p .mark));
+    room = omega (arith, unmarked-less stamp (λ v. at (nodes j) s₁ 1 v) (nodes j) (idx j x) (idx-below j {x = x} k) (p .mark));
     dfs = dfs-start (graph j) (backLink j s₁) (onLink j s₁) (Lone j s₁ stamp x) (Marked j s₁ stamp) (posAt j s₁) (λ i. hopAt j s₁ i .via) x
-        (k, p .mark) (λ f v m. idx-one j (m .0) k (f (idx j v) (idx-in j v (m .0)) (m .1))) (point-eq (p .cell) (p .step));
+        (k, p .mark) (λ f v m. idx-one j (m .0) k (f (idx j v) (idx-below j {x = v} (m .0)) (m .1))) (point-eq (p .cell) (p .step));
   }
 
   module _ (s₁ s : List ℕ) (m : ℕ) (r : Running j s₁ s stamp x (suc m)) (dull : (graph j) .Goal (posAt j s m) → ⊥) where
@@ -120,8 +141,8 @@ module _ (j : Job) (stamp : ℕ) (x : Point) where
 
     module _ (t : List ℕ) (c u via : ℕ) (hop : HopTo j (backLink j s) (onLink j s) (posAt j s m) (hopVia (posAt j s m) u via) (point c u))
         (free : at (nodes j) s 1 (u * j .cells + c) ≡ stamp → ⊥) (p : Pushed (nodes j) s t (u * j .cells + c) (suc m) c u via stamp) where
-      pub run-falls : left j s stamp ≡ suc (left j t stamp)
-      run-falls = unmarked-falls stamp (λ v. at (nodes j) s 1 v) (λ v. at (nodes j) t 1 v) (nodes j) (u * j .cells + c) (idx-in j (point c u) (hop .known)) free (p .mark) (p .marks)
+      pub run-falls : left (nodes j) s stamp ≡ suc (left (nodes j) t stamp)
+      run-falls = unmarked-falls stamp (λ v. at (nodes j) s 1 v) (λ v. at (nodes j) t 1 v) (nodes j) (u * j .cells + c) (idx-below j {x = point c u} (hop .known)) free (p .mark) (p .marks)
 
       below : (i : ℕ) → i < suc m → i < nodes j
       below i h = omega (arith, r .room)
@@ -143,14 +164,14 @@ module _ (j : Job) (stamp : ℕ) (x : Point) where
       new-via = let e = old-pos m (omega arith) in λ k. viaOf (e k) (new-pos k) (p .by k)
 
       keeps : (v : Point) → Marked j s stamp v → Marked j t stamp v
-      keeps v (k, e) = (k, ⊎-elim (λ f. f ∙ e) (λ f. f) (pushed-marks j s t (u * j .cells + c) (suc m) c u via stamp p (idx j v) (idx-in j v k)))
+      keeps v (k, e) = (k, ⊎-elim (λ f. f ∙ e) (λ f. f) (pushed-marks j s t (u * j .cells + c) (suc m) c u via stamp p (idx j v) (idx-below j {x = v} k)))
 
       only : (v : Point) → Marked j t stamp v → Marked j s stamp v ⊎ (v ≡ point c u)
       only v (k, e) = go (ℕ-discrete (idx j v) (u * j .cells + c))
         where
           go : Dec (idx j v ≡ u * j .cells + c) → Marked j s stamp v ⊎ (v ≡ point c u)
           go (yes f) = inr (idx-one j k (hop .known) f)
-          go (no ne) = inl (k, sym (p .marks (idx j v) (idx-in j v k) ne) ∙ e)
+          go (no ne) = inl (k, sym (p .marks (idx j v) (idx-below j {x = v} k) ne) ∙ e)
 
       pub run-push : Running j s₁ t stamp x (suc (suc m))
       run-push =

@@ -1,29 +1,21 @@
 -- What a call's search and augmentation leave, put together: a search keeps the flow, so the next search or the augmentation may start from its store, and
 -- what is served is told from the store at entry. Marks stay at most the stamp, so that the stamp after it is on none of them. Assumes nothing.
 use Prim.Native.Nat.{ℕ, _+_, _<_, _≤_}
-use mathlib.Core.Path.{_≡_, _∙_, ap, subst₂}
+use mathlib.Core.Path.{_≡_, subst₂}
 use mathlib.Core.List.{List}
 use mathlib.Core.Logic.{_⊎_, _↔_, ⊎-elim}
 use native.Mathlib.Omega.{arith}
 use Rattle.model.specs.Job.{Job}
-use Rattle.model.specs.Choke.{Point}
-use Rattle.flow.specs.Flow.{Link, off, end}
-use Rattle.network.specs.Store.{nodes, Spacious}
-use Rattle.network.specs.Links.{FlowIn, backLink, onLink, posAt}
-use Rattle.route.specs.Search.{Fresh, Searched, Augmented}
+use Rattle.model.specs.Choke.{Point, point}
+use Rattle.flow.specs.Flow.{Link, end}
+use Rattle.network.specs.Links.{FlowIn, onLink, posAt}
+use Rattle.route.specs.Search.{Fresh, Searching, Searched, Laying, Augmented}
 use Rattle.route.specs.Serve.{MarksUpTo}
-use Rattle.route.proofs.SearchRuns.{back-same, on-same, flow-kept}
-use Rattle.route.proofs.AugmentLoop.{Handed}
+use Rattle.route.proofs.SearchRuns.{on-same, flow-kept, may-search}
 
 module _ {j : Job} {s t : List ℕ} {stamp : ℕ} {x : Point} {r : ℕ} (f : Searched j s t stamp x r) where
-  pub room-kept : Spacious j s → Spacious j t
-  room-kept h = omega (arith, h, f .same .long)
-
   pub still-flow : FlowIn j s → FlowIn j t
   still-flow = flow-kept j s t (f .same)
-
-  pub still-idle : backLink j s x ≡ off → backLink j t x ≡ off
-  still-idle e = ap (λ (l : Point → Link Point). l x) (back-same j s t (f .same)) ∙ e
 
   pub same-on : onLink j t ≡ onLink j s
   same-on = on-same j s t (f .same)
@@ -34,16 +26,22 @@ module _ {j : Job} {s t : List ℕ} {stamp : ℕ} {x : Point} {r : ℕ} (f : Sea
   pub fresh-next : MarksUpTo j s stamp → Fresh j t (stamp + 1)
   fresh-next h v b e = omega (arith, e, marks-search stamp (omega arith) h v b)
 
+module _ {j : Job} {near degree due cart-on hint s t : List ℕ} {n k cell step stamp r : ℕ} (f : Searched j s t stamp (point cell step) r)
+    (h : Searching j near degree due cart-on hint s n k cell step stamp) where
+  pub search-again : Searching j near degree due cart-on hint t n k cell step (stamp + 1)
+  search-again = may-search j s t (f .same) (stamp + 1) (omega arith) h
+
   -- The way that was found may be laid.
-  pub handed : (k : ℕ) → k ≡ nodes j → Spacious j s → FlowIn j s → 0 < r → Handed j t k r
-  handed k size room ok some =
-      let e : posAt j t 0 ≡ x = f .first some in
+  pub may-lay : 0 < r → Laying j t n k r
+  may-lay some =
+      let e : posAt j t 0 ≡ point cell step = f .first some in
       record {
-        size = size;
-        room = room-kept room;
-        ok = still-flow ok;
+        cells = h .cells;
+        size = h .size;
+        room = search-again .room;
+        ok = search-again .ok;
         deep = some;
-        fit = omega (arith, size, f .deep);
+        fit = omega (arith, h .size, f .deep);
         known = f .known;
         way = rw e (f .way some);
       }

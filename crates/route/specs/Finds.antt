@@ -5,25 +5,26 @@ use mathlib.Core.Path.{_≡_}
 use mathlib.Core.List.{List}
 use mathlib.Core.Logic.{_⊎_}
 use lib.ListN.{length, getD}
+use Rattle.model.specs.Limits.{maxCells, maxSteps}
 use Rattle.route.specs.declared.search.Found.{Found}
 use Rattle.network.specs.Store.{at}
 
 -- The sizes; and a used node that is no call's leads on to a node one step later.
 pub record Held (n k : ℕ) (s due : List ℕ) : Type 0 where
   pub room : 8 * k ≤ length s
-  pub few : n ≤ 256
-  pub small : k ≤ 65536
-  pub dues : length due ≡ 256
+  pub few : n ≤ maxCells
+  pub small : k ≤ maxSteps * maxCells
+  pub dues : length due ≡ maxCells
   pub leads : (c t : ℕ) → c < n → t * n + n ≤ k → (at k s 0 (t * n + c) ≡ 0 → ⊥) → (getD due c 0 ≡ t + 1 → ⊥)
       → (at k s 2 (t * n + c) < n) × ((t + 1) * n + n ≤ k)
 
 -- The rows of the table of cells that one step leads from.
 pub record Rows (n : ℕ) (near degree hint : List ℕ) : Type 0 where
-  pub rows : length near ≡ 65536
-  pub counts : length degree ≡ 256
-  pub hints : length hint ≡ 256
-  pub few : (c : ℕ) → c < n → getD degree c 0 ≤ 256
-  pub cells : (c i : ℕ) → c < n → i < getD degree c 0 → getD near (c * 256 + i) 0 < n
+  pub rows : length near ≡ maxCells * maxCells
+  pub counts : length degree ≡ maxCells
+  pub hints : length hint ≡ maxCells
+  pub few : (c : ℕ) → c < n → getD degree c 0 ≤ maxCells
+  pub cells : (c i : ℕ) → c < n → i < getD degree c 0 → getD near (c * maxCells + i) 0 < n
 
 -- From a position at step t by way of the cell x one step earlier one gets to (c, u): to that node if it is unused, else to its successor.
 abbrev pub By : ℕ → ℕ → List ℕ → List ℕ → ℕ → ℕ → ℕ → ℕ → ℕ → Type 0
@@ -34,7 +35,7 @@ By n k s due t x c u via =
 
 -- The same, by way of one of the first m cells of row a.
 abbrev pub ByRow : ℕ → ℕ → List ℕ → List ℕ → List ℕ → ℕ → ℕ → ℕ → ℕ → ℕ → ℕ → Type 0
-ByRow n k s due near a m t c u via = (i : ℕ) × (i < m) × By n k s due t (getD near (a * 256 + i) 0) c u via
+ByRow n k s due near a m t c u via = (i : ℕ) × (i < m) × By n k s due t (getD near (a * maxCells + i) 0) c u via
 
 -- The position (a, t) is a used node, and (c, u) its successor.
 abbrev pub Down : ℕ → ℕ → List ℕ → List ℕ → ℕ → ℕ → ℕ → ℕ → ℕ → Type 0

@@ -1,7 +1,8 @@
--- What serving one call answers and leaves.
+-- What serving one call is handed, answers and leaves.
 use Prim.Native.Nat.{ℕ, _+_, _<_, _≤_}
 use mathlib.Core.Path.{_≡_}
 use mathlib.Core.List.{List}
+use mathlib.Core.Bool.{Bool, true}
 use mathlib.Core.Logic.{_⊎_, _↔_}
 use Rattle.model.specs.Job.{Job}
 use Rattle.model.specs.Choke.{Point}
@@ -9,12 +10,20 @@ use Rattle.flow.specs.Flow.{end}
 use Rattle.network.specs.Store.{nodes, at, isMarked}
 use Rattle.network.specs.Links.{backLink, onLink}
 use Rattle.network.specs.Stuck.{Stuck}
+use Rattle.route.specs.Search.{Fresh, Searching}
 use Rattle.route.specs.declared.serve.Served.{Served}
 use Rattle.route.specs.declared.serve.Served.the-variants.{Yes, No}
 
 -- No mark is above the stamp.
 abbrev pub MarksUpTo : Job → List ℕ → ℕ → Type 0
 MarksUpTo j s stamp = (v : ℕ) → v < nodes j → at (nodes j) s 1 v ≤ stamp
+
+-- A search may start, with a stamp that no mark is above; where fresh says so, no mark has it. There is room for one stamp more.
+pub record Serving (j : Job) (near degree due cartOn hint s : List ℕ) (n k cell step stamp : ℕ) (fresh : Bool) : Type 0 where
+  pub search : Searching j near degree due cartOn hint s n k cell step stamp
+  pub small : stamp < 200
+  pub marks : MarksUpTo j s stamp
+  pub clean : fresh ≡ true → Fresh j s stamp
 
 -- The call's node x is served now, or it cannot be: the marks with the stamp show why.
 abbrev pub ServedBy : Job → List ℕ → List ℕ → ℕ → Point → Served → Type 0

@@ -1,23 +1,13 @@
 // Lays the way on the search's stack into the flow, hop by hop from its top down, and takes its marks away: it stays open to later searches.
-use job::state::Job;
+use model::bytes::wide;
 ghost use mathlib.Core.Path.{_≡_};
-ghost use Prim.Native.Nat.{ℕ, _+_, _-_, _*_, _<_, _≤_};
+ghost use Prim.Native.Nat.{_+_, _*_, _<_};
 ghost use lib.ListN.{length, set};
-ghost use Rattle.model.specs.Choke.{Known};
-ghost use Rattle.model.specs.Ready.{Ready};
-ghost use Rattle.job.specs.Arrays.{jobOf, Sized};
-ghost use Rattle.flow.specs.Way.{Way};
-ghost use Rattle.network.specs.Graph.{graph};
-ghost use Rattle.network.specs.Store.{nodes, at, Spacious};
-ghost use Rattle.network.specs.Links.{FlowIn, backLink, onLink, posAt, hopsTo};
-ghost use Rattle.route.specs.Search.{Augmented};
+ghost use Rattle.model.specs.Job as model;
+ghost use Rattle.network.specs.Store.{at};
+ghost use Rattle.network.specs.Links.{posAt};
+ghost use Rattle.route.specs.Search.{Laying, Augmented};
 ghost use Rattle.route.specs.Lay.{Layable, laid};
-
-fn wide(x: u8) -> usize
-    ensures { λ r. ⌜ (r ≡ x) × (r < 256) ⌝ }
-{
-    x as usize
-}
 
 // Byte i of plane p.
 fn get(store: &[u8], k: usize, p: usize, i: usize) -> usize
@@ -58,11 +48,10 @@ fn lay(store: &mut [u8], n: usize, k: usize, i: usize)
     put(store, k, 1, r * n + d, 0);
 }
 
-pub fn augment(job: Job, store: &mut [u8], k: usize, depth: usize)
-    requires { ⌜ Ready (jobOf job) × Sized job × (k ≡ nodes (jobOf job)) × Spacious (jobOf job) (now store) × FlowIn (jobOf job) (now store) × (0 < depth) × (depth ≤ k) × ((i : ℕ) → i < depth → Known (jobOf job) (posAt (jobOf job) (now store) i)) × Way (graph (jobOf job)) (backLink (jobOf job) (now store)) (onLink (jobOf job) (now store)) (posAt (jobOf job) (now store) 0) (hopsTo (jobOf job) (now store) (depth - 1)) ⌝ }
-    ensures { λ _. ⌜ Augmented (jobOf job) (now (store .entry)) (now (store .exit)) (posAt (jobOf job) (now (store .entry)) 0) ⌝ }
+pub fn augment(store: &mut [u8], n: usize, k: usize, depth: usize)
+    requires { ⌜ ((j : model.Job) × Laying j (now store) n k depth) ⌝ }
+    ensures { λ _. ⌜ ((j : model.Job) → Laying j (now (store .entry)) n k depth → Augmented j (now (store .entry)) (now (store .exit)) (posAt j (now (store .entry)) 0)) ⌝ }
 {
-    let n = job.cells;
     let c = get(store, k, 4, 0);
     let t = get(store, k, 5, 0);
     let mut i = depth - 1;

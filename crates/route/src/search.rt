@@ -1,18 +1,13 @@
 // One search: from a call's node back in time to a free cart, depth first, with the way so far as a stack in the store.
-use job::state::Job;
+use model::Limits;
+use model::bytes::wide;
 ghost use mathlib.Core.Path.{_≡_};
-ghost use mathlib.Core.Bool.{true};
 ghost use Prim.Native.Nat.{ℕ, _+_, _*_, _<_, _≤_};
 ghost use lib.ListN.{length, getD};
-ghost use Rattle.model.specs.Choke.{point, Known};
-ghost use Rattle.model.specs.Ready.{Ready};
-ghost use Rattle.job.specs.Arrays.{jobOf, Sized};
-ghost use Rattle.flow.specs.Flow.{off};
-ghost use Rattle.network.specs.Graph.{isLift};
-ghost use Rattle.network.specs.Store.{nodes, Spacious};
-ghost use Rattle.network.specs.Links.{FlowIn, backLink};
-ghost use Rattle.network.specs.Tables.{Near, Due, CartOn};
-ghost use Rattle.route.specs.Search.{Searched};
+ghost use Rattle.model.specs.Limits.{maxCells, maxSteps};
+ghost use Rattle.model.specs.Job as model;
+ghost use Rattle.model.specs.Choke.{point};
+ghost use Rattle.route.specs.Search.{Searching, Searched};
 ghost use Rattle.route.specs.Finds.{Held, Rows, By, ByRow, Down, From, Stamped, Answers, Pushed};
 
 // Where a position leads: nowhere new, or to another position, by way of a cell.
@@ -23,12 +18,6 @@ pub enum Found {
         step: usize,
         via: usize,
     },
-}
-
-fn wide(x: u8) -> usize
-    ensures { λ r. ⌜ (r ≡ x) × (r < 256) ⌝ }
-{
-    x as usize
 }
 
 // From a position at step t by way of the cell x one step earlier: to that node where it is free, to its successor where it is used,
@@ -74,12 +63,12 @@ fn scan(
     t: usize,
     stamp: u8,
 ) -> Found
-    requires { ⌜ Held n k (now store) (now due) × (length (now near) ≡ 65536) × (c < n) × (m ≤ 256) × ((i : ℕ) → i < m → getD (now near) (c * 256 + i) 0 < n) × (0 < t) × (t * n + n ≤ k) ⌝ }
+    requires { ⌜ Held n k (now store) (now due) × (length (now near) ≡ maxCells * maxCells) × (c < n) × (m ≤ maxCells) × ((i : ℕ) → i < m → getD (now near) (c * maxCells + i) 0 < n) × (0 < t) × (t * n + n ≤ k) ⌝ }
     ensures { λ r. ⌜ Answers (ByRow n k (now (store .entry)) (now (due .entry)) (now (near .entry)) c m t) (Stamped n k (now (store .entry)) stamp) r ⌝ }
 {
     let mut i = 0;
     while i < m {
-        let x = wide(near[c * 256 + i]);
+        let x = wide(near[c * Limits::CELLS + i]);
         let found = look(store, due, n, k, t, x, stamp);
         if let Found::Push {
             cell: _,
@@ -136,7 +125,7 @@ fn find(
         let m = degree[c] as usize;
         let h = wide(hint[c]);
         if h < m {
-            let x = wide(near[c * 256 + h]);
+            let x = wide(near[c * Limits::CELLS + h]);
             let found = look(store, due, n, k, t, x, stamp);
             if let Found::Push {
                 cell: _,
@@ -169,7 +158,7 @@ fn push(
     via: usize,
     stamp: u8,
 )
-    requires { ⌜ (8 * k ≤ length (now store)) × (k ≤ 65536) × (step * n + cell < k) × (depth < k) × (cell < 256) × (step < 256) × (via < 256) ⌝ }
+    requires { ⌜ (8 * k ≤ length (now store)) × (k ≤ maxSteps * maxCells) × (step * n + cell < k) × (depth < k) × (cell < maxCells) × (step < maxSteps) × (via < maxCells) ⌝ }
     ensures { λ _. ⌜ Pushed k (now (store .entry)) (now (store .exit)) (step * n + cell) depth cell step via stamp ⌝ }
 {
     store[k + step * n + cell] = stamp;
@@ -179,22 +168,22 @@ fn push(
 }
 
 pub fn search(
-    job: Job,
     near: &[u8],
     degree: &[u16],
     due: &[u16],
     cart_on: &[u8],
     hint: &[u8],
     store: &mut [u8],
+    n: usize,
     k: usize,
     cell: usize,
     step: usize,
     stamp: u8,
 ) -> usize
-    requires { ⌜ Ready (jobOf job) × Sized job × (k ≡ nodes (jobOf job)) × Near (jobOf job) (now near) (now degree) × Due (jobOf job) (now due) × CartOn (jobOf job) (now «cart_on») × (length (now hint) ≡ 256) × Spacious (jobOf job) (now store) × FlowIn (jobOf job) (now store) × Known (jobOf job) (point cell step) × (isLift (jobOf job) (point cell step) ≡ true) × (backLink (jobOf job) (now store) (point cell step) ≡ off) × (0 < stamp) ⌝ }
-    ensures { λ r. ⌜ Searched (jobOf job) (now (store .entry)) (now (store .exit)) stamp (point cell step) r ⌝ }
+    requires { ⌜ ((j : model.Job) × Searching j (now near) (now degree) (now due) (now «cart_on») (now hint) (now store) n k cell step stamp) ⌝ }
+    ensures { λ r. ⌜ ((j : model.Job) → Searching j (now (near .entry)) (now (degree .entry)) (now (due .entry)) (now («cart_on» .entry)) (now (hint .entry)) (now (store .entry)) n k cell step stamp → Searched j (now (store .entry)) (now (store .exit)) stamp (point cell step) r) ⌝ }
 {
-    push(store, job.cells, k, 0, cell, step, 0, stamp);
+    push(store, n, k, 0, cell, step, 0, stamp);
     let mut depth = 1;
     while 0 < depth {
         let c = wide(store[4 * k + depth - 1]);
@@ -208,7 +197,7 @@ pub fn search(
             degree,
             due,
             hint,
-            job.cells,
+            n,
             k,
             c,
             t,
@@ -217,7 +206,7 @@ pub fn search(
             depth -= 1;
             continue;
         };
-        push(store, job.cells, k, depth, cell, step, via, stamp);
+        push(store, n, k, depth, cell, step, via, stamp);
         depth += 1;
     }
     0

@@ -12,7 +12,7 @@ use borrow.Fn.PlainCycle.{Measures, is, falls, and}
 use Rattle.answer.proofs.paths.follow.Reads as follow
 use Rattle.answer.proofs.paths.follow.Kinds as follow-kinds
 use Rattle.answer.proofs.paths.+follow.Lts-follow as follow-lts
-use Rattle.answer.proofs.paths.wide.Reads as wide-reads
+use Rattle.model.proofs.bytes.wide.Reads as wide-reads
 use Rattle.answer.proofs.paths.+follow.{statement}
 use Rattle.answer.proofs.paths.+follow.Tie.{close}
 

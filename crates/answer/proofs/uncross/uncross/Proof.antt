@@ -1,71 +1,54 @@
--- The nodes after step 0 are looked at step by step and cell by cell. The invariant: the store holds a flow that serves the same calls, and no node looked at so far
--- trades, for every job that the numbers are of (the loop itself knows none). The measure is the number of nodes left. Assumes nothing.
-use Prim.Native.Nat.{ℕ, suc, _+_, _-_, _*_, _<_, _≤_}
-use mathlib.Core.Path.{_≡_, refl, _∙_, ap}
-use native.Mathlib.Nat.{suc-mul, mul-le-mul-left}
+-- The steps after step 0 are gone through one after the other. The invariant: the store holds a flow that serves the same calls, and no node before step t trades, for every job
+-- that the numbers and the store are of. The measure is the number of steps left. Assumes nothing.
+use Prim.Native.Nat.{ℕ, _+_, _-_, _*_, _<_, _≤_}
+use mathlib.Core.Path.{_≡_, refl, _∙_}
+use native.Mathlib.Nat.{mul-le-mul-left}
 use native.Mathlib.Omega.{arith}
 use denote.Ref.{now}
 use lib.ListN.{length}
 use Rattle.model.specs.Job.{Job, horizon}
-use Rattle.job.specs.Arrays.{jobOf}
-use Rattle.answer.proofs.UncrossSteps.{SoFar, Begun, so-far-none, so-far-later, so-far-more, so-far-turn, so-far-all}
+use Rattle.answer.specs.Uncrossed.{Flowing, SoFar}
+use Rattle.answer.proofs.UncrossSteps.{so-far-none, so-far-all}
 use Rattle.answer.proofs.uncross.uncross.Statement.{statement}
 use Rattle.answer.proofs.uncross.uncross.Tie as tie
 
 abbrev Inv-loop : tie.InvT-loop
-Inv-loop store₀ k last n t₀ b₀ store t b =
-    (0 < t) × (t ≤ last + 1) × (b < n) × (length store ≡ length store₀) × ((j : Job) → Begun j n k last store₀ → SoFar j store₀ store t b)
+Inv-loop store₀ n k last t₀ store t =
+    (0 < t) × (t ≤ last + 1) × (length store ≡ length store₀) × ((j : Job) → Flowing j n k last store₀ → SoFar j store₀ store t 0)
 
 abbrev μ-loop : tie.MeasureT-loop
-μ-loop store₀ k last n t₀ b₀ store t b = (last + 1 - t) * n + (n - b)
-
-begun : (c : tie.Start Inv-loop μ-loop) → Begun (jobOf (c .args .job)) (c .args .job .cells) (c .args .k) (c .args .last) (now (c .args .store))
-begun c = record { width = refl; size = c .pre .2; steps = c .pre .3; few = c .pre .0 .fit .few-cells; room = c .pre .4; flow = c .pre .5 }
+μ-loop store₀ n k last t₀ store t = last + 1 - t
 
 loop-holds : tie.Need-loop-holds Inv-loop μ-loop
-loop-holds c = (omega arith, omega arith, c .before .pre .0 .has-cells, refl, λ j g. so-far-none g)
+loop-holds c = (omega arith, omega arith, refl, λ j h. so-far-none h)
 
-straighten-requires : tie.Need-straighten-requires Inv-loop μ-loop
-straighten-requires c κs =
+straighten-step-requires : tie.Need-straighten-step-requires Inv-loop μ-loop
+straighten-step-requires c κs =
+    let start = c .before .before .before .before in
     let i = c .before .before .loop .inv in
-    let g = begun (c .before .before .before .before) in
-    so-far-later g (i .4 _ g) (i .0) (c .before .loop-test .taken) (i .2)
-
-add-b : tie.Need-add-b Inv-loop μ-loop
-add-b c = omega (arith, c .before .before .before .before .before .loop .inv .2)
+    let g = start .pre .1 in
+    (start .pre .0, start .args .last, now (start .args .store), record { begun = g; so-far = i .3 _ g }, i .0, c .before .loop-test .taken)
 
 add-t : tie.Need-add-t Inv-loop μ-loop
-add-t c = let p = c .before .before .before .before .before .before .before .before .pre in omega (arith, p .3, p .2, mul-le-mul-left (horizon (jobOf (c .before .before .before .before .before .before .before .before .args .job)) + 1) (p .0 .has-cells))
-
-one-less : (x y n : ℕ) → y ≡ suc x → y * n ≡ x * n + n
-one-less x y n e = ap (λ z. z * n) e ∙ suc-mul x n
+add-t c =
+    let p = c .before .before .before .before .before .before .before .pre in
+    omega (arith, p .1 .ends, p .1 .size, mul-le-mul-left (horizon (p .0) + 1) (p .1 .ready .has-cells))
 
 loop-less : tie.Need-loop-less Inv-loop μ-loop
-loop-less c =
-    let a = c .before .before .before .before .before .before .before .before .args in
-    let t = c .before .before .before .before .before .before .loop .t in
-    omega (arith, one-less (a .last + 1 - (t + 1)) (a .last + 1 - t) (a .job .cells) (omega arith))
+loop-less c = omega arith
 
 loop-again : tie.Need-loop-again Inv-loop μ-loop
 loop-again c =
-    let i = c .before .before .before .before .before .before .loop .inv in
-    let st = c .before .before .before .straighten in
-    (omega arith, omega arith, omega arith, st .kept .0 ∙ i .3, λ j g. so-far-turn g (so-far-more g (i .4 j g) (i .0) (c .before .before .before .before .before .loop-test .taken) (i .2) (st .ensures)) (c .if1 .taken))
-
-loop-less-2 : tie.Need-loop-less-2 Inv-loop μ-loop
-loop-less-2 c = omega (arith, c .before .before .before .before .before .before .loop .inv .2)
-
-loop-again-2 : tie.Need-loop-again-2 Inv-loop μ-loop
-loop-again-2 c =
-    let i = c .before .before .before .before .before .before .loop .inv in
-    let st = c .before .before .before .straighten in
-    (omega arith, omega arith, omega (arith, c .if1 .left), st .kept .0 ∙ i .3, λ j g. so-far-more g (i .4 j g) (i .0) (c .before .before .before .before .before .loop-test .taken) (i .2) (st .ensures))
+    let a = c .before .before .before .before .before .before .before .args in
+    let i = c .before .before .before .before .before .loop .inv in
+    let st = c .before .before .straighten-step .ensures in
+    (omega arith, omega arith, st .0 ∙ i .2, λ j g. st .1 j (a .last) (now (a .store)) (record { begun = g; so-far = i .3 j g }) (i .0) (c .before .before .before .before .loop-test .taken))
 
 same-length : tie.Need-same-length Inv-loop μ-loop
-same-length c = c .before .loop .inv .3
+same-length c = c .before .loop .inv .2
 
 returns : tie.Need-returns Inv-loop μ-loop
-returns c = let g = begun (c .before .before .before) in so-far-all g (c .before .loop .inv .4 _ g) (c .loop-test .left)
+returns c = λ j g. so-far-all g (c .before .loop .inv .3 j g) (c .loop-test .left)
 
 pub uncross-spec : {M : Type 1} → statement M
-uncross-spec = tie.close (tie.spec Inv-loop μ-loop loop-holds straighten-requires add-b add-t loop-less loop-again loop-less-2 loop-again-2 same-length returns)
+uncross-spec = tie.close (tie.spec Inv-loop μ-loop loop-holds straighten-step-requires add-t loop-less loop-again same-length returns)

@@ -4,6 +4,7 @@ use mathlib.Core.Logic.{⊎-elim}
 use native.Mathlib.Omega.{arith}
 use denote.Ref.{now}
 use lib.ListN.{getD}
+use Rattle.model.specs.Limits.{maxCells}
 use Rattle.network.specs.Queue.{Queue}
 use Rattle.network.proofs.AimLaws.{queue-more}
 use borrow.Author.Needs.{needs}
@@ -75,7 +76,7 @@ loop-again : tie.Need-loop-again Inv-loop μ-loop
 loop-again c =
     let a = c .before .before .before .before .before .before .before .before .before .args in
     let l = c .before .before .before .before .before .loop in
-    let b = getD (now (a .near)) (a .c * 256 + l .i) 0 in
+    let b = getD (now (a .near)) (a .c * maxCells + l .i) 0 in
     ⊎-elim
     (λ w. (omega arith, rw (w .2, w .6) (queue-more b (ltb-true (l .tail) (a .cells) (w .1 .taken)) (c .before .before .before .before .before .before .before .before .before .pre .4 (l .i) (c .before .before .before .before .loop-test .taken)) (l .inv .1))))
     (λ w. (omega arith, rw (w .1, w .5) (l .inv .1)))

@@ -2,12 +2,13 @@
 use Prim.Native.Nat.{_-_, _≤_, _<_}
 use mathlib.Core.Path.{_≡_}
 use lib.ListN.{length}
+use Rattle.model.specs.Limits.{maxCells}
 use borrow.Author.Needs.{needs}
 use Rattle.network.proofs.aim.lay.Statement.{statement}
 use Rattle.network.proofs.aim.lay.Tie as tie
 
 abbrev Inv-loop : tie.InvT-loop
-Inv-loop hint₀ to place cells c cell x₀ counter₀ hint x counter = (counter ≤ cells) × (length hint ≡ 256) × (x < 256)
+Inv-loop hint₀ to place cells c cell x₀ counter₀ hint x counter = (counter ≤ cells) × (length hint ≡ maxCells) × (x < maxCells)
 
 abbrev μ-loop : tie.MeasureT-loop
 μ-loop hint₀ to place cells c cell x₀ counter₀ hint x counter = cells - counter

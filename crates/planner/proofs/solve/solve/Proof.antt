@@ -1,41 +1,46 @@
 -- `solve` meets its contract: the cleared store is a flow that uses no node; serving all calls on it gives a flow that serves them all, which becomes the plan, or the marks
--- of a search that failed, which show the chokes. Assumes nothing.
-use mathlib.Core.Path.{_∙_}
+-- of a search that failed, which show the chokes. All parts but this one know the job by its numbers and arrays only. Assumes nothing.
+use Prim.Native.Nat.{_+_, _*_}
+use mathlib.Core.Path.{_≡_, sym, _∙_}
 use native.Mathlib.Omega.{arith}
 use denote.Ref.{now}
+use lib.ListN.{length}
+use Rattle.model.specs.Job.{horizon}
 use Rattle.job.specs.Arrays.{jobOf}
-use Rattle.route.proofs.SearchHops.{few-nodes}
-use Rattle.planner.proofs.SolveLaws.{all-still, stuck, size, fits, clear-length, clear-room, clear-bytes}
+use Rattle.job.proofs.Arrays.{Whole, long, whole, last-deadline}
+use Rattle.network.specs.Links.{FlowIn}
+use Rattle.network.proofs.JobTables.{tracks-of, calls-apart, carts-apart}
+use Rattle.network.proofs.NodeBytes.{few-nodes}
+use Rattle.answer.specs.Uncrossed.{Uncrossed}
+use Rattle.planner.specs.Solved.{Begun, ServedAll}
+use Rattle.planner.proofs.SolveLaws.{size, fits, clear-length, clear-room, clear-bytes}
+use Rattle.planner.proofs.SolveParts.{begun, flowing, full, stuck}
 use borrow.Author.Needs.{needs}
 use Rattle.planner.proofs.solve.solve.Statement.{statement}
 use Rattle.planner.proofs.solve.solve.Tie as tie
 
-last-step-requires : tie.Need-last-step-requires
-last-step-requires c κs = search needs
+arrays-long : (c : tie.Start) → Whole (c .args .t1)
+arrays-long c = whole (c .args .t1) (c .pre .1) (long (c .args .t1) (c .good .0 .0) (c .good .0 .1 .1))
+
+last-is : (c : tie.After-horizon) → c .horizon .result ≡ horizon (jobOf (c .before .before .before .before .before .before .before .args .t1))
+last-is c = c .horizon .ensures .0 ∙ sym (last-deadline (c .before .before .before .before .before .before .before .args .t1) (arrays-long (c .before .before .before .before .before .before .before)))
+
+horizon-requires : tie.Need-horizon-requires
+horizon-requires c κs = search needs
 
 add-k : tie.Need-add-k
 add-k c = search needs
 
 mul-k : tie.Need-mul-k
-mul-k c =
-    let s = c .before .before .before .before .before .before in
-    let j = jobOf (s .args .job) in
-    let l = c .before .last-step in
-    omega (arith, few-nodes j (s .pre .0), size j (l .result) (l .ensures .0))
+mul-k c = let s = c .before .before .before .before .before .before .before in omega (arith, few-nodes (jobOf (s .args .t1)) (s .pre .0), size (jobOf (s .args .t1)) (c .horizon .result) (last-is (c)))
 
 mul-clear : tie.Need-mul-clear
-mul-clear c =
-    let s = c .before .before .before .before .before .before .before in
-    let j = jobOf (s .args .job) in
-    let l = c .before .before .last-step in
-    omega (arith, few-nodes j (s .pre .0), size j (l .result) (l .ensures .0))
+mul-clear c = let s = c .before .before .before .before .before .before .before .before in omega (arith, few-nodes (jobOf (s .args .t1)) (s .pre .0), size (jobOf (s .args .t1)) (c .before .horizon .result) (last-is (c .before)))
 
 clear-requires : tie.Need-clear-requires
 clear-requires c κs =
-    let s = c .before .before .before .before .before .before .before in
-    let j = jobOf (s .args .job) in
-    let l = c .before .before .last-step in
-    fits j (l .result) (l .ensures .0) (now (s .args .store)) (s .pre .2)
+    let s = c .before .before .before .before .before .before .before .before in
+    fits (jobOf (s .args .t1)) (c .before .horizon .result) (last-is (c .before)) (now (s .args .store)) (s .pre .2)
 
 slice-aggregate-neighbours : tie.Need-slice-aggregate-neighbours
 slice-aggregate-neighbours c = search needs
@@ -44,25 +49,31 @@ slice-aggregate-neighbours-2 : tie.Need-slice-aggregate-neighbours-2
 slice-aggregate-neighbours-2 c = search needs
 
 neighbours-requires : tie.Need-neighbours-requires
-neighbours-requires c κs = search needs
+neighbours-requires c κs =
+    let s = c .before .before .before .before .before .before .before .before .before .before .before .before .before .before .before .before in
+    (tracks-of (s .args .t1) (arrays-long s) (s .pre .0), s .pre .1 .tracks, s .pre .0 .fit .few-cells, search needs, search needs)
 
 slice-aggregate-deadlines : tie.Need-slice-aggregate-deadlines
 slice-aggregate-deadlines c = search needs
 
 deadlines-requires : tie.Need-deadlines-requires
-deadlines-requires c κs = search needs
+deadlines-requires c κs =
+    let s = c .before .before .before .before .before .before .before .before .before .before .before .before .before .before .before .before .before .before .before .before .before .before .before in
+    (calls-apart (s .args .t1) (arrays-long s) (s .pre .0), s .pre .1 .calls, search needs)
 
 slice-aggregate-carts : tie.Need-slice-aggregate-carts
 slice-aggregate-carts c = search needs
 
 carts-requires : tie.Need-carts-requires
-carts-requires c κs = search needs
+carts-requires c κs =
+    let s = c .before .before .before .before .before .before .before .before .before .before .before .before .before .before .before .before .before .before .before .before .before .before .before .before .before .before .before .before in
+    (carts-apart (s .args .t1) (arrays-long s) (s .pre .0), s .pre .1 .carts, search needs)
 
 slice-aggregate-by-deadline : tie.Need-slice-aggregate-by-deadline
 slice-aggregate-by-deadline c = search needs
 
 by-deadline-requires : tie.Need-by-deadline-requires
-by-deadline-requires c κs = search needs
+by-deadline-requires c κs = (c .before .before .before .before .before .before .before .before .before .before .before .before .before .before .before .before .before .before .before .before .before .before .before .before .before .before .before .before .before .before .before .before .before .pre .1 .calls, search needs)
 
 slice-aggregate-serve-all : tie.Need-slice-aggregate-serve-all
 slice-aggregate-serve-all c = search needs
@@ -79,12 +90,27 @@ slice-aggregate-serve-all-4 c = search needs
 slice-aggregate-serve-all-5 : tie.Need-slice-aggregate-serve-all-5
 slice-aggregate-serve-all-5 c = search needs
 
+cleared : (c : tie.After-clear) → length (c .clear .last .0) ≡ length (now (c .before .before .before .before .before .before .before .before .before .args .store))
+cleared c = clear-length (jobOf (c .before .before .before .before .before .before .before .before .before .args .t1)) (c .before .before .horizon .result) (last-is (c .before .before)) (now (c .before .before .before .before .before .before .before .before .before .args .store)) (c .before .before .before .before .before .before .before .before .before .pre .2) (c .clear .last .0) (c .clear .ensures)
+
+-- what the calls are served from
+at-start : (c : tie.After-serve-all-arg3)
+    → Begun (jobOf (c .before .before .before .before .before .before .before .before .before .before .before .before .before .before .before .before .before .before .before .before .before .before .before .before .before .before .before .before .before .before .before .before .before .before .before .before .before .before .before .before .before .before .before .before .args .t1)) (c .before .before .before .before .before .before .before .before .before .before .before .before .before .before .before .before .before .before .before .before .before .before .before .before .before .before .before .before .before .before .before .before .before .before .before .before .before .before .before .before .before .before .before .before .args .t1 .lifts) (c .before .before .before .before .before .before .before .before .before .before .before .before .before .before .before .before .before .before .before .before .before .before .before .before .before .before .before .before .before .before .before .before .before .before .before .before .before .before .before .before .before .before .before .before .args .t1 .deadlines) (c .before .before .before .before .before .before .before .before .before .before .before .before .before .before .before .before .before .before .before .before .before .before .before .before .before .before .before .before .before .before .before .before .before .before .before .before .before .before .before .before .before .before .before .before .args .t1 .calls) (c .before .before .before .before .before .before .before .before .before .before .before .before .before .before .before .before .before .before .before .before .before .before .before .before .before .before .before .neighbours .last .1 .1 .1 .1 .0) (c .before .before .before .before .before .before .before .before .before .before .before .before .before .before .before .before .before .before .before .before .before .before .before .before .before .before .before .neighbours .last .1 .1 .1 .1 .1 .0) (c .before .before .before .before .before .before .before .before .before .before .before .before .before .before .before .before .before .before .before .before .deadlines .last .1 .1 .1 .0) (c .before .before .before .before .before .before .before .before .before .before .before .before .before .before .before .carts .last .1 .1 .0) (c .before .before .before .before .before .before .before .before .before .before .by-deadline .last .1 .1 .0) (c .before .before .before .before .before .before .before .before .before .before .before .before .before .before .before .before .before .before .before .before .before .before .before .before .before .before .before .before .before .before .before .before .before .before .before .clear .last .0) (c .before .before .before .before .before .before .before .before .before .before .before .before .before .before .before .before .before .before .before .before .before .before .before .before .before .before .before .before .before .before .before .before .before .before .before .before .before .before .before .before .before .before .before .before .args .t1 .cells) ((c .before .before .before .before .before .before .before .before .before .before .before .before .before .before .before .before .before .before .before .before .before .before .before .before .before .before .before .before .before .before .before .before .before .before .before .before .before .horizon .result + 1) * c .before .before .before .before .before .before .before .before .before .before .before .before .before .before .before .before .before .before .before .before .before .before .before .before .before .before .before .before .before .before .before .before .before .before .before .before .before .before .before .before .before .before .before .before .args .t1 .cells)
+at-start c =
+    let s = c .before .before .before .before .before .before .before .before .before .before .before .before .before .before .before .before .before .before .before .before .before .before .before .before .before .before .before .before .before .before .before .before .before .before .before .before .before .before .before .before .before .before .before .before in
+    let j = jobOf (s .args .t1) in
+    let r = c .before .before .before .before .before .before .before .before .before .before .before .before .before .before .before .before .before .before .before .before .before .before .before .before .before .before .before .before .before .before .before .before .before .before .before .before .before .horizon .result in
+    let e = last-is (c .before .before .before .before .before .before .before .before .before .before .before .before .before .before .before .before .before .before .before .before .before .before .before .before .before .before .before .before .before .before .before .before .before .before .before .before .before) in
+    let t = c .before .before .before .before .before .before .before .before .before .before .before .before .before .before .before .before .before .before .before .before .before .before .before .before .before .before .before .before .before .before .before .before .before .before .before .clear .last .0 in
+    begun (s .args .t1) (arrays-long s) (s .pre .0) (size j r e) (c .before .before .before .before .before .before .before .before .before .before .before .before .before .before .before .before .before .before .before .before .before .before .before .before .before .before .before .neighbours .ensures) (c .before .before .before .before .before .before .before .before .before .before .before .before .before .before .before .before .before .before .before .before .deadlines .ensures) (c .before .before .before .before .before .before .before .before .before .before .before .before .before .before .before .carts .ensures) (c .before .before .before .before .before .before .before .before .before .before .by-deadline .ensures)
+    (clear-room j r e (now (s .args .store)) (s .pre .2) t (c .before .before .before .before .before .before .before .before .before .before .before .before .before .before .before .before .before .before .before .before .before .before .before .before .before .before .before .before .before .before .before .before .before .before .before .clear .ensures)) (clear-bytes j r e (now (s .args .store)) (s .pre .2) t (c .before .before .before .before .before .before .before .before .before .before .before .before .before .before .before .before .before .before .before .before .before .before .before .before .before .before .before .before .before .before .before .before .before .before .before .clear .ensures))
+
+-- and what comes of it
+at-end : (c : tie.After-serve-all) → FlowIn (jobOf (c .before .before .before .before .before .before .before .before .before .before .before .before .before .before .before .before .before .before .before .before .before .before .before .before .before .before .before .before .before .before .before .before .before .before .before .before .before .before .before .before .before .before .before .before .before .args .t1)) (c .serve-all .last .1 .1 .1 .1 .1 .1 .1 .1 .0) × ServedAll (jobOf (c .before .before .before .before .before .before .before .before .before .before .before .before .before .before .before .before .before .before .before .before .before .before .before .before .before .before .before .before .before .before .before .before .before .before .before .before .before .before .before .before .before .before .before .before .before .args .t1)) (c .serve-all .last .1 .1 .1 .1 .1 .1 .1 .1 .0) (c .serve-all .result)
+at-end c = c .serve-all .ensures .1 (jobOf (c .before .before .before .before .before .before .before .before .before .before .before .before .before .before .before .before .before .before .before .before .before .before .before .before .before .before .before .before .before .before .before .before .before .before .before .before .before .before .before .before .before .before .before .before .before .args .t1)) (at-start (c .before))
+
 serve-all-requires : tie.Need-serve-all-requires
-serve-all-requires c κs =
-    let s = c .before .before .before .before .before .before .before .before .before .before .before .before .before .before .before .before .before .before .before .before .before .before .before .before .before .before .before .before .before .before in
-    let j = jobOf (s .args .job) in
-    let l = c .before .before .before .before .before .before .before .before .before .before .before .before .before .before .before .before .before .before .before .before .before .before .before .before .before .last-step in
-    (s .pre .0, s .pre .1, size j (l .result) (l .ensures .0), c .before .before .before .before .before .before .before .before .before .before .before .before .before .before .before .before .before .neighbours .ensures, c .before .before .before .before .before .before .before .before .before .before .before .before .before .deadlines .ensures, c .before .before .before .before .before .before .before .before .before .before .carts .ensures, c .before .before .before .before .before .before .before .by-deadline .ensures, clear-room j (l .result) (l .ensures .0) (now (s .args .store)) (s .pre .2) (c .before .before .before .before .before .before .before .before .before .before .before .before .before .before .before .before .before .before .before .before .before .before .clear .last .0) (c .before .before .before .before .before .before .before .before .before .before .before .before .before .before .before .before .before .before .before .before .before .before .clear .ensures), clear-bytes j (l .result) (l .ensures .0) (now (s .args .store)) (s .pre .2) (c .before .before .before .before .before .before .before .before .before .before .before .before .before .before .before .before .before .before .before .before .before .before .clear .last .0) (c .before .before .before .before .before .before .before .before .before .before .before .before .before .before .before .before .before .before .before .before .before .before .clear .ensures))
+serve-all-requires c κs = (jobOf (c .before .before .before .before .before .before .before .before .before .before .before .before .before .before .before .before .before .before .before .before .before .before .before .before .before .before .before .before .before .before .before .before .before .before .before .before .before .before .before .before .before .before .before .before .args .t1), at-start c)
 
 enum-known-served : tie.Need-enum-known-served
 enum-known-served c = search needs
@@ -93,12 +119,10 @@ enum-told : tie.Need-enum-told
 enum-told c = search needs
 
 uncross-requires : tie.Need-uncross-requires
-uncross-requires c κs =
-    let s = c .before .before .before .before .before .before .before .before .before .before .before .before .before .before .before .before .before .before .before .before .before .before .before .before .before .before .before .before .before .before .before .before .before .before .before .before in
-    let j = jobOf (s .args .job) in
-    let l = c .before .before .before .before .before .before .before .before .before .before .before .before .before .before .before .before .before .before .before .before .before .before .before .before .before .before .before .before .before .before .before .last-step in
-    let r = clear-room j (l .result) (l .ensures .0) (now (s .args .store)) (s .pre .2) (c .before .before .before .before .before .before .before .before .before .before .before .before .before .before .before .before .before .before .before .before .before .before .before .before .before .before .before .before .clear .last .0) (c .before .before .before .before .before .before .before .before .before .before .before .before .before .before .before .before .before .before .before .before .before .before .before .before .before .before .before .before .clear .ensures) in
-    (s .pre .0, s .pre .1, size j (l .result) (l .ensures .0), l .ensures .0, omega (arith, r, c .before .before .before .before .before .serve-all .ensures .0), c .before .before .before .before .before .serve-all .ensures .1)
+uncross-requires c κs = (jobOf (c .before .before .before .before .before .before .before .before .before .before .before .before .before .before .before .before .before .before .before .before .before .before .before .before .before .before .before .before .before .before .before .before .before .before .before .before .before .before .before .before .before .before .before .before .before .before .before .before .before .before .args .t1), flowing (at-start (c .before .before .before .before .before .before)) (c .before .before .before .before .before .serve-all .ensures .0) (c .before .before .before .before .before .serve-all .result) (at-end (c .before .before .before .before .before)) (last-is (c .before .before .before .before .before .before .before .before .before .before .before .before .before .before .before .before .before .before .before .before .before .before .before .before .before .before .before .before .before .before .before .before .before .before .before .before .before .before .before .before .before .before .before)))
+
+calm : (c : tie.After-uncross) → Uncrossed (jobOf (c .before .before .before .before .before .before .before .before .before .before .before .before .before .before .before .before .before .before .before .before .before .before .before .before .before .before .before .before .before .before .before .before .before .before .before .before .before .before .before .before .before .before .before .before .before .before .before .before .before .before .before .args .t1)) (c .before .before .before .before .before .before .serve-all .last .1 .1 .1 .1 .1 .1 .1 .1 .0) (c .uncross .last .0)
+calm c = c .uncross .ensures (jobOf (c .before .before .before .before .before .before .before .before .before .before .before .before .before .before .before .before .before .before .before .before .before .before .before .before .before .before .before .before .before .before .before .before .before .before .before .before .before .before .before .before .before .before .before .before .before .before .before .before .before .before .before .args .t1)) (flowing (at-start (c .before .before .before .before .before .before .before)) (c .before .before .before .before .before .before .serve-all .ensures .0) (c .before .before .before .before .before .before .serve-all .result) (at-end (c .before .before .before .before .before .before)) (last-is (c .before .before .before .before .before .before .before .before .before .before .before .before .before .before .before .before .before .before .before .before .before .before .before .before .before .before .before .before .before .before .before .before .before .before .before .before .before .before .before .before .before .before .before .before)))
 
 slice-aggregate-write-paths : tie.Need-slice-aggregate-write-paths
 slice-aggregate-write-paths c = search needs
@@ -107,21 +131,10 @@ slice-aggregate-write-paths-2 : tie.Need-slice-aggregate-write-paths-2
 slice-aggregate-write-paths-2 c = search needs
 
 write-paths-requires : tie.Need-write-paths-requires
-write-paths-requires c κs =
-    let s = c .before .before .before .before .before .before .before .before .before .before .before .before .before .before .before .before .before .before .before .before .before .before .before .before .before .before .before .before .before .before .before .before .before .before .before .before .before .before .before .before .before .before .before .before .before in
-    let j = jobOf (s .args .job) in
-    let l = c .before .before .before .before .before .before .before .before .before .before .before .before .before .before .before .before .before .before .before .before .before .before .before .before .before .before .before .before .before .before .before .before .before .before .before .before .before .before .before .before .last-step in
-    let r = clear-room j (l .result) (l .ensures .0) (now (s .args .store)) (s .pre .2) (c .before .before .before .before .before .before .before .before .before .before .before .before .before .before .before .before .before .before .before .before .before .before .before .before .before .before .before .before .before .before .before .before .before .before .before .before .before .clear .last .0) (c .before .before .before .before .before .before .before .before .before .before .before .before .before .before .before .before .before .before .before .before .before .before .before .before .before .before .before .before .before .before .before .before .before .before .before .before .before .clear .ensures) in
-    let a = c .before .before .before .before .before .before .before .before .before .before .before .before .before .before .serve-all in
-    let u = c .before .before .before .before .before .before .before .before .uncross .ensures in
-    (s .pre .0, s .pre .1, size j (l .result) (l .ensures .0), c .before .before .before .before .before .before .before .before .before .before .before .before .before .before .before .before .before .before .before .before .before .before .before .before .before .carts .ensures, c .before .before .before .before .before .before .before .before .before .before .before .before .before .before .before .before .before .before .before .before .before .before .by-deadline .ensures, omega (arith, r, a .ensures .0, u .long), u .flow, u .calm, all-still u (a .result) (c .before .before .before .before .before .before .before .before .before .before .enum-told .given .1) (a .ensures .2), s .pre .3)
+write-paths-requires c κs = ((jobOf (c .before .before .before .before .before .before .before .before .before .before .before .before .before .before .before .before .before .before .before .before .before .before .before .before .before .before .before .before .before .before .before .before .before .before .before .before .before .before .before .before .before .before .before .before .before .before .before .before .before .before .before .before .before .before .before .before .before .before .before .before .before .before .args .t1), full (at-start (c .before .before .before .before .before .before .before .before .before .before .before .before .before .before .before .before .before .before)) (c .before .before .before .before .before .before .before .before .before .before .before .before .before .before .before .before .before .serve-all .ensures .0) (c .before .before .before .before .before .before .before .before .before .before .before .before .before .before .before .before .before .serve-all .result) (at-end (c .before .before .before .before .before .before .before .before .before .before .before .before .before .before .before .before .before)) (c .before .before .before .before .before .before .before .before .before .before .before .before .before .enum-told .given .1) (calm (c .before .before .before .before .before .before .before .before .before .before .before))), c .before .before .before .before .before .before .before .before .before .before .before .before .before .before .before .before .before .before .before .before .before .before .before .before .before .before .before .before .before .before .before .before .before .before .before .before .before .before .before .before .before .before .before .before .before .before .before .before .before .before .before .before .before .before .before .before .before .before .before .before .before .before .pre .3)
 
 same-length : tie.Need-same-length
-same-length c =
-    let s = c .before .before .before .before .before .before .before .before .before .before .before .before .before .before .before .before .before .before .before .before .before .before .before .before .before .before .before .before .before .before .before .before .before .before .before .before .before .before .before .before .before .before .before .before .before .before .before .before .before .before .before .before in
-    let j = jobOf (s .args .job) in
-    let l = c .before .before .before .before .before .before .before .before .before .before .before .before .before .before .before .before .before .before .before .before .before .before .before .before .before .before .before .before .before .before .before .before .before .before .before .before .before .before .before .before .before .before .before .before .before .before .before .last-step in
-    c .before .before .before .before .before .before .before .before .before .before .before .before .before .before .before .uncross .ensures .long ∙ c .before .before .before .before .before .before .before .before .before .before .before .before .before .before .before .before .before .before .before .before .before .serve-all .ensures .0 ∙ clear-length j (l .result) (l .ensures .0) (now (s .args .store)) (s .pre .2) (c .before .before .before .before .before .before .before .before .before .before .before .before .before .before .before .before .before .before .before .before .before .before .before .before .before .before .before .before .before .before .before .before .before .before .before .before .before .before .before .before .before .before .before .before .clear .last .0) (c .before .before .before .before .before .before .before .before .before .before .before .before .before .before .before .before .before .before .before .before .before .before .before .before .before .before .before .before .before .before .before .before .before .before .before .before .before .before .before .before .before .before .before .before .clear .ensures)
+same-length c = calm (c .before .before .before .before .before .before .before .before .before .before .before .before .before .before .before .before .before .before) .long ∙ c .before .before .before .before .before .before .before .before .before .before .before .before .before .before .before .before .before .before .before .before .before .before .before .before .serve-all .ensures .0 ∙ cleared (c .before .before .before .before .before .before .before .before .before .before .before .before .before .before .before .before .before .before .before .before .before .before .before .before .before .before .before .before .before .before .before .before .before .before .before .before .before .before .before .before .before .before .before .before .before .before .before .before .before .before .before .before .before .before .before .before .before .before .before .before)
 
 same-length-2 : tie.Need-same-length-2
 same-length-2 c = search needs
@@ -133,30 +146,20 @@ same-length-4 : tie.Need-same-length-4
 same-length-4 c = search needs
 
 returns : tie.Need-returns
-returns c =
-    let s = c .before .before .before .before .before .before .before .before .before .before .before .before .before .before .before .before .before .before .before .before .before .before .before .before .before .before .before .before .before .before .before .before .before .before .before .before .before .before .before .before .before .before .before .before .before .before .before .before .before .before .before .before in
-    let j = jobOf (s .args .job) in
-    let l = c .before .before .before .before .before .before .before .before .before .before .before .before .before .before .before .before .before .before .before .before .before .before .before .before .before .before .before .before .before .before .before .before .before .before .before .before .before .before .before .before .before .before .before .before .before .before .before .last-step in
-    (c .before .before .before .before .before .before .before .before .before .before .before .before .before .before .before .uncross .ensures .long ∙ c .before .before .before .before .before .before .before .before .before .before .before .before .before .before .before .before .before .before .before .before .before .serve-all .ensures .0 ∙ clear-length j (l .result) (l .ensures .0) (now (s .args .store)) (s .pre .2) (c .before .before .before .before .before .before .before .before .before .before .before .before .before .before .before .before .before .before .before .before .before .before .before .before .before .before .before .before .before .before .before .before .before .before .before .before .before .before .before .before .before .before .before .before .clear .last .0) (c .before .before .before .before .before .before .before .before .before .before .before .before .before .before .before .before .before .before .before .before .before .before .before .before .before .before .before .before .before .before .before .before .before .before .before .before .before .before .before .before .before .before .before .before .clear .ensures), c .before .before .before .before .before .before .write-paths .ensures .0, c .before .before .before .before .before .before .write-paths .ensures .1)
+returns c = (
+  calm (c .before .before .before .before .before .before .before .before .before .before .before .before .before .before .before .before .before .before) .long ∙ c .before .before .before .before .before .before .before .before .before .before .before .before .before .before .before .before .before .before .before .before .before .before .before .before .serve-all .ensures .0 ∙ cleared (c .before .before .before .before .before .before .before .before .before .before .before .before .before .before .before .before .before .before .before .before .before .before .before .before .before .before .before .before .before .before .before .before .before .before .before .before .before .before .before .before .before .before .before .before .before .before .before .before .before .before .before .before .before .before .before .before .before .before .before .before),
+  c .before .before .before .before .before .before .write-paths .ensures .0,
+  c .before .before .before .before .before .before .write-paths .ensures .1 (jobOf (c .before .before .before .before .before .before .before .before .before .before .before .before .before .before .before .before .before .before .before .before .before .before .before .before .before .before .before .before .before .before .before .before .before .before .before .before .before .before .before .before .before .before .before .before .before .before .before .before .before .before .before .before .before .before .before .before .before .before .before .before .before .before .before .before .before .before .before .before .before .args .t1)) (full (at-start (c .before .before .before .before .before .before .before .before .before .before .before .before .before .before .before .before .before .before .before .before .before .before .before .before .before)) (c .before .before .before .before .before .before .before .before .before .before .before .before .before .before .before .before .before .before .before .before .before .before .before .before .serve-all .ensures .0) (c .before .before .before .before .before .before .before .before .before .before .before .before .before .before .before .before .before .before .before .before .before .before .before .before .serve-all .result) (at-end (c .before .before .before .before .before .before .before .before .before .before .before .before .before .before .before .before .before .before .before .before .before .before .before .before)) (c .before .before .before .before .before .before .before .before .before .before .before .before .before .before .before .before .before .before .before .before .enum-told .given .1) (calm (c .before .before .before .before .before .before .before .before .before .before .before .before .before .before .before .before .before .before))),
+)
 
 slice-aggregate-list-chokes : tie.Need-slice-aggregate-list-chokes
 slice-aggregate-list-chokes c = search needs
 
 list-chokes-requires : tie.Need-list-chokes-requires
-list-chokes-requires c κs =
-    let s = c .before .before .before .before .before .before .before .before .before .before .before .before .before .before .before .before .before .before .before .before .before .before .before .before .before .before .before .before .before .before .before .before .before .before .before .before .before .before .before .before in
-    let j = jobOf (s .args .job) in
-    let l = c .before .before .before .before .before .before .before .before .before .before .before .before .before .before .before .before .before .before .before .before .before .before .before .before .before .before .before .before .before .before .before .before .before .before .before .last-step in
-    let r = clear-room j (l .result) (l .ensures .0) (now (s .args .store)) (s .pre .2) (c .before .before .before .before .before .before .before .before .before .before .before .before .before .before .before .before .before .before .before .before .before .before .before .before .before .before .before .before .before .before .before .before .clear .last .0) (c .before .before .before .before .before .before .before .before .before .before .before .before .before .before .before .before .before .before .before .before .before .before .before .before .before .before .before .before .before .before .before .before .clear .ensures) in
-    let a = c .before .before .before .before .before .before .before .before .before .serve-all in
-    (s .pre .0, s .pre .1, size j (l .result) (l .ensures .0), l .ensures .0, c .before .before .before .before .before .before .before .before .before .before .before .before .before .before .before .before .before .before .before .before .before .before .before .deadlines .ensures, omega (arith, r, a .ensures .0), a .ensures .1, stuck j (a .last .1 .1 .1 .1 .1 .1 .0) (a .result) (c .before .before .before .before .before .served .given .1) (a .ensures .2), s .pre .3 .firsts, s .pre .3 .seconds)
+list-chokes-requires c κs = ((jobOf (c .before .before .before .before .before .before .before .before .before .before .before .before .before .before .before .before .before .before .before .before .before .before .before .before .before .before .before .before .before .before .before .before .before .before .before .before .before .before .before .before .before .before .before .before .before .before .before .before .before .before .before .before .before .before .args .t1), stuck (at-start (c .before .before .before .before .before .before .before .before .before .before)) (c .before .before .before .before .before .before .before .before .before .serve-all .ensures .0) (c .before .before .before .before .before .before .before .before .before .serve-all .result) (at-end (c .before .before .before .before .before .before .before .before .before)) (c .before .before .before .before .before .served .given .1) (last-is (c .before .before .before .before .before .before .before .before .before .before .before .before .before .before .before .before .before .before .before .before .before .before .before .before .before .before .before .before .before .before .before .before .before .before .before .before .before .before .before .before .before .before .before .before .before .before .before))), c .before .before .before .before .before .before .before .before .before .before .before .before .before .before .before .before .before .before .before .before .before .before .before .before .before .before .before .before .before .before .before .before .before .before .before .before .before .before .before .before .before .before .before .before .before .before .before .before .before .before .before .before .before .before .pre .3 .firsts, c .before .before .before .before .before .before .before .before .before .before .before .before .before .before .before .before .before .before .before .before .before .before .before .before .before .before .before .before .before .before .before .before .before .before .before .before .before .before .before .before .before .before .before .before .before .before .before .before .before .before .before .before .before .before .pre .3 .seconds)
 
 same-length-5 : tie.Need-same-length-5
-same-length-5 c =
-    let s = c .before .before .before .before .before .before .before .before .before .before .before .before .before .before .before .before .before .before .before .before .before .before .before .before .before .before .before .before .before .before .before .before .before .before .before .before .before .before .before .before .before .before .before .before .before in
-    let j = jobOf (s .args .job) in
-    let l = c .before .before .before .before .before .before .before .before .before .before .before .before .before .before .before .before .before .before .before .before .before .before .before .before .before .before .before .before .before .before .before .before .before .before .before .before .before .before .before .before .last-step in
-    c .before .before .before .before .before .before .before .before .before .before .before .before .before .before .serve-all .ensures .0 ∙ clear-length j (l .result) (l .ensures .0) (now (s .args .store)) (s .pre .2) (c .before .before .before .before .before .before .before .before .before .before .before .before .before .before .before .before .before .before .before .before .before .before .before .before .before .before .before .before .before .before .before .before .before .before .before .before .before .clear .last .0) (c .before .before .before .before .before .before .before .before .before .before .before .before .before .before .before .before .before .before .before .before .before .before .before .before .before .before .before .before .before .before .before .before .before .before .before .before .before .clear .ensures)
+same-length-5 c = c .before .before .before .before .before .before .before .before .before .before .before .before .before .before .serve-all .ensures .0 ∙ cleared (c .before .before .before .before .before .before .before .before .before .before .before .before .before .before .before .before .before .before .before .before .before .before .before .before .before .before .before .before .before .before .before .before .before .before .before .before .before .before .before .before .before .before .before .before .before .before .before .before .before .before)
 
 same-length-6 : tie.Need-same-length-6
 same-length-6 c = search needs
@@ -166,17 +169,17 @@ same-length-7 c = search needs
 
 returns-2 : tie.Need-returns-2
 returns-2 c =
-    let s = c .before .before .before .before .before .before .before .before .before .before .before .before .before .before .before .before .before .before .before .before .before .before .before .before .before .before .before .before .before .before .before .before .before .before .before .before .before .before .before .before .before .before .before .before .before in
-    let j = jobOf (s .args .job) in
-    let l = c .before .before .before .before .before .before .before .before .before .before .before .before .before .before .before .before .before .before .before .before .before .before .before .before .before .before .before .before .before .before .before .before .before .before .before .before .before .before .before .before .last-step in
-    let h = c .before .before .before .before .list-chokes .ensures in
-    (c .before .before .before .before .before .before .before .before .before .before .before .before .before .before .serve-all .ensures .0 ∙ clear-length j (l .result) (l .ensures .0) (now (s .args .store)) (s .pre .2) (c .before .before .before .before .before .before .before .before .before .before .before .before .before .before .before .before .before .before .before .before .before .before .before .before .before .before .before .before .before .before .before .before .before .before .before .before .before .clear .last .0) (c .before .before .before .before .before .before .before .before .before .before .before .before .before .before .before .before .before .before .before .before .before .before .before .before .before .before .before .before .before .before .before .before .before .before .before .before .before .clear .ensures), record { firsts = h .0; seconds = h .1; cells = s .pre .3 .cells }, h .2)
+    let h = c .before .before .before .before .list-chokes .ensures in (
+      c .before .before .before .before .before .before .before .before .before .before .before .before .before .before .serve-all .ensures .0 ∙ cleared (c .before .before .before .before .before .before .before .before .before .before .before .before .before .before .before .before .before .before .before .before .before .before .before .before .before .before .before .before .before .before .before .before .before .before .before .before .before .before .before .before .before .before .before .before .before .before .before .before .before .before),
+      record { firsts = h .0; seconds = h .1; cells = c .before .before .before .before .before .before .before .before .before .before .before .before .before .before .before .before .before .before .before .before .before .before .before .before .before .before .before .before .before .before .before .before .before .before .before .before .before .before .before .before .before .before .before .before .before .before .before .before .before .before .before .before .before .before .before .before .before .before .before .pre .3 .cells },
+      h .2 (jobOf (c .before .before .before .before .before .before .before .before .before .before .before .before .before .before .before .before .before .before .before .before .before .before .before .before .before .before .before .before .before .before .before .before .before .before .before .before .before .before .before .before .before .before .before .before .before .before .before .before .before .before .before .before .before .before .before .before .before .before .before .args .t1)) (stuck (at-start (c .before .before .before .before .before .before .before .before .before .before .before .before .before .before .before)) (c .before .before .before .before .before .before .before .before .before .before .before .before .before .before .serve-all .ensures .0) (c .before .before .before .before .before .before .before .before .before .before .before .before .before .before .serve-all .result) (at-end (c .before .before .before .before .before .before .before .before .before .before .before .before .before .before)) (c .before .before .before .before .before .before .before .before .before .before .served .given .1) (last-is (c .before .before .before .before .before .before .before .before .before .before .before .before .before .before .before .before .before .before .before .before .before .before .before .before .before .before .before .before .before .before .before .before .before .before .before .before .before .before .before .before .before .before .before .before .before .before .before .before .before .before .before .before))),
+    )
 
 pub solve-spec : {M : Type 1} → statement M
 solve-spec =
     tie.close
     (tie.spec
-    last-step-requires
+    horizon-requires
     add-k
     mul-k
     mul-clear
