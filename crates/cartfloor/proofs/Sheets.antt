@@ -1,25 +1,22 @@
 -- A right answer can be written: a plan's paths are known, choke points are fewer than the calls, and the text of either is short. What is then written
--- is the planner's answer. A walk stays on the floor by induction over its steps. Assumes nothing.
-use Prim.Native.Nat.{ℕ, zero, suc, _+_, _*_, _≤_, _<_}
+-- is the planner's answer. Assumes nothing.
+use Prim.Native.Nat.{ℕ, _+_, _*_, _≤_, _<_}
 use mathlib.Core.Path.{_≡_, refl, sym, _∙_}
 use mathlib.Core.List.{List, [], _∷_}
-use mathlib.Core.Bool.{Bool, true, false, _&&_}
+use mathlib.Core.Bool.{Bool, true, false}
 use mathlib.Core.Logic.{inl, inr}
 use native.Mathlib.Omega.{arith}
-use lib.Dec.{eqb, ltb}
-use lib.ListN.{length, getD, take, length-append}
+use lib.Dec.{ltb}
+use lib.ListN.{length, take, length-append}
 use lib.Seq.{take-all}
-use borrow.Author.Tests.{lt-ltb, eq-eqb, ltb-true, ltb-false}
+use borrow.Author.Tests.{ltb-true, ltb-false}
 use Rattle.model.specs.Text.{line, planWord, pathWord, cannotWord, chokeWord}
-use Rattle.model.specs.Job.{Job, track, cartCell, callOf}
+use Rattle.model.specs.Job.{Job, callOf}
 use Rattle.model.specs.Ready.{Fit}
-use Rattle.model.specs.Walk.{Step, Walk}
 use Rattle.model.specs.Plan.{Path, Leads, Plan}
 use Rattle.model.specs.Choke.{Point, point, TrueChokes}
 use Rattle.model.specs.SheetText.{linesText, pathNumbers, chokeNumbers, planText, cannotText}
-use Rattle.model.specs.ReadSheet.{allBelow, knownPath}
 use Rattle.model.specs.Contracts.{RightPlan, RightChokes}
-use Rattle.model.proofs.Basics.{and-both}
 use Rattle.model.proofs.Lists.{in-getD}
 use Rattle.model.proofs.Weak.{weak}
 use Rattle.job.specs.Held.{pointsOf}
@@ -28,33 +25,7 @@ use Rattle.text.specs.Wrote.{Wrote}
 use Rattle.text.proofs.Wrote.{wrote-whole, line-room, lines-room}
 use Rattle.cartfloor.specs.Written.{Written}
 
-below-of : (n : ℕ) (w : List ℕ) → ((t : ℕ) → t < length w → getD w t 0 < n) → allBelow n w ≡ true
-below-of n [] h = refl
-below-of n (a ∷ w) h = and-both (ltb a n) (allBelow n w) (lt-ltb a n (h 0 (omega arith))) (below-of n w (λ t l. h (suc t) (omega arith)))
-
 module _ (j : Job) (f : Fit j) where
-  step-known : (t u v : ℕ) → u < j .cells → Step j t u v → v < j .cells
-  step-known t u v h (inl e) = rw e at h
-  step-known t u v h (inr (inl m)) = f .known-tracks (track u v) m .1
-  step-known t u v h (inr (inr m)) = f .known-tracks (track v u) m .0
-
-  walk-known : (c : ℕ) (w : List ℕ) → c < j .cells → Walk j c w → (t : ℕ) → t < length w → getD w t 0 < j .cells
-  walk-known c w h k zero l = rw (k .starts .1) h
-  walk-known c w h k (suc t) l = step-known t (getD w t 0) (getD w (suc t) 0) (walk-known c w h k t (omega arith)) (k .steps t l)
-
-  pub path-known : (p : Path) → Leads j p → knownPath j p ≡ true
-  path-known p l =
-      let x₁ = ltb (p .cart) (length (j .carts)) in
-      let x₂ = ltb (p .call) (length (j .calls)) in
-      let x₃ = eqb (length (p .cells)) (suc (callOf j (p .call) .deadline)) in
-      let x₄ = allBelow (j .cells) (p .cells) in
-      let c : cartCell j (p .cart) < j .cells = f .known-carts (cartCell j (p .cart)) (in-getD (j .carts) (p .cart) 0 (l .known-cart)) in
-      and-both (x₁ && x₂ && x₃) x₄
-      (and-both (x₁ && x₂) x₃
-      (and-both x₁ x₂ (lt-ltb (p .cart) (length (j .carts)) (l .known-cart)) (lt-ltb (p .call) (length (j .calls)) (l .known-call)))
-      (eq-eqb (length (p .cells)) (suc (callOf j (p .call) .deadline)) (l .serves .size)))
-      (below-of (j .cells) (p .cells) (walk-known (cartCell j (p .cart)) (p .cells) c (l .walks)))
-
   path-short : (p : Path) → Leads j p → length (line pathWord (pathNumbers p)) ≤ 1037
   path-short p l =
       let d = f .known-calls (callOf j (p .call)) (in-getD (j .calls) (p .call) _ (l .known-call)) .1 in

@@ -2,11 +2,12 @@
 -- By cases on the reader's answer and on the two tests of lengths. Assumes nothing.
 use Prim.Native.Nat.{ℕ, _+_, _*_, _≤_, _<_}
 use mathlib.Core.Path.{_≡_, refl, sym, ap, subst, _∙_}
-use mathlib.Core.List.{List, []}
+use mathlib.Core.List.{List, [], _++_, append-nil}
 use mathlib.Core.Bool.{cond}
 use native.Mathlib.Omega.{arith}
 use lib.Dec.{ltb}
-use lib.ListN.{length}
+use lib.ListN.{length, drop, replicate}
+use lib.Seq.{drop-length}
 use borrow.Author.Tests.{lt-ltb, le-ltb}
 use Rattle.model.specs.Job.{Job, storeLeast, sheetLeast}
 use Rattle.model.specs.ReadJob.{Verdict, refused, accepted, readJob}
@@ -99,6 +100,10 @@ module _ (text : List ℕ) (n : ℕ) where
 
       pub long-room : sheetLeast j ≤ m → planVerdict text n m ≡ accepted j
       long-room h = ap (withRoom m) e ∙ ap (λ t. cond t (refused 10 0) (accepted j)) (le-ltb m (sheetLeast j) h)
+
+-- As many bytes cleared as were lent: all of them.
+pub cleared : (lent s : List ℕ) → length s ≡ length lent → replicate (length lent) 0 ++ drop (length lent) s ≡ zeros lent
+cleared lent s e = rw (sym e, drop-length, append-nil)
 
 -- The check: only an answer below 2 wipes the store.
 module _ (text store sheet : List ℕ) (r : ℕ) where

@@ -1,8 +1,8 @@
 // The check: a sheet from any hand, against its job. It works in locals, and touches the store only to wipe it.
 use crate::refuse;
-use crate::wipe;
 use job::state::Job;
 use model::Limits;
+use model::bytes::clear;
 use sheet::form::Form;
 ghost use mathlib.Core.Path.{_≡_};
 ghost use Rattle.model.specs.Ready.{Ready};
@@ -49,12 +49,14 @@ pub extern "C" fn cartfloor_check(text: &[u8], store: &mut [u8], sheet: &[u8]) -
     if back != 0 {
         return back;
     }
-    if store.len() < job::size::store_least(held) {
+    let least = job::size::store_least(held);
+    let lent = store.len();
+    if lent < least {
         return 9;
     }
     let r = judge_sheet(held, sheet);
     if r < 2 {
-        wipe::wipe(store);
+        clear(store, lent);
     }
     r
 }

@@ -2,4 +2,3 @@
 pub mod check;
 pub mod plan;
 pub mod refuse;
-pub mod wipe;

@@ -1,8 +1,8 @@
 // The planner: every refusal is decided before a byte is written.
 use crate::refuse;
-use crate::wipe;
 use job::state::Job;
 use model::Limits;
+use model::bytes::clear;
 use planner::solve;
 use planner::solve::Outcome;
 ghost use mathlib.Core.Path.{_≡_};
@@ -46,13 +46,15 @@ pub extern "C" fn cartfloor_plan(text: &[u8], store: &mut [u8], sheet: &mut [u8]
     if back != 0 {
         return back;
     }
-    if store.len() < job::size::store_least(held) {
+    let least = job::size::store_least(held);
+    let lent = store.len();
+    if lent < least {
         return 9;
     }
     if sheet.len() < job::size::sheet_least(held) {
         return 10;
     }
     let r = plan_job(held, store, sheet);
-    wipe::wipe(store);
+    clear(store, lent);
     r
 }

@@ -1,6 +1,6 @@
 -- `check::cartfloor_check` meets the check's contract. Each return is a case of the verdict: the text turned back, the store too short, the sheet judged;
 -- only an answer below 2 wipes the store. Assumes nothing.
-use mathlib.Core.Path.{_≡_}
+use mathlib.Core.Path.{_≡_, refl, _∙_}
 use denote.Ref.{now}
 use lib.ListN.{length}
 use native.Mathlib.Omega.{arith}
@@ -8,7 +8,7 @@ use Rattle.model.specs.ReadJob.{readJob, accepted}
 use Rattle.model.specs.Ready.{Ready}
 use Rattle.model.specs.Contracts.{checkVerdict}
 use Rattle.job.specs.Arrays.{jobOf}
-use Rattle.cartfloor.proofs.Verdicts.{turned-back, let-through, ready, back-store, short-store, long-store, back-checked, passed-checked, failed-checked}
+use Rattle.cartfloor.proofs.Verdicts.{turned-back, let-through, ready, back-store, short-store, long-store, back-checked, cleared, passed-checked, failed-checked}
 use borrow.Author.Needs.{needs}
 use Rattle.cartfloor.proofs.check.cartfloor_check.Statement.{statement}
 use Rattle.cartfloor.proofs.check.cartfloor_check.Tie as tie
@@ -55,8 +55,8 @@ returns-2 c =
 judge-sheet-requires : tie.Need-judge-sheet-requires
 judge-sheet-requires c κs = (whole (c .before .before), c .before .before .before .before .before .read .ensures .sized)
 
-wipe-requires : tie.Need-wipe-requires
-wipe-requires c κs = search needs
+clear-requires : tie.Need-clear-requires
+clear-requires c κs = search needs
 
 same-length : tie.Need-same-length
 same-length c = search needs
@@ -65,8 +65,8 @@ returns-3 : tie.Need-returns-3
 returns-3 c =
     let a = c .before .before .before .before .before .before .before .before .before .before .before .before .before .before .before .args in
     let r = c .before .before .before .before .before .judge-sheet in
-    passed-checked (now (a .text)) (now (a .store)) (now (a .sheet)) (r .result) (jobOf (c .before .before .before .before .before .before .before .before .before .before .before .read .result .job)) (held (c .before .before .before .before .before .before)) (r .ensures) _ (c .before .before .before .before .if3 .taken)
-    (c .before .before .wipe .ensures)
+    passed-checked (now (a .text)) (now (a .store)) (now (a .sheet)) (r .result) (jobOf (c .before .before .before .before .before .before .before .before .before .before .before .read .result .job)) (held (c .before .before .before .before .before .before)) (r .ensures) _ (omega (arith, c .before .before .before .before .if3 .taken))
+    (c .before .before .clear .ensures ∙ cleared (now (a .store)) (now (a .store)) refl)
 
 returns-4 : tie.Need-returns-4
 returns-4 c =
@@ -84,7 +84,7 @@ cartfloor-check-spec =
     store-least-requires
     returns-2
     judge-sheet-requires
-    wipe-requires
+    clear-requires
     same-length
     returns-3
     returns-4)

@@ -10,7 +10,7 @@ use Rattle.model.specs.ReadJob.{readJob, accepted}
 use Rattle.model.specs.Ready.{Ready}
 use Rattle.model.specs.Contracts.{checkVerdict}
 use Rattle.job.specs.Arrays.{jobOf}
-use Rattle.cartfloor.proofs.Verdicts.{turned-back, let-through, ready, back-store, short-store, long-store, back-room, short-room, long-room, back-planned, written-planned}
+use Rattle.cartfloor.proofs.Verdicts.{turned-back, let-through, ready, back-store, short-store, long-store, back-room, short-room, long-room, cleared, back-planned, written-planned}
 use borrow.Author.Needs.{needs}
 use Rattle.cartfloor.proofs.plan.cartfloor_plan.Statement.{statement}
 use Rattle.cartfloor.proofs.plan.cartfloor_plan.Tie as tie
@@ -75,8 +75,8 @@ returns-3 c =
 plan-job-requires : tie.Need-plan-job-requires
 plan-job-requires c κs = (whole (c .before .before .before .before .before .before), c .before .before .before .before .before .before .before .before .before .read .ensures .sized, stored (c .before .before .before .before), roomy (c .before .before))
 
-wipe-requires : tie.Need-wipe-requires
-wipe-requires c κs = search needs
+clear-requires : tie.Need-clear-requires
+clear-requires c κs = search needs
 
 same-length : tie.Need-same-length
 same-length c = search needs
@@ -91,7 +91,7 @@ returns-4 c =
     let j = jobOf (c .before .before .before .before .before .before .before .before .before .before .before .before .before .before .before .before .before .before .read .result .job) in
     let e = long-room (now (a .text)) (length (now (a .store))) (length (now (a .sheet))) j (held (c .before .before .before .before .before .before .before .before .before .before .before .before .before)) (roomy (c .before .before .before .before .before .before .before .before .before .before .before)) in
     written-planned (now (a .text)) (now (a .store)) (now (a .sheet)) (r .result) j e _ _
-    (c .before .before .wipe .ensures ∙ ap (λ (n : ℕ). replicate n 0) (r .ensures .0)) (r .ensures .1)
+    (c .before .before .clear .ensures ∙ cleared (now (a .store)) (r .last .1 .0) (r .ensures .0)) (r .ensures .1)
 
 pub cartfloor-plan-spec : {M : Type 1} → statement M
 cartfloor-plan-spec =
@@ -105,7 +105,7 @@ cartfloor-plan-spec =
     sheet-least-requires
     returns-3
     plan-job-requires
-    wipe-requires
+    clear-requires
     same-length
     same-length-2
     returns-4)

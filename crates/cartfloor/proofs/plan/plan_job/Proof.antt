@@ -15,7 +15,8 @@ use Rattle.job.proofs.Arrays.{long, whole, calls-count}
 use Rattle.planner.specs.declared.solve.Outcome.{Outcome}
 use Rattle.planner.specs.declared.solve.Outcome.the-variants.{Plan, Cannot}
 use Rattle.planner.specs.Solved.{Solved}
-use Rattle.cartfloor.proofs.Sheets.{path-known, plan-short, chokes-short, points-few, plan-written, chokes-written}
+use Rattle.model.proofs.Floor.{path-known}
+use Rattle.cartfloor.proofs.Sheets.{plan-short, chokes-short, points-few, plan-written, chokes-written}
 use borrow.Author.Needs.{needs}
 use Rattle.cartfloor.proofs.plan.plan_job.Statement.{statement}
 use Rattle.cartfloor.proofs.plan.plan_job.Tie as tie
