@@ -1,0 +1,49 @@
+//! How much the search does: free of noise. The baseline is made to go as the library goes, and counts.
+
+use harness::baseline::{plan_by, Mode};
+
+#[derive(Clone, Copy, Default)]
+pub struct Counts {
+    /// Positions put on the stack.
+    pub visits: usize,
+    /// Neighbours looked at from a position.
+    pub looks: usize,
+}
+
+/// As the library: standing first, and every scan from the first neighbour.
+#[derive(Default)]
+struct AsLibrary(Counts);
+
+impl Mode for AsLibrary {
+    const STAND_FIRST: bool = true;
+    const KEEP_PLACE: bool = false;
+    fn visit(&mut self) {
+        self.0.visits += 1;
+    }
+    fn look(&mut self) {
+        self.0.looks += 1;
+    }
+}
+
+/// The same positions in the same order, with each one's place in the neighbour list kept.
+#[derive(Default)]
+struct KeepingPlace(Counts);
+
+impl Mode for KeepingPlace {
+    const STAND_FIRST: bool = true;
+    fn visit(&mut self) {
+        self.0.visits += 1;
+    }
+    fn look(&mut self) {
+        self.0.looks += 1;
+    }
+}
+
+/// The counts of the library's search, and of one that keeps places. That they are the library's shows in the sheet.
+pub fn counts(text: &[u8], store: &mut [u8], sheet: &mut [u8], library_sheet: &[u8]) -> (Counts, Counts) {
+    let (mut library, mut keeping) = (AsLibrary::default(), KeepingPlace::default());
+    let answer = plan_by(&mut library, text, store, sheet);
+    assert_eq!(&sheet[..(answer / 256) as usize], library_sheet, "the library searches in another way");
+    plan_by(&mut keeping, text, store, sheet);
+    (library.0, keeping.0)
+}

@@ -1,0 +1,87 @@
+//! How fast the library is. `./bench` at the top of the repository builds and runs it.
+//!
+//! For every job of every family, by turns in one process and in processor time of the thread: the planner's call, the
+//! baseline's, the wiping of the store alone, the check of the planner's sheet, and the max-flow libraries that are there.
+
+mod clock;
+mod counts;
+mod families;
+mod floors;
+mod measure;
+mod peers;
+mod report;
+mod table;
+mod tight;
+
+use families::{renumbered, Size, FAMILIES, LIMITS, OPEN_GRID};
+use harness::gen::Rng;
+use harness::model::job::Job;
+use measure::{measure, Effort};
+use peers::Peer;
+use report::Family;
+
+const FULL: Effort = Effort { rounds: 40, peer_rounds: 4 };
+const QUICK: Effort = Effort { rounds: 3, peer_rounds: 0 };
+const SIDES: [usize; 5] = [4, 7, 10, 13, 16];
+
+/// What the tables mean.
+const WORDS: &str = "\
+- plan: the library's call whole. baseline: `harness/src/baseline.rs`, the same algorithm in plain Rust, in the same buffers.
+- memset: the wiping of the store alone, which both of these include. check: the library's check of the planner's sheet.
+- Peers: max flow on the network of cells and steps, from numbers instead of a text, building included, in the better direction:
+  LEMON Preflow, igraph_maxflow_value, Boost push_relabel_max_flow. The best peer is that of each job.
+- Times are processor time of the thread, by turns in one process; the best of many runs counts.
+- A node is a cell at a step. A visit puts a position on the search's stack; a look is at one of its neighbours. Place kept: the
+  looks, if each position on the stack kept its place in the neighbour list.
+";
+
+fn main() {
+    let words: Vec<String> = std::env::args().collect();
+    let after = |word: &str| words.iter().skip_while(|w| *w != word).nth(1);
+    let is_quick = words.iter().any(|w| w == "--quick");
+    let effort = if is_quick { QUICK } else { FULL };
+    let peers = peers::load(after("--peers").map_or("target/peers", |folder| folder));
+
+    let mut families = Vec::new();
+    for family in FAMILIES.iter().filter(|f| after("--only").is_none_or(|name| f.name == name)) {
+        eprintln!("{}", family.name);
+        let plain = family.jobs(is_quick);
+        let other: Vec<Job> = plain.iter().zip(1..).map(|(job, seed)| renumbered(job, &mut Rng::new(seed))).collect();
+        families.push(measured(family.name, &plain, &peers, effort));
+        families.push(measured(&format!("{}, renumbered", family.name), &other, &peers, effort));
+    }
+    let at_limits: Vec<Job> = (0..6).map(|i| OPEN_GRID.job(LIMITS, i)).collect();
+    let open_grid = measured("open grid at the limits", &at_limits, &[], effort);
+    let sizes: Vec<(Size, Family)> = SIDES.into_iter().map(of_side).collect();
+
+    report::ratios(&families, &open_grid);
+    let names: Vec<&str> = peers.iter().map(|p| p.name).collect();
+    let missing: Vec<&str> = peers::NAMES.into_iter().filter(|name| !names.contains(name)).collect();
+    println!("Peers: {}. Missing: {}.\n", listed(&names), listed(&missing));
+    println!("{WORDS}");
+    println!("## Ratios, the median of a family and its worst job\n");
+    report::family_ratios(&families);
+    println!("## Microseconds, the median of a family and its longest\n");
+    report::family_times(&families, &names);
+    println!("## Growth\n");
+    report::growth(&sizes);
+}
+
+fn measured(name: &str, jobs: &[Job], peers: &[Peer], effort: Effort) -> Family {
+    Family { name: name.into(), jobs: jobs.iter().map(|job| measure(job, peers, effort)).collect() }
+}
+
+/// An open grid with a cart for each four cells, and as many steps as cells.
+fn of_side(side: usize) -> (Size, Family) {
+    let size = Size { side, carts: side * side / 4, last: side * side - 1 };
+    let jobs: Vec<Job> = (0..20).map(|i| OPEN_GRID.job(size, i)).collect();
+    (size, measured("", &jobs, &[], QUICK))
+}
+
+fn listed(names: &[&str]) -> String {
+    if names.is_empty() {
+        "none".into()
+    } else {
+        names.join(", ")
+    }
+}

@@ -1,0 +1,102 @@
+//! One job: every call by turns in one process, the best of several counts.
+
+use std::hint::black_box;
+
+use harness::baseline;
+use harness::ffi::{plan_into, Checker, Library};
+use harness::model::answer::{unpack, PLAN};
+use harness::model::job::Job;
+use harness::model::limits::{sheet_least, store_least};
+
+use crate::clock::timed;
+use crate::counts::{counts, Counts};
+use crate::peers::{Columns, Peer};
+use crate::table::least;
+
+/// How often each is timed.
+#[derive(Clone, Copy)]
+pub struct Effort {
+    pub rounds: usize,
+    pub peer_rounds: usize,
+}
+
+/// Microseconds, and counts.
+pub struct Figures {
+    pub is_plan: bool,
+    pub nodes: usize,
+    pub plan: f64,
+    pub baseline: f64,
+    pub memset: f64,
+    pub check: f64,
+    /// Each peer's, in its better direction.
+    pub peers: Vec<f64>,
+    pub library: Counts,
+    pub keeping: Counts,
+}
+
+impl Figures {
+    /// Not a number where there is no peer.
+    pub fn best_peer(&self) -> f64 {
+        least(self.peers.iter().copied())
+    }
+}
+
+/// Runs this short are timed several at once.
+const SHORTEST: f64 = 200.0;
+
+pub fn measure(job: &Job, peers: &[Peer], effort: Effort) -> Figures {
+    let text = job.text();
+    let (mut store, mut sheet) = (vec![1u8; store_least(job)], vec![1u8; sheet_least(job)]);
+    let answer = plan_into(&text, &mut store, &mut sheet);
+    let (kind, len) = unpack(answer);
+    let written = sheet[..len].to_vec();
+    let (library, keeping) = counts(&text, &mut store, &mut sheet, &written);
+
+    let mut best = [f64::MAX; 4];
+    let mut times = 1;
+    for _ in 0..effort.rounds + 1 {
+        let round = [
+            timed(times, || assert_eq!(plan_into(&text, &mut store, &mut sheet), answer)),
+            timed(times, || assert_eq!(baseline::plan(&text, &mut store, &mut sheet) % 256, kind)),
+            timed(times, || black_box(&mut store).fill(0)),
+            timed(times, || assert_eq!(check(&text, &mut store, &written), kind)),
+        ];
+        for (best, time) in best.iter_mut().zip(round) {
+            *best = best.min(time);
+        }
+        times = (SHORTEST / best[0]).ceil() as usize;
+    }
+    let [plan, baseline, memset, check] = best;
+    let served = |flow: usize| assert_eq!(flow == job.calls.len(), kind == PLAN, "a peer answers otherwise");
+    Figures {
+        is_plan: kind == PLAN,
+        nodes: job.cells * (job.last() + 1),
+        plan,
+        baseline,
+        memset,
+        check,
+        peers: by_peers(&Columns::of(job), peers, effort.peer_rounds, served),
+        library,
+        keeping,
+    }
+}
+
+fn check(text: &[u8], store: &mut [u8], sheet: &[u8]) -> u64 {
+    let store = (store.as_mut_ptr(), store.len());
+    // Safety: three buffers of their own, each as long as it says.
+    unsafe { Library.check((text.as_ptr(), text.len()), store, (sheet.as_ptr(), sheet.len())) }
+}
+
+/// Each peer's best. Both directions are tried once; those that come near the best peer go on in their better one.
+fn by_peers(job: &Columns, peers: &[Peer], rounds: usize, served: impl Fn(usize)) -> Vec<f64> {
+    let run = |peer: &Peer, backward: bool, n: usize| timed(n, || served(peer.max_flow(job, backward)));
+    let first: Vec<[f64; 2]> = peers.iter().map(|peer| [run(peer, false, 1), run(peer, true, 1)]).collect();
+    let near = 2.0 * least(first.iter().flatten().copied());
+    let again = |(peer, [forward, backward]): (&Peer, [f64; 2])| {
+        let best = forward.min(backward);
+        let rounds = if best <= near { rounds } else { 0 };
+        let n = (SHORTEST / best).ceil() as usize;
+        (0..rounds).map(|_| run(peer, backward < forward, n)).fold(best, f64::min)
+    };
+    peers.iter().zip(first).map(again).collect()
+}

@@ -1,0 +1,134 @@
+//! What is printed: the ratios that are asked for, then the families, then the growth.
+
+use crate::families::Size;
+use crate::measure::Figures;
+use crate::table::{geometric_mean, least, median, most, Table};
+
+/// The jobs of a family as they are made, or renumbered.
+pub struct Family {
+    pub name: String,
+    pub jobs: Vec<Figures>,
+}
+
+impl Family {
+    fn median(&self, of: impl Fn(&Figures) -> f64) -> f64 {
+        median(self.jobs.iter().map(of))
+    }
+    fn most(&self, of: impl Fn(&Figures) -> f64) -> f64 {
+        most(self.jobs.iter().map(of))
+    }
+}
+
+fn to_baseline(f: &Figures) -> f64 {
+    f.plan / f.baseline
+}
+
+fn to_memset(f: &Figures) -> f64 {
+    f.plan / f.memset
+}
+
+fn of_check(f: &Figures) -> f64 {
+    f.check / f.plan
+}
+
+fn of_peer(f: &Figures) -> f64 {
+    f.best_peer() / f.plan
+}
+
+fn visits(f: &Figures) -> f64 {
+    f.library.visits as f64 / f.nodes as f64
+}
+
+/// Each ratio beside what is asked of it. `open_grid` has the jobs at the limits.
+pub fn ratios(families: &[Family], open_grid: &Family) {
+    let all = || families.iter().flat_map(|family| &family.jobs);
+    let medians = |of: fn(&Figures) -> f64| families.iter().map(move |family| family.median(of));
+    let mut table = Table::new(&["ratio", "asked", "measured"]);
+    let mut row = |name: &str, asked: &str, value: f64| table.row([name.into(), asked.into(), shown(value, 2)]);
+    row("plan / baseline, geometric mean of the families", "at most 1.5", geometric_mean(medians(to_baseline)));
+    row("plan / baseline, worst family", "at most 2", most(medians(to_baseline)));
+    row("best peer / plan, geometric mean of the families", "at least 25", geometric_mean(medians(of_peer)));
+    row("best peer / plan, worst job", "at least 2", least(all().map(of_peer)));
+    row("plan / memset, open grid at the limits", "at most 3", open_grid.median(to_memset));
+    row("check / plan, worst family", "at most 1", most(medians(of_check)));
+    row("check / plan, worst job", "", most(all().map(of_check)));
+    table.print();
+}
+
+/// Ratios a family: the median, then the worst job.
+pub fn family_ratios(families: &[Family]) {
+    let head = [
+        "family",
+        "plans",
+        "plan / baseline",
+        "best peer / plan",
+        "plan / memset",
+        "check / plan",
+        "visits / node",
+        "looks / visit",
+        "place kept",
+    ];
+    let mut table = Table::new(&head);
+    for family in families {
+        let pair = |of: fn(&Figures) -> f64| format!("{:.2} {:.2}", family.median(of), family.most(of));
+        let plans = family.jobs.iter().filter(|f| f.is_plan).count();
+        let per_visit = |looks: usize, f: &Figures| looks as f64 / f.library.visits as f64;
+        table.row([
+            family.name.clone(),
+            format!("{plans} of {}", family.jobs.len()),
+            pair(to_baseline),
+            format!("{} {}", shown(family.median(of_peer), 1), shown(least(family.jobs.iter().map(of_peer)), 1)),
+            pair(to_memset),
+            pair(of_check),
+            format!("{:.3} {:.3}", family.median(visits), family.most(visits)),
+            format!("{:.2}", family.median(|f| per_visit(f.library.looks, f))),
+            format!("{:.2}", family.median(|f| per_visit(f.keeping.looks, f))),
+        ]);
+    }
+    table.print();
+}
+
+/// Microseconds a family: the median, then the longest.
+pub fn family_times(families: &[Family], peers: &[&str]) {
+    let head: Vec<&str> = ["family", "plan", "baseline", "memset", "check"].iter().chain(peers).copied().collect();
+    let mut table = Table::new(&head);
+    for family in families {
+        let pair = |of: &dyn Fn(&Figures) -> f64| format!("{} {}", time(family.median(of)), time(family.most(of)));
+        let own: [&dyn Fn(&Figures) -> f64; 4] = [&|f| f.plan, &|f| f.baseline, &|f| f.memset, &|f| f.check];
+        let mut row = vec![family.name.clone()];
+        row.extend(own.into_iter().map(pair));
+        row.extend((0..peers.len()).map(|i| pair(&|f: &Figures| f.peers[i])));
+        table.row(row);
+    }
+    table.print();
+}
+
+/// A time, with a digit behind the point if it is short.
+fn time(value: f64) -> String {
+    shown(value, (value < 100.0) as usize)
+}
+
+/// A number, or a dash for none.
+fn shown(value: f64, digits: usize) -> String {
+    if value.is_nan() {
+        "-".into()
+    } else {
+        format!("{value:.digits$}")
+    }
+}
+
+/// Visits on open grids of several sizes.
+pub fn growth(sizes: &[(Size, Family)]) {
+    let mut table = Table::new(&["open grid", "carts", "last step", "nodes", "visits / node, mean", "most"]);
+    for (size, family) in sizes {
+        table.row([
+            format!("{0} by {0}", size.side),
+            size.carts.to_string(),
+            size.last.to_string(),
+            format!("{:.0}", family.median(|f| f.nodes as f64)),
+            format!("{:.3}", family.jobs.iter().map(visits).sum::<f64>() / family.jobs.len() as f64),
+            format!("{:.3}", family.most(visits)),
+        ]);
+    }
+    table.print();
+}

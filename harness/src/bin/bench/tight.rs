@@ -1,0 +1,96 @@
+//! Carts and calls with deadlines that only just leave a plan, or only just none.
+
+use harness::baseline;
+use harness::gen::floors::grid;
+use harness::gen::large::scattered;
+use harness::gen::Rng;
+use harness::model::answer::{unpack, PLAN};
+use harness::model::job::{Call, Job};
+use harness::model::limits::{sheet_least, store_least};
+
+use crate::families::Size;
+use crate::floors::{aisles, halves, rooms, sparse};
+
+/// More calls beyond a gap of one cell than there are steps up to their deadline; some are late.
+pub fn bottleneck(size: Size, rng: &mut Rng) -> Job {
+    let due = size.carts / 4 + rng.below(size.carts / 2);
+    let late = size.carts / 8;
+    across(halves(size.side, rng), size, late, rng, due)
+}
+
+/// Carts in the left half, calls in the right half, the last ones late and the others all due at one step.
+fn across(floor: Job, size: Size, late: usize, rng: &mut Rng, due: usize) -> Job {
+    let half = |is_left: bool| (0..floor.cells).filter(|c| (c % size.side < size.side / 2) == is_left).collect();
+    let (mut left, mut right): (Vec<usize>, Vec<usize>) = (half(true), half(false));
+    rng.shuffle(&mut left);
+    rng.shuffle(&mut right);
+    let count = size.carts.min(left.len());
+    left.truncate(count);
+    right.truncate(count);
+    let mut deadline = |i: usize| if i + late < count { due } else { size.last - rng.below(8) };
+    let calls = right.into_iter().enumerate().map(|(i, cell)| Call { cell, deadline: deadline(i) }).collect();
+    Job { carts: left, calls, ..floor }
+}
+
+/// Two jobs with deadlines so tight that the first only just has a plan, and the second only just has none.
+pub fn tight(size: Size, i: usize, rng: &mut Rng) -> (Job, Job) {
+    if i.is_multiple_of(2) {
+        let floor = some_floor(size, i / 2, rng);
+        crossing(floor, size, rng)
+    } else {
+        shrunk(size, i / 2, rng)
+    }
+}
+
+/// A floor with several ways across, other ones by turns.
+fn some_floor(size: Size, i: usize, rng: &mut Rng) -> Job {
+    match i % 4 {
+        0 => grid(size.side, size.side),
+        1 => rooms(size.side, rng),
+        2 => aisles(size.side),
+        _ => sparse(size.side * size.side, 5 * size.side, rng),
+    }
+}
+
+/// Carts and calls anywhere; all deadlines but some late ones shrunk alike.
+fn shrunk(size: Size, i: usize, rng: &mut Rng) -> (Job, Job) {
+    loop {
+        let job = scattered(some_floor(size, i, rng), size.carts, size.last, rng);
+        let shrunk_by = |k: usize| {
+            let mut job = job.clone();
+            for call in job.calls.iter_mut().skip(6) {
+                call.deadline = call.deadline * k / 256;
+            }
+            job
+        };
+        if let Some(pair) = brink(256, shrunk_by) {
+            return pair;
+        }
+    }
+}
+
+/// From one half to the other by a common deadline, some late calls apart.
+pub fn crossing(floor: Job, size: Size, rng: &mut Rng) -> (Job, Job) {
+    let seed = rng.below(1 << 30) as u64;
+    let due_at = |k: usize| across(floor.clone(), size, 1 + size.carts / 16, &mut Rng::new(seed), k);
+    brink(size.last, due_at).expect("time for all to cross")
+}
+
+/// Jobs from k = 0, without a plan, to k = `most`, with one: the first of two neighbours between which that changes has
+/// a plan, the second has none.
+fn brink(most: usize, job: impl Fn(usize) -> Job) -> Option<(Job, Job)> {
+    let (mut none, mut some) = (0, most);
+    if has_plan(&job(none)) || !has_plan(&job(some)) {
+        return None;
+    }
+    while none + 1 < some {
+        let k = (none + some) / 2;
+        *(if has_plan(&job(k)) { &mut some } else { &mut none }) = k;
+    }
+    Some((job(some), job(none)))
+}
+
+fn has_plan(job: &Job) -> bool {
+    let (mut store, mut sheet) = (vec![0; store_least(job)], vec![0; sheet_least(job)]);
+    unpack(baseline::plan(&job.text(), &mut store, &mut sheet)).0 == PLAN
+}
