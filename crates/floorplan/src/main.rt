@@ -1,6 +1,10 @@
 // Plans the job on standard input: writes the sheet, or one line that says why the job is refused.
 use libc::STDIN_FILENO;
 use libc::STDOUT_FILENO;
+use model::Limits;
+
+// The length of the store and of the sheet's buffer.
+const LENT: usize = 65536;
 
 fn refuse(number: u64, line: u64) {
     io::write_all(STDOUT_FILENO, b"REFUSED\t");
@@ -11,8 +15,8 @@ fn refuse(number: u64, line: u64) {
 }
 
 fn plan(text: &[u8]) {
-    let mut store = [0u8; 65536];
-    let mut sheet = [0u8; 65536];
+    let mut store = [0u8; LENT];
+    let mut sheet = [0u8; LENT];
     let r = cartfloor::plan::cartfloor_plan(text, &mut store, &mut sheet);
     let value = r / 256;
     if 1 < r % 256 {
@@ -20,7 +24,7 @@ fn plan(text: &[u8]) {
         return;
     }
     // A sheet is never longer than its buffer.
-    if value <= 65536 {
+    if value <= LENT as u64 {
         let n = value as usize;
         io::write_all(STDOUT_FILENO, &sheet[0..n]);
     }
@@ -28,7 +32,7 @@ fn plan(text: &[u8]) {
 
 // One byte more than a job text may have tells one that is too long.
 fn main() {
-    let mut input = [0u8; 16385];
+    let mut input = [0u8; Limits::TEXT + 1];
     let n = io::read_full(STDIN_FILENO, &mut input);
     plan(&input[0..n]);
 }
