@@ -21,14 +21,6 @@ pub empty-count : {A : Type 0} (l : List A) → isEmpty l ≡ eqb (length l) 0
 empty-count [] = refl
 empty-count (a ∷ l) = sym (ne-eqb (suc (length l)) 0 (λ e. omega arith))
 
-pub bit-none : (x : Bool) → bit x ≡ 0 → x ≡ false
-bit-none true e = absurd (omega arith)
-bit-none false e = refl
-
-pub bit-some : (x : Bool) → (bit x ≡ 0 → ⊥) → x ≡ true
-bit-some true e = refl
-bit-some false e = absurd (e refl)
-
 pub bit-not : (x : Bool) → eqb (bit x) 0 ≡ not x
 bit-not true = refl
 bit-not false = refl

@@ -1,10 +1,10 @@
 -- What the reader's enums mean, and what its table says of the job of the lines so far.
-use Prim.Native.Nat.{ℕ, _+_, _*_, _<_, _≤_}
+use Prim.Native.Nat.{ℕ, _+_, _*_, _/_, _<_, _≤_}
 use mathlib.Core.Path.{_≡_}
 use mathlib.Core.List.{List, map}
 use mathlib.Core.Option.{Option, none, some}
-use mathlib.Core.Bool.{Bool, true, false, cond}
-use lib.Dec.{eqb}
+use mathlib.Core.Bool.{Bool, true, false, cond, _||_}
+use lib.Dec.{ltb, eqb}
 use lib.ListN.{length, getD, set}
 use Rattle.model.specs.Limits.{maxCells, maxSteps}
 use Rattle.model.specs.Job as model
@@ -75,19 +75,27 @@ pub record Taken (s : Job) (k : Kind) (a b : ℕ) (t : Job) : Type 0 where
   pub sized : Sized t
   pub long : Long t
 
--- The table: a row of cells for the tracks from each cell, then one for the carts and one for the calls.
+-- The pairs whose greater cell is below n, a cell with itself among them.
+abbrev pub pairsBelow : ℕ → ℕ
+pairsBelow n = n * (n + 1) / 2
+
+-- The pairs stand by their greater cell, then by their lesser one.
+abbrev pub pairAt : ℕ → ℕ → ℕ
+pairAt a b = cond (ltb a b) (pairsBelow b + a) (pairsBelow a + b)
+
+-- The table: a place for each two cells, either way round, then a row of cells for the carts and one for the calls.
 abbrev pub cartRow : ℕ
-cartRow = maxCells * maxCells
+cartRow = pairsBelow maxCells
 
 abbrev pub callRow : ℕ
-callRow = maxCells * (maxCells + 1)
+callRow = cartRow + maxCells
 
 abbrev pub tableSize : ℕ
-tableSize = maxCells * (maxCells + 2)
+tableSize = callRow + maxCells
 
 abbrev pub placeOf : Kind → ℕ → ℕ → ℕ
 placeOf Floor a b = 0
-placeOf Track a b = a * maxCells + b
+placeOf Track a b = pairAt a b
 placeOf Cart a b = cartRow + a
 placeOf Call a b = callRow + a
 
@@ -101,9 +109,9 @@ abbrev pub bit : Bool → ℕ
 bit true = 1
 bit false = 0
 
--- The table says which tracks there are, and which cells have a cart or a call.
+-- The table says which cells a track joins, and which cells have a cart or a call.
 pub record Marked (seen : List ℕ) (j : model.Job) : Type 0 where
-  pub tracks : (a b : ℕ) → a < maxCells → b < maxCells → getD seen (placeOf Track a b) 0 ≡ bit (read.leads a b (j .tracks))
+  pub tracks : (a b : ℕ) → a < maxCells → b < maxCells → getD seen (placeOf Track a b) 0 ≡ bit (read.leads a b (j .tracks) || read.leads b a (j .tracks))
   pub carts : (a : ℕ) → a < maxCells → getD seen (placeOf Cart a 0) 0 ≡ bit (read.member a (j .carts))
   pub calls : (a : ℕ) → a < maxCells → getD seen (placeOf Call a 0) 0 ≡ bit (read.member a (map (λ q. q .cell) (j .calls)))
 

@@ -109,12 +109,7 @@ fn is_new_track(seen: &[u8], a: usize, b: usize) -> bool
     if a == b {
         return false;
     }
-    let there = seen[a * Limits::CELLS + b];
-    if there != 0 {
-        return false;
-    }
-    let back = seen[b * Limits::CELLS + a];
-    back == 0
+    seen[state::pair(a, b)] == 0
 }
 
 fn is_new(kind: Kind, seen: &[u8], a: usize, b: usize) -> bool

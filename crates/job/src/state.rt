@@ -1,10 +1,12 @@
 // A job as arrays with their counts, and the table of what stands in them already.
 use model::Limits;
 ghost use mathlib.Core.Path.{_≡_};
+ghost use Prim.Native.Nat.{_<_};
 ghost use lib.ListN.{length};
+ghost use Rattle.model.specs.Limits.{maxCells};
 ghost use Rattle.model.specs.ReadJob.{noJob};
 ghost use Rattle.job.specs.Arrays.{jobOf, held, Sized};
-ghost use Rattle.job.specs.Lines.{Small, Takes, Taken, placeOf, marked, tableSize};
+ghost use Rattle.job.specs.Lines.{Small, Takes, Taken, pairAt, placeOf, marked, tableSize};
 
 // The first `tracks` entries of `from` and `to` are the tracks, and so for carts and calls.
 pub struct Job {
@@ -27,8 +29,9 @@ pub struct Counts {
     pub calls: usize,
 }
 
-// The table has a row of cells for the tracks from each cell, then one for the carts and one for the calls.
-pub const CART_ROW: usize = Limits::CELLS * Limits::CELLS;
+// The table has a place for each two cells, either way round, then a row of cells for the carts and one for the calls. A cell with itself
+// has a place too, so that every pair has one of its own.
+pub const CART_ROW: usize = Limits::CELLS * (Limits::CELLS + 1) / 2;
 
 pub const CALL_ROW: usize = CART_ROW + Limits::CELLS;
 
@@ -106,6 +109,17 @@ pub fn put_line(
     }
 }
 
+// The place of two cells in the table, the same either way round.
+pub fn pair(a: usize, b: usize) -> usize
+    requires { ⌜ (a < maxCells) × (b < maxCells) ⌝ }
+    ensures { λ r. ⌜ r ≡ pairAt a b ⌝ }
+{
+    if a < b {
+        return b * (b + 1) / 2 + a;
+    }
+    a * (a + 1) / 2 + b
+}
+
 // The place of a line in the table.
 pub fn place(kind: Kind, a: usize, b: usize) -> usize
     requires { ⌜ Small kind a b ⌝ }
@@ -113,7 +127,7 @@ pub fn place(kind: Kind, a: usize, b: usize) -> usize
 {
     match kind {
         Kind::Floor => 0,
-        Kind::Track => a * Limits::CELLS + b,
+        Kind::Track => pair(a, b),
         Kind::Cart => CART_ROW + a,
         Kind::Call => CALL_ROW + a,
     }

@@ -11,29 +11,26 @@ enum-told c = search needs
 enum-told-2 : tie.Need-enum-told-2
 enum-told-2 c = search needs
 
-mul-result : tie.Need-mul-result
-mul-result c = let s = rw (c .enum-told2 .given .1) at (c .before .before .pre) in omega arith
-
-add-result : tie.Need-add-result
-add-result c = let s = rw (c .enum-told2 .given .1) at (c .before .before .pre) in omega arith
+pair-requires : tie.Need-pair-requires
+pair-requires c κs = rw (c .enum-told2 .given .1) at (c .before .before .pre)
 
 enum-told-3 : tie.Need-enum-told-3
 enum-told-3 c = search needs
 
-add-result-2 : tie.Need-add-result-2
-add-result-2 c = let s = rw (c .enum-told3 .given .1) at (c .before .before .pre) in omega arith
+add-result : tie.Need-add-result
+add-result c = let s = rw (c .enum-told3 .given .1) at (c .before .before .pre) in omega arith
 
 enum-told-4 : tie.Need-enum-told-4
 enum-told-4 c = search needs
 
-add-result-3 : tie.Need-add-result-3
-add-result-3 c = let s = rw (c .enum-told4 .given .1) at (c .before .before .pre) in omega arith
+add-result-2 : tie.Need-add-result-2
+add-result-2 c = let s = rw (c .enum-told4 .given .1) at (c .before .before .pre) in omega arith
 
 returns : tie.Need-returns
 returns c = search needs
 
 returns-2 : tie.Need-returns-2
-returns-2 c = rw (c .enum-told2 .given .1)
+returns-2 c = rw (c .before .enum-told2 .given .1) (c .pair .ensures)
 
 returns-3 : tie.Need-returns-3
 returns-3 c = rw (c .enum-told3 .given .1)
@@ -47,12 +44,11 @@ place-spec =
     (tie.spec
     enum-told
     enum-told-2
-    mul-result
-    add-result
+    pair-requires
     enum-told-3
-    add-result-2
+    add-result
     enum-told-4
-    add-result-3
+    add-result-2
     returns
     returns-2
     returns-3
