@@ -1,4 +1,4 @@
-// LEMON: Preflow on a StaticDigraph, the quickest of its graphs to build and to walk.
+// LEMON tuned by hand: Preflow on a StaticDigraph, the quickest of its graphs to build and to walk, with capacities that take no memory.
 #include <lemon/maps.h>
 #include <lemon/preflow.h>
 #include <lemon/static_graph.h>

@@ -29,7 +29,8 @@ const WORDS: &str = "\
 - plan: the library's call whole. baseline: `harness/src/baseline.rs`, the same algorithm in plain Rust, in the same buffers.
 - memset: the wiping of the store alone, which both of these include. check: the library's check of the planner's sheet.
 - Peers: max flow on the network of cells and steps, from numbers instead of a text, building included, in the better direction:
-  LEMON Preflow, igraph_maxflow_value, Boost push_relabel_max_flow. The best peer is that of each job.
+  LEMON Preflow, igraph_maxflow_value, Boost push_relabel_max_flow, as their manuals have it. The best peer is that of each job.
+  `lemon_static` is LEMON tuned by hand: a static graph, capacities that take no memory, only the cut where there is no plan.
 - Times are processor time of the thread, by turns in one process; the best of many runs counts.
 - A node is a cell at a step. A visit puts a position on the search's stack; a look is at one of its neighbours. Place kept: the
   looks, if each position on the stack kept its place in the neighbour list.

@@ -30,15 +30,11 @@ pub struct Figures {
     pub check: f64,
     /// Each peer's, in its better direction.
     pub peers: Vec<f64>,
+    /// The best of all peers, and the best of those used as their manuals have it: no number where there is none.
+    pub best: f64,
+    pub best_plain: f64,
     pub library: Counts,
     pub keeping: Counts,
-}
-
-impl Figures {
-    /// Not a number where there is no peer.
-    pub fn best_peer(&self) -> f64 {
-        least(self.peers.iter().copied())
-    }
 }
 
 /// Runs this short are timed several at once.
@@ -68,6 +64,8 @@ pub fn measure(job: &Job, peers: &[Peer], effort: Effort) -> Figures {
     }
     let [plan, baseline, memset, check] = best;
     let served = |flow: usize| assert_eq!(flow == job.calls.len(), kind == PLAN, "a peer answers otherwise");
+    let by_peer = by_peers(&Columns::of(job), peers, effort.peer_rounds, served);
+    let plain = peers.iter().zip(&by_peer).filter(|(peer, _)| !peer.is_tuned).map(|(_, &time)| time);
     Figures {
         is_plan: kind == PLAN,
         nodes: job.cells * (job.last() + 1),
@@ -75,7 +73,9 @@ pub fn measure(job: &Job, peers: &[Peer], effort: Effort) -> Figures {
         baseline,
         memset,
         check,
-        peers: by_peers(&Columns::of(job), peers, effort.peer_rounds, served),
+        best: least(by_peer.iter().copied()),
+        best_plain: least(plain),
+        peers: by_peer,
         library,
         keeping,
     }

@@ -4,7 +4,10 @@ use std::ffi::{c_char, c_int, c_void, CString};
 
 use harness::model::job::Job;
 
-pub const NAMES: [&str; 3] = ["lemon", "igraph", "boost"];
+pub const NAMES: [&str; 4] = ["lemon", "igraph", "boost", TUNED];
+
+/// Tuned by hand; the others are used as their manuals have it.
+const TUNED: &str = "lemon_static";
 
 const RTLD_NOW: c_int = 2;
 const M_TRIM_THRESHOLD: c_int = -1;
@@ -34,6 +37,7 @@ extern "C" {
 #[derive(Clone, Copy)]
 pub struct Peer {
     pub name: &'static str,
+    pub is_tuned: bool,
     max_flow: MaxFlow,
 }
 
@@ -54,7 +58,7 @@ fn open(folder: &str, name: &'static str) -> Option<Peer> {
     unsafe {
         let library = dlopen(file.as_ptr(), RTLD_NOW);
         let symbol = if library.is_null() { library } else { dlsym(library, c"max_flow".as_ptr()) };
-        (!symbol.is_null()).then(|| Peer { name, max_flow: std::mem::transmute::<*mut c_void, MaxFlow>(symbol) })
+        (!symbol.is_null()).then(|| Peer { name, is_tuned: name == TUNED, max_flow: std::mem::transmute::<*mut c_void, MaxFlow>(symbol) })
     }
 }
 

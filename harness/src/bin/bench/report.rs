@@ -32,7 +32,11 @@ fn of_check(f: &Figures) -> f64 {
 }
 
 fn of_peer(f: &Figures) -> f64 {
-    f.best_peer() / f.plan
+    f.best_plain / f.plan
+}
+
+fn of_tuned(f: &Figures) -> f64 {
+    f.best / f.plan
 }
 
 fn visits(f: &Figures) -> f64 {
@@ -49,6 +53,8 @@ pub fn ratios(families: &[Family], open_grid: &Family) {
     row("plan / baseline, worst family", "at most 2", most(medians(to_baseline)));
     row("best peer / plan, geometric mean of the families", "at least 25", geometric_mean(medians(of_peer)));
     row("best peer / plan, worst job", "at least 2", least(all().map(of_peer)));
+    row("best peer / plan with LEMON tuned, geometric mean", "", geometric_mean(medians(of_tuned)));
+    row("best peer / plan with LEMON tuned, worst job", "", least(all().map(of_tuned)));
     row("plan / memset, open grid at the limits", "at most 3", open_grid.median(to_memset));
     row("check / plan, worst family", "at most 1", most(medians(of_check)));
     row("check / plan, worst job", "", most(all().map(of_check)));
