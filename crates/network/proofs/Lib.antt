@@ -7,6 +7,8 @@ pub mod Plans
 pub mod Calm
 pub mod Planes
 pub mod TableLaws
+pub mod PlaceLaws
+pub mod NearLaws
 pub mod OrderLaws
 pub mod JobTables
 pub mod AimLaws

@@ -5,6 +5,7 @@ pub mod Store
 pub mod Links
 pub mod Tables
 pub mod Order
+pub mod Places
 pub mod Rows
 pub mod Sorted
 pub mod Queue

@@ -2,9 +2,10 @@
 use model::Limits;
 use model::bytes::wide;
 ghost use mathlib.Core.Path.{_≡_};
-ghost use Prim.Native.Nat.{ℕ, _+_, _*_, _<_, _≤_};
+ghost use Prim.Native.Nat.{ℕ, _+_, _<_, _≤_};
 ghost use lib.ListN.{length, getD};
 ghost use Rattle.model.specs.Limits.{maxCells};
+ghost use Rattle.network.specs.Tables.{nearSize};
 ghost use Rattle.network.specs.Rows.{Readable};
 ghost use Rattle.network.specs.Queue.{Queue};
 
@@ -12,6 +13,7 @@ ghost use Rattle.network.specs.Queue.{Queue};
 // there are cells: the test of the tail only says so to the proof.
 fn expand(
     near: &[u8],
+    start: &[u16],
     degree: &[u16],
     cells: usize,
     c: usize,
@@ -21,13 +23,14 @@ fn expand(
     place: &mut [u8; Limits::CELLS],
     end: usize,
 ) -> usize
-    requires { ⌜ (c < maxCells) × (length (now near) ≡ maxCells * maxCells) × (length (now degree) ≡ maxCells) × (getD (now degree) c 0 ≤ maxCells) × ((i : ℕ) → i < getD (now degree) c 0 → getD (now near) (c * maxCells + i) 0 < cells) × Queue cells (now queue) end ⌝ }
+    requires { ⌜ (c < maxCells) × (length (now near) ≡ nearSize) × (length (now start) ≡ maxCells) × (length (now degree) ≡ maxCells) × (getD (now degree) c 0 ≤ maxCells) × (getD (now start) c 0 + getD (now degree) c 0 ≤ nearSize) × ((i : ℕ) → i < getD (now degree) c 0 → getD (now near) (getD (now start) c 0 + i) 0 < cells) × Queue cells (now queue) end ⌝ }
     ensures { λ r. ⌜ Queue cells (now (queue .exit)) r ⌝ }
 {
     let mut tail = end;
+    let first = start[c] as usize;
     let n = degree[c] as usize;
     for i in 0..n {
-        let b = near[c * Limits::CELLS + i];
+        let b = near[first + i];
         let x = wide(b);
         if seen[x] == 0 && tail < cells {
             seen[x] = 1;
@@ -67,13 +70,14 @@ fn lay<'a>(
 pub fn aim(
     cells: usize,
     near: &[u8],
+    start: &[u16],
     degree: &[u16],
     cart_on: &[u8],
     store: &[u8],
     cell: usize,
     hint: &mut [u8],
 )
-    requires { ⌜ (cells ≤ maxCells) × Readable cells (now near) (now degree) × (length (now «cart_on») ≡ maxCells) × (cells ≤ length (now store)) × (cell < cells) × (length (now hint) ≡ maxCells) ⌝ }
+    requires { ⌜ (cells ≤ maxCells) × Readable cells (now near) (now start) (now degree) × (length (now «cart_on») ≡ maxCells) × (cells ≤ length (now store)) × (cell < cells) × (length (now hint) ≡ maxCells) ⌝ }
     ensures { λ _. ⌜ length (now (hint .exit)) ≡ maxCells ⌝ }
 {
     let mut queue = [0u8; Limits::CELLS];
@@ -93,6 +97,7 @@ pub fn aim(
         }
         tail = expand(
             near,
+            start,
             degree,
             cells,
             c,

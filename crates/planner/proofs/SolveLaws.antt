@@ -134,7 +134,7 @@ module _ {j : Job} {order : List ℕ} (r : Ready j) (o : Order j order) (i : ℕ
             go (no h) = let z : m ≡ i = omega arith in inr (e ∙ ap (nodeAt j order) z ∙ sym here)
 
 -- The same, where the call is read from the arrays.
-module _ {j : Job} {lifts deadlines : List ℕ} {calls : ℕ} {near degree due cartOn order s₀ : List ℕ} {n k : ℕ} (g : Begun j lifts deadlines calls near degree due cartOn order s₀ n k)
+module _ {j : Job} {lifts deadlines : List ℕ} {calls : ℕ} {near start degree due cartOn order s₀ : List ℕ} {n k : ℕ} (g : Begun j lifts deadlines calls near start degree due cartOn order s₀ n k)
     {s : List ℕ} {i stamp : ℕ} (v : SoFar j order s i stamp) (more : i < calls) where
   more-calls : i < length (j .calls)
   more-calls = omega (arith, g .counted)
@@ -155,7 +155,7 @@ module _ {j : Job} {lifts deadlines : List ℕ} {calls : ℕ} {near degree due c
     call-cell = omega (arith, call-next .0 .0, g .width)
 
     -- Its search may start.
-    pub call-serving : length s ≡ length s₀ → (hint : List ℕ) → length hint ≡ maxCells → Serving j near degree due cartOn hint s n k c t stamp (eqb i 0)
+    pub call-serving : length s ≡ length s₀ → (hint : List ℕ) → length hint ≡ maxCells → Serving j near start degree due cartOn hint s n k c t stamp (eqb i 0)
     call-serving same hint h = record {
       search = record {
         ready = g .ready;

@@ -26,11 +26,11 @@ use Rattle.answer.specs.Cut.{Failed}
 use Rattle.answer.specs.Full.{FullFlow}
 use Rattle.planner.specs.Solved.{Begun, ServedAll}
 
-pub begun : (a : arrays.Job) → Whole a → Ready (jobOf a) → {near degree due cartOn order s : List ℕ} {k : ℕ} → k ≡ nodes (jobOf a)
-    → Rows (a .cells) (Beside (a .from) (a .to) (a .tracks)) near degree → Filled (a .lifts) (λ q. getD (a .deadlines) q 0) (a .calls) due
+pub begun : (a : arrays.Job) → Whole a → Ready (jobOf a) → {near start degree due cartOn order s : List ℕ} {k : ℕ} → k ≡ nodes (jobOf a)
+    → Rows (a .cells) (Beside (a .from) (a .to) (a .tracks)) near start degree → Filled (a .lifts) (λ q. getD (a .deadlines) q 0) (a .calls) due
     → Filled (a .starts) (λ q. q) (a .carts) cartOn → Sorted (a .deadlines) (a .calls) order
     → Spacious (jobOf a) s → ((v : ℕ) → v < k → (at k s 0 v ≡ 0) × (at k s 1 v ≡ 0))
-    → Begun (jobOf a) (a .lifts) (a .deadlines) (a .calls) near degree due cartOn order s (a .cells) k
+    → Begun (jobOf a) (a .lifts) (a .deadlines) (a .calls) near start degree due cartOn order s (a .cells) k
 begun a w ready size rows dues carts sorted room blank = record {
   ready = ready;
   width = refl;
@@ -46,7 +46,7 @@ begun a w ready size rows dues carts sorted room blank = record {
 }
 
 -- The calls were served, as far as they could be, in a store that is as long.
-module _ {j : Job} {lifts deadlines : List ℕ} {calls : ℕ} {near degree due cartOn order s₀ : List ℕ} {n k : ℕ} (g : Begun j lifts deadlines calls near degree due cartOn order s₀ n k)
+module _ {j : Job} {lifts deadlines : List ℕ} {calls : ℕ} {near start degree due cartOn order s₀ : List ℕ} {n k : ℕ} (g : Begun j lifts deadlines calls near start degree due cartOn order s₀ n k)
     {s : List ℕ} (same : length s ≡ length s₀) (answer : Served) (served : FlowIn j s × ServedAll j s answer) where
   pub flowing : {last : ℕ} → last ≡ horizon j → Flowing j n k last s
   flowing ends = record { ready = g .ready; width = g .width; size = g .size; ends = ends; room = omega (arith, g .room); flow = served .0 }

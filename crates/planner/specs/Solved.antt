@@ -22,13 +22,13 @@ use Rattle.planner.specs.declared.solve.Outcome.{Outcome}
 use Rattle.planner.specs.declared.solve.Outcome.the-variants.{Plan, Cannot}
 
 -- The job has n cells, k nodes and the calls of the arrays, and the tables are its. The store has room for it, and no node is used or marked.
-pub record Begun (j : Job) (lifts deadlines : List ℕ) (calls : ℕ) (near degree due cartOn order s : List ℕ) (n k : ℕ) : Type 0 where
+pub record Begun (j : Job) (lifts deadlines : List ℕ) (calls : ℕ) (near start degree due cartOn order s : List ℕ) (n k : ℕ) : Type 0 where
   pub ready : Ready j
   pub width : n ≡ j .cells
   pub size : k ≡ nodes j
   pub counted : length (j .calls) ≡ calls
   pub listed : j .calls ≡ pairs call (take calls lifts) (take calls deadlines)
-  pub rows : Near j near degree
+  pub rows : Near j near start degree
   pub dues : Due j due
   pub carts : CartOn j cartOn
   pub ordered : Order j order

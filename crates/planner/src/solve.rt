@@ -27,6 +27,7 @@ fn serve_all<'a>(
     deadlines: &'a [u8; Limits::CALLS],
     calls: usize,
     near: &[u8],
+    start: &[u16],
     degree: &[u16],
     due: &[u16],
     cart_on: &[u8],
@@ -35,8 +36,8 @@ fn serve_all<'a>(
     n: usize,
     k: usize,
 ) -> Served
-    requires { ⌜ ((j : model.Job) × Begun j (now lifts) (now deadlines) calls (now near) (now degree) (now due) (now «cart_on») (now order) (now store) n k) ⌝ }
-    ensures { λ r. ⌜ (length (now (store .exit)) ≡ length (now (store .entry))) × ((j : model.Job) → Begun j (now (lifts .entry)) (now (deadlines .entry)) calls (now (near .entry)) (now (degree .entry)) (now (due .entry)) (now («cart_on» .entry)) (now (order .entry)) (now (store .entry)) n k → FlowIn j (now (store .exit)) × ServedAll j (now (store .exit)) r) ⌝ }
+    requires { ⌜ ((j : model.Job) × Begun j (now lifts) (now deadlines) calls (now near) (now start) (now degree) (now due) (now «cart_on») (now order) (now store) n k) ⌝ }
+    ensures { λ r. ⌜ (length (now (store .exit)) ≡ length (now (store .entry))) × ((j : model.Job) → Begun j (now (lifts .entry)) (now (deadlines .entry)) calls (now (near .entry)) (now (start .entry)) (now (degree .entry)) (now (due .entry)) (now («cart_on» .entry)) (now (order .entry)) (now (store .entry)) n k → FlowIn j (now (store .exit)) × ServedAll j (now (store .exit)) r) ⌝ }
 {
     let mut hint = [0u8; Limits::CELLS];
     let mut stamp = 1u8;
@@ -45,10 +46,11 @@ fn serve_all<'a>(
         let q = wide(order[i]);
         let cell = wide(lifts[q]);
         let step = wide(deadlines[q]);
-        network::aim::aim(n, near, degree, cart_on, store, cell, &mut hint);
+        network::aim::aim(n, near, start, degree, cart_on, store, cell, &mut hint);
         let fresh = i == 0;
         let served = route::serve::serve(
             near,
+            start,
             degree,
             due,
             cart_on,
@@ -86,12 +88,21 @@ pub fn solve(
     let last = job::size::horizon(&job.deadlines, calls);
     let k = (last + 1) * n;
     clear(store, 2 * k);
-    let mut near = [0u8; Limits::CELLS * Limits::CELLS];
+    let mut near = [0u8; Limits::CELLS + 2 * Limits::TRACKS];
+    let mut start = [0u16; Limits::CELLS];
     let mut degree = [0u16; Limits::CELLS];
     let mut due = [0u16; Limits::CELLS];
     let mut cart_on = [0u8; Limits::CELLS];
     let mut order = [0u8; Limits::CALLS];
-    network::tables::neighbours(&job.from, &job.to, job.tracks, n, &mut near, &mut degree);
+    network::tables::neighbours(
+        &job.from,
+        &job.to,
+        job.tracks,
+        n,
+        &mut near,
+        &mut start,
+        &mut degree,
+    );
     network::tables::deadlines(&job.lifts, &job.deadlines, calls, &mut due);
     network::tables::carts(&job.starts, job.carts, &mut cart_on);
     network::order::by_deadline(&job.deadlines, calls, &mut order);
@@ -100,6 +111,7 @@ pub fn solve(
         &job.deadlines,
         calls,
         &near,
+        &start,
         &degree,
         &due,
         &cart_on,

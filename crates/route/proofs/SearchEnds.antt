@@ -16,12 +16,12 @@ first : (j : Job) (s s₁ : List ℕ) (n k a b stamp : ℕ) → n ≡ j .cells �
     → Pushed (nodes j) s s₁ (idx j (point a b)) 0 a b 0 stamp
 first j s s₁ n k a b stamp e f p = rw (e, f) at p
 
-module _ {j : Job} {near degree due cart-on hint s s₁ : List ℕ} {n k a b stamp : ℕ} (p : Pushed k s s₁ (b * n + a) 0 a b 0 stamp) where
-  pub under-way : Searching j near degree due cart-on hint s₁ n k a b stamp → Running j s₁ s₁ stamp (point a b) 1
+module _ {j : Job} {near start degree due cart-on hint s s₁ : List ℕ} {n k a b stamp : ℕ} (p : Pushed k s s₁ (b * n + a) 0 a b 0 stamp) where
+  pub under-way : Searching j near start degree due cart-on hint s₁ n k a b stamp → Running j s₁ s₁ stamp (point a b) 1
   under-way h = run-start j stamp (point a b) s s₁ (h .ok) (h .known) (first j s s₁ n k a b stamp (h .cells) (h .size) p)
 
-  module _ (h : Searching j near degree due cart-on hint s n k a b stamp) where
-    pub begun : Searching j near degree due cart-on hint s₁ n k a b stamp
+  module _ (h : Searching j near start degree due cart-on hint s n k a b stamp) where
+    pub begun : Searching j near start degree due cart-on hint s₁ n k a b stamp
     begun = may-search j s s₁ (pushed-same j s s₁ (idx j (point a b)) 0 a b 0 stamp (first j s s₁ n k a b stamp (h .cells) (h .size) p)) stamp (h .some) h
 
     module _ (t : List ℕ) (d : ℕ) (r : Running j s₁ t stamp (point a b) d) where

@@ -7,7 +7,6 @@ use native.Mathlib.Omega.{arith}
 use native.Mathlib.Nat.{mul-le-mul-left}
 use native.Mathlib.Decide.{decLt}
 use lib.ListN.{getD}
-use Rattle.model.specs.Limits.{maxCells}
 use Rattle.network.specs.Store.{at}
 use Rattle.route.specs.declared.search.Found.{Found}
 use Rattle.route.specs.Finds.{Held, By, ByRow, Down, From, Stamped, Answers}
@@ -91,9 +90,9 @@ pub answer-push : (P Q : ℕ → ℕ → ℕ → Type 0) (M : ℕ → ℕ → Ty
     → ((c t via : ℕ) → P c t via → Q c t via) → Answers P M r → Answers Q M r
 answer-push P Q M r a b v e f x = let y : Answers P M (Found.Push a b v) = rw e at x in rw e (f a b v (y .0), y .1)
 
-module _ (n k : ℕ) (s due near : List ℕ) (c i t stamp x : ℕ) (ex : x ≡ getD near (c * maxCells + i) 0) where
-  pub row-more : (r : Found) → r ≡ Found.Nothing → Answers (ByRow n k s due near c i t) (Stamped n k s stamp) Found.Nothing → Answers (By n k s due t x) (Stamped n k s stamp) r
-      → Answers (ByRow n k s due near c (i + 1) t) (Stamped n k s stamp) Found.Nothing
+module _ (n k : ℕ) (s due near : List ℕ) (base i t stamp x : ℕ) (ex : x ≡ getD near (base + i) 0) where
+  pub row-more : (r : Found) → r ≡ Found.Nothing → Answers (ByRow n k s due near base i t) (Stamped n k s stamp) Found.Nothing → Answers (By n k s due t x) (Stamped n k s stamp) r
+      → Answers (ByRow n k s due near base (i + 1) t) (Stamped n k s stamp) Found.Nothing
   row-more r e a b c′ u via (i′, hi, by) = go (decLt i′ i)
     where
       b′ : Answers (By n k s due t x) (Stamped n k s stamp) Found.Nothing
@@ -103,12 +102,12 @@ module _ (n k : ℕ) (s due near : List ℕ) (c i t stamp x : ℕ) (ex : x ≡ g
       go (yes l) = a c′ u via (i′, l, by)
       go (no l) = let z : i′ ≡ i = omega arith in b′ c′ u via (rw ex (rw z at by))
 
-  pub row-some : (m : ℕ) → i < m → (c′ u via : ℕ) → By n k s due t x c′ u via → ByRow n k s due near c m t c′ u via
+  pub row-some : (m : ℕ) → i < m → (c′ u via : ℕ) → By n k s due t x c′ u via → ByRow n k s due near base m t c′ u via
   row-some m h c′ u via by = (i, h, rw ex at by)
 
 -- After Nothing of the row, dropping out answers for both.
-pub find-rest : (n k : ℕ) (s near degree due : List ℕ) (c t stamp : ℕ) (r : Found)
-    → (0 < t → Answers (ByRow n k s due near c (getD degree c 0) t) (Stamped n k s stamp) Found.Nothing)
-    → Answers (Down n k s due c t) (Stamped n k s stamp) r → Answers (From n k s near degree due c t) (Stamped n k s stamp) r
-find-rest n k s near degree due c t stamp Found.Nothing none b = λ x u via o. ⊎-elim (λ p. none (p .0) x u via (p .1)) (λ q. b x u via q) o
-find-rest n k s near degree due c t stamp (Found.Push x u via) none b = (inr (b .0), b .1)
+pub find-rest : (n k : ℕ) (s near start degree due : List ℕ) (c t stamp : ℕ) (r : Found)
+    → (0 < t → Answers (ByRow n k s due near (getD start c 0) (getD degree c 0) t) (Stamped n k s stamp) Found.Nothing)
+    → Answers (Down n k s due c t) (Stamped n k s stamp) r → Answers (From n k s near start degree due c t) (Stamped n k s stamp) r
+find-rest n k s near start degree due c t stamp Found.Nothing none b = λ x u via o. ⊎-elim (λ p. none (p .0) x u via (p .1)) (λ q. b x u via q) o
+find-rest n k s near start degree due c t stamp (Found.Push x u via) none b = (inr (b .0), b .1)

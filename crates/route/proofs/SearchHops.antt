@@ -78,8 +78,8 @@ module _ {j : Job} {due : List ℕ} (d : Due j due) where
   not-due : (c t : ℕ) → c < j .cells → isLift j (point c t) ≡ false → getD due c 0 ≡ t + 1 → ⊥
   not-due c t h e f = nope (cc (d .lifts c t h .0 f))
 
-pub rows : {j : Job} {near degree hint : List ℕ} → Near j near degree → length hint ≡ maxCells → Rows (j .cells) near degree hint
-rows n h = record { rows = n .rows; counts = n .counts; hints = h; few = n .few; cells = λ c i hc hi. n .only c i 0 hc hi .0 }
+pub rows : {j : Job} {near start degree hint : List ℕ} → Near j near start degree → length hint ≡ maxCells → Rows (j .cells) near start degree hint
+rows n h = record { rows = n .rows; begins = n .begins; counts = n .counts; hints = h; fits = n .fits; cells = λ c i hc hi. n .only c i 0 hc hi .0 }
 
 -- Two residual arcs, to the arrival at w and on to the departure from y.
 pub record HopTo (j : Job) (back on : Point → Link Point) (v w y : Point) : Type 0 where
@@ -108,7 +108,7 @@ module _ (j : Job) (s : List ℕ) (ok : FlowIn j s) where
         (r .0 .0, row-in j (t + 1) (r .0 .1));
   }
 
-  module _ {near degree due : List ℕ} (n : Near j near degree) (d : Due j due) (v : Point) (k : Known j v) where
+  module _ {near start degree due : List ℕ} (n : Near j near start degree) (d : Due j due) (v : Point) (k : Known j v) where
     -- The links of a used node that is no call's, from its bytes.
     goes : (x : Point) → Known j x → (at (nodes j) s 0 (idx j x) ≡ 0 → ⊥) → (getD due (x .cell) 0 ≡ x .step + 1 → ⊥)
         → (onLink j s x ≡ to (point (at (nodes j) s 2 (idx j x)) (x .step + 1))) × Known j (point (at (nodes j) s 2 (idx j x)) (x .step + 1))
@@ -145,10 +145,10 @@ module _ (j : Job) (s : List ℕ) (ok : FlowIn j s) where
               then = inr (r .0 ∙ ap (λ (z : ℕ). to (point (at (nodes j) s 2 (idx j w)) z)) t);
             })
 
-    pub found-hop : (c u via : ℕ) → From (j .cells) (nodes j) s near degree due (v .cell) (v .step) c u via
+    pub found-hop : (c u via : ℕ) → From (j .cells) (nodes j) s near start degree due (v .cell) (v .step) c u via
         → HopTo j (backLink j s) (onLink j s) v (hopVia v u via) (point c u)
     found-hop c u via (inl (pos, (i, hi, b))) =
-        let w : Point = point (getD near (v .cell * maxCells + i) 0) (v .step - 1) in
+        let w : Point = point (getD near (getD start (v .cell) 0 + i) 0) (v .step - 1) in
         let o = n .only (v .cell) i (v .step - 1) (k .0) hi in
         via-hop w (record {
           falls = omega arith;
@@ -165,14 +165,14 @@ module _ (j : Job) (s : List ℕ) (ok : FlowIn j s) where
 
     -- A cell from which one step leads to v's is in the row.
     in-table : (w : Point) → Earlier j v w → (c u : ℕ) → By (j .cells) (nodes j) s due (v .step) (w .cell) c u (w .cell)
-        → (via : ℕ) × From (j .cells) (nodes j) s near degree due (v .cell) (v .step) c u via
+        → (via : ℕ) × From (j .cells) (nodes j) s near start degree due (v .cell) (v .step) c u via
     in-table w a c u b =
         let r = n .all (v .cell) (w .cell) (w .step) (k .0) (a .known-before) (a .moves) in
         (w .cell, inl (omega (arith, a .falls), (r .0, r .1, rw (r .2) b)))
 
     -- What is two arcs from v is v itself, or among what is found.
     pub hop-found : (w y : Point) → Residual (graph j) (backLink j s) (onLink j s) (dep v) (arr w) → Residual (graph j) (backLink j s) (onLink j s) (arr w) (dep y)
-        → (y ≡ v) ⊎ (Known j y × ((via : ℕ) × From (j .cells) (nodes j) s near degree due (v .cell) (v .step) (y .cell) (y .step) via))
+        → (y ≡ v) ⊎ (Known j y × ((via : ℕ) × From (j .cells) (nodes j) s near start degree due (v .cell) (v .step) (y .cell) (y .step) via))
     hop-found w y (inl e) (inl (f, g)) = inl (f ∙ sym e)
     hop-found w y (inl e) (inr g) =
         let g′ : onLink j s v ≡ to y = rw (sym e) at g in
@@ -193,7 +193,7 @@ module _ (j : Job) (s : List ℕ) (ok : FlowIn j s) where
         nd z = not-due d (w .cell) (w .step) (kw .0) (a .leaves) (z ∙ sym t)
 
         go : Residual (graph j) (backLink j s) (onLink j s) (arr w) (dep y)
-            → Known j y × ((via : ℕ) × From (j .cells) (nodes j) s near degree due (v .cell) (v .step) (y .cell) (y .step) via)
+            → Known j y × ((via : ℕ) × From (j .cells) (nodes j) s near start degree due (v .cell) (v .step) (y .cell) (y .step) via)
         go (inl (f, g)) =
             (rw f kw, in-table w a (y .cell) (y .step) (refl, nd, inl (rw q (off-unused j s w kw g), point-cell f, point-step f ∙ sym q)))
         go (inr g) =

@@ -80,8 +80,8 @@ module _ (j : Job) (s t : List ℕ) (same : SameFlow j s t) where
   flow-kept ok = flow-same (λ v. ap (λ (l : Point → Link Point). l v) back-same) (λ v. ap (λ (l : Point → Link Point). l v) on-same) ok
 
   -- A search may start from such a store too, with any stamp.
-  pub may-search : {near degree due cart-on hint : List ℕ} {n k cell step stamp : ℕ} (stamp′ : ℕ) → 0 < stamp′
-      → Searching j near degree due cart-on hint s n k cell step stamp → Searching j near degree due cart-on hint t n k cell step stamp′
+  pub may-search : {near start degree due cart-on hint : List ℕ} {n k cell step stamp : ℕ} (stamp′ : ℕ) → 0 < stamp′
+      → Searching j near start degree due cart-on hint s n k cell step stamp → Searching j near start degree due cart-on hint t n k cell step stamp′
   may-search {cell = cell} {step = step} stamp′ some h = record {
     ready = h .ready;
     cells = h .cells;

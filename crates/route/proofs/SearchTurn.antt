@@ -29,16 +29,16 @@ use Rattle.route.proofs.SearchCount.{unmarked-some}
 use Rattle.route.proofs.SearchRuns.{Running, Marked, left, run-pop, run-push, run-falls}
 
 -- What is at hand once the turn has read the position (c, t) on top of the stack.
-pub record Turn (j : Job) (near degree due cart-on hint : List ℕ) (n k : ℕ) (s₁ s : List ℕ) (a b stamp d c t : ℕ) : Type 0 where
-  pub for : Searching j near degree due cart-on hint s₁ n k a b stamp
+pub record Turn (j : Job) (near start degree due cart-on hint : List ℕ) (n k : ℕ) (s₁ s : List ℕ) (a b stamp d c t : ℕ) : Type 0 where
+  pub for : Searching j near start degree due cart-on hint s₁ n k a b stamp
   pub room : 8 * k ≤ length s
   pub run : Running j s₁ s stamp (point a b) d
   pub some : 0 < d
   pub cell : c ≡ getD s (4 * k + d - 1) 0
   pub step : t ≡ getD s (5 * k + d - 1) 0
 
-module _ {j : Job} {near degree due cart-on hint : List ℕ} {n k : ℕ} {s₁ s : List ℕ} {a b stamp d c t : ℕ}
-    (w : Turn j near degree due cart-on hint n k s₁ s a b stamp d c t) where
+module _ {j : Job} {near start degree due cart-on hint : List ℕ} {n k : ℕ} {s₁ s : List ℕ} {a b stamp d c t : ℕ}
+    (w : Turn j near start degree due cart-on hint n k s₁ s a b stamp d c t) where
   -- The position on top.
   top : posAt j s (d - 1) ≡ point c t
   top = point-eq (ap (λ (z : ℕ). getD s z 0) (omega (arith, w .for .size, w .some)) ∙ sym (w .cell)) (ap (λ (z : ℕ). getD s z 0) (omega (arith, w .for .size, w .some)) ∙ sym (w .step))
@@ -60,8 +60,8 @@ module _ {j : Job} {near degree due cart-on hint : List ℕ} {n k : ℕ} {s₁ s
       let h : (graph j) .Goal (point c t) = subst (λ (z : Point). (graph j) .Goal z) top g in
       omega (arith, eqb-true (getD cart-on c 0) 0 (not-false (eqb (getD cart-on c 0) 0) (none (h .0))), w .for .carts .has-cart c (h .1))
 
-  module _ (r : Found) (ans : Answers (From n k s near degree due c t) (Stamped n k s stamp) r) (dull : (graph j) .Goal (posAt j s (d - 1)) → ⊥) where
-    ans′ : Answers (From (j .cells) (nodes j) s near degree due c t) (Stamped (j .cells) (nodes j) s stamp) r
+  module _ (r : Found) (ans : Answers (From n k s near start degree due c t) (Stamped n k s stamp) r) (dull : (graph j) .Goal (posAt j s (d - 1)) → ⊥) where
+    ans′ : Answers (From (j .cells) (nodes j) s near start degree due c t) (Stamped (j .cells) (nodes j) s stamp) r
     ans′ = rw (w .for .cells, w .for .size) at ans
 
     run′ : Running j s₁ s stamp (point a b) (suc (d - 1))
@@ -70,7 +70,7 @@ module _ {j : Job} {near degree due cart-on hint : List ℕ} {n k : ℕ} {s₁ s
     pub turn-pop : r ≡ Found.Nothing → Running j s₁ s stamp (point a b) (d - 1)
     turn-pop e = run-pop j stamp (point a b) s₁ s (d - 1) run′ dull (subst (λ (z : Point). Done (graph j) (backLink j s) (onLink j s) (Marked j s stamp) z) (sym top) done)
       where
-        none : Answers (From (j .cells) (nodes j) s near degree due c t) (Stamped (j .cells) (nodes j) s stamp) Found.Nothing
+        none : Answers (From (j .cells) (nodes j) s near start degree due c t) (Stamped (j .cells) (nodes j) s stamp) Found.Nothing
         none = rw e at ans′
 
         done : Done (graph j) (backLink j s) (onLink j s) (Marked j s stamp) (point c t)
@@ -80,7 +80,7 @@ module _ {j : Job} {near degree due cart-on hint : List ℕ} {n k : ℕ} {s₁ s
             (hop-found j s (w .run .flow) (w .for .rows) (w .for .dues) (point c t) top-known u y a b)
 
     module _ (c′ u via : ℕ) (e : r ≡ Found.Push c′ u via) where
-      some : From (j .cells) (nodes j) s near degree due c t c′ u via × (Stamped (j .cells) (nodes j) s stamp c′ u → ⊥)
+      some : From (j .cells) (nodes j) s near start degree due c t c′ u via × (Stamped (j .cells) (nodes j) s stamp c′ u → ⊥)
       some = rw e at ans′
 
       hop : HopTo j (backLink j s) (onLink j s) (posAt j s (d - 1)) (hopVia (posAt j s (d - 1)) u via) (point c′ u)

@@ -26,9 +26,9 @@ module _ {j : Job} {s t : List ℕ} {stamp : ℕ} {x : Point} {r : ℕ} (f : Sea
   pub fresh-next : MarksUpTo j s stamp → Fresh j t (stamp + 1)
   fresh-next h v b e = omega (arith, e, marks-search stamp (omega arith) h v b)
 
-module _ {j : Job} {near degree due cart-on hint s t : List ℕ} {n k cell step stamp r : ℕ} (f : Searched j s t stamp (point cell step) r)
-    (h : Searching j near degree due cart-on hint s n k cell step stamp) where
-  pub search-again : Searching j near degree due cart-on hint t n k cell step (stamp + 1)
+module _ {j : Job} {near start degree due cart-on hint s t : List ℕ} {n k cell step stamp r : ℕ} (f : Searched j s t stamp (point cell step) r)
+    (h : Searching j near start degree due cart-on hint s n k cell step stamp) where
+  pub search-again : Searching j near start degree due cart-on hint t n k cell step (stamp + 1)
   search-again = may-search j s t (f .same) (stamp + 1) (omega arith) h
 
   -- The way that was found may be laid.

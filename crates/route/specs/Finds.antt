@@ -8,6 +8,7 @@ use lib.ListN.{length, getD}
 use Rattle.model.specs.Limits.{maxCells, maxSteps}
 use Rattle.route.specs.declared.search.Found.{Found}
 use Rattle.network.specs.Store.{at}
+use Rattle.network.specs.Tables.{nearSize}
 
 -- The sizes; and a used node that is no call's leads on to a node one step later.
 pub record Held (n k : ℕ) (s due : List ℕ) : Type 0 where
@@ -19,12 +20,13 @@ pub record Held (n k : ℕ) (s due : List ℕ) : Type 0 where
       → (at k s 2 (t * n + c) < n) × ((t + 1) * n + n ≤ k)
 
 -- The rows of the table of cells that one step leads from.
-pub record Rows (n : ℕ) (near degree hint : List ℕ) : Type 0 where
-  pub rows : length near ≡ maxCells * maxCells
+pub record Rows (n : ℕ) (near start degree hint : List ℕ) : Type 0 where
+  pub rows : length near ≡ nearSize
+  pub begins : length start ≡ maxCells
   pub counts : length degree ≡ maxCells
   pub hints : length hint ≡ maxCells
-  pub few : (c : ℕ) → c < n → getD degree c 0 ≤ maxCells
-  pub cells : (c i : ℕ) → c < n → i < getD degree c 0 → getD near (c * maxCells + i) 0 < n
+  pub fits : (c : ℕ) → c < n → getD start c 0 + getD degree c 0 ≤ nearSize
+  pub cells : (c i : ℕ) → c < n → i < getD degree c 0 → getD near (getD start c 0 + i) 0 < n
 
 -- From a position at step t by way of the cell x one step earlier one gets to (c, u): to that node if it is unused, else to its successor.
 abbrev pub By : ℕ → ℕ → List ℕ → List ℕ → ℕ → ℕ → ℕ → ℕ → ℕ → Type 0
@@ -33,9 +35,9 @@ By n k s due t x c u via =
     × (((at k s 0 ((t - 1) * n + x) ≡ 0) × (c ≡ x) × (u ≡ t - 1))
     ⊎ ((at k s 0 ((t - 1) * n + x) ≡ 0 → ⊥) × (c ≡ at k s 2 ((t - 1) * n + x)) × (u ≡ t)))
 
--- The same, by way of one of the first m cells of row a.
+-- The same, by way of one of the m cells of the row that begins at base.
 abbrev pub ByRow : ℕ → ℕ → List ℕ → List ℕ → List ℕ → ℕ → ℕ → ℕ → ℕ → ℕ → ℕ → Type 0
-ByRow n k s due near a m t c u via = (i : ℕ) × (i < m) × By n k s due t (getD near (a * maxCells + i) 0) c u via
+ByRow n k s due near base m t c u via = (i : ℕ) × (i < m) × By n k s due t (getD near (base + i) 0) c u via
 
 -- The position (a, t) is a used node, and (c, u) its successor.
 abbrev pub Down : ℕ → ℕ → List ℕ → List ℕ → ℕ → ℕ → ℕ → ℕ → ℕ → Type 0
@@ -43,8 +45,8 @@ Down n k s due a t c u via =
     (via ≡ a) × (at k s 0 (t * n + a) ≡ 0 → ⊥) × (getD due a 0 ≡ t + 1 → ⊥) × (c ≡ at k s 2 (t * n + a)) × (u ≡ t + 1)
 
 -- From (a, t) one gets to (c, u).
-abbrev pub From : ℕ → ℕ → List ℕ → List ℕ → List ℕ → List ℕ → ℕ → ℕ → ℕ → ℕ → ℕ → Type 0
-From n k s near degree due a t c u via = ((0 < t) × ByRow n k s due near a (getD degree a 0) t c u via) ⊎ Down n k s due a t c u via
+abbrev pub From : ℕ → ℕ → List ℕ → List ℕ → List ℕ → List ℕ → List ℕ → ℕ → ℕ → ℕ → ℕ → ℕ → Type 0
+From n k s near start degree due a t c u via = ((0 < t) × ByRow n k s due near (getD start a 0) (getD degree a 0) t c u via) ⊎ Down n k s due a t c u via
 
 abbrev pub Stamped : ℕ → ℕ → List ℕ → ℕ → ℕ → ℕ → Type 0
 Stamped n k s stamp c t = at k s 1 (t * n + c) ≡ stamp

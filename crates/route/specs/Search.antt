@@ -29,11 +29,11 @@ abbrev pub Fresh : Job → List ℕ → ℕ → Type 0
 Fresh j s stamp = (v : ℕ) → v < nodes j → at (nodes j) s 1 v ≡ stamp → ⊥
 
 -- The tables are the job's, the store holds a flow that does not serve the call of cell and step yet, and n and k are the job's cells and nodes.
-pub record Searching (j : Job) (near degree due cartOn hint s : List ℕ) (n k cell step stamp : ℕ) : Type 0 where
+pub record Searching (j : Job) (near start degree due cartOn hint s : List ℕ) (n k cell step stamp : ℕ) : Type 0 where
   pub ready : Ready j
   pub cells : n ≡ j .cells
   pub size : k ≡ nodes j
-  pub rows : Near j near degree
+  pub rows : Near j near start degree
   pub dues : Due j due
   pub carts : CartOn j cartOn
   pub hints : length hint ≡ maxCells

@@ -19,8 +19,8 @@ abbrev pub MarksUpTo : Job → List ℕ → ℕ → Type 0
 MarksUpTo j s stamp = (v : ℕ) → v < nodes j → at (nodes j) s 1 v ≤ stamp
 
 -- A search may start, with a stamp that no mark is above; where fresh says so, no mark has it. There is room for one stamp more.
-pub record Serving (j : Job) (near degree due cartOn hint s : List ℕ) (n k cell step stamp : ℕ) (fresh : Bool) : Type 0 where
-  pub search : Searching j near degree due cartOn hint s n k cell step stamp
+pub record Serving (j : Job) (near start degree due cartOn hint s : List ℕ) (n k cell step stamp : ℕ) (fresh : Bool) : Type 0 where
+  pub search : Searching j near start degree due cartOn hint s n k cell step stamp
   pub small : stamp < 200
   pub marks : MarksUpTo j s stamp
   pub clean : fresh ≡ true → Fresh j s stamp

@@ -1,5 +1,4 @@
 // One search: from a call's node back in time to a free cart, depth first, with the way so far as a stack in the store.
-use model::Limits;
 use model::bytes::wide;
 ghost use mathlib.Core.Path.{_≡_};
 ghost use Prim.Native.Nat.{ℕ, _+_, _*_, _<_, _≤_};
@@ -7,6 +6,7 @@ ghost use lib.ListN.{length, getD};
 ghost use Rattle.model.specs.Limits.{maxCells, maxSteps};
 ghost use Rattle.model.specs.Job as model;
 ghost use Rattle.model.specs.Choke.{point};
+ghost use Rattle.network.specs.Tables.{nearSize};
 ghost use Rattle.route.specs.Search.{Searching, Searched};
 ghost use Rattle.route.specs.Finds.{Held, Rows, By, ByRow, Down, From, Stamped, Answers, Pushed};
 
@@ -51,24 +51,24 @@ fn look(store: &[u8], due: &[u16], n: usize, k: usize, t: usize, x: usize, stamp
     }
 }
 
-// The first of the m cells of row c that leads on.
+// The first of the m cells of the row at base that leads on.
 fn scan(
     store: &[u8],
     near: &[u8],
     due: &[u16],
     n: usize,
     k: usize,
-    c: usize,
+    base: usize,
     m: usize,
     t: usize,
     stamp: u8,
 ) -> Found
-    requires { ⌜ Held n k (now store) (now due) × (length (now near) ≡ maxCells * maxCells) × (c < n) × (m ≤ maxCells) × ((i : ℕ) → i < m → getD (now near) (c * maxCells + i) 0 < n) × (0 < t) × (t * n + n ≤ k) ⌝ }
-    ensures { λ r. ⌜ Answers (ByRow n k (now (store .entry)) (now (due .entry)) (now (near .entry)) c m t) (Stamped n k (now (store .entry)) stamp) r ⌝ }
+    requires { ⌜ Held n k (now store) (now due) × (length (now near) ≡ nearSize) × (base + m ≤ nearSize) × ((i : ℕ) → i < m → getD (now near) (base + i) 0 < n) × (0 < t) × (t * n + n ≤ k) ⌝ }
+    ensures { λ r. ⌜ Answers (ByRow n k (now (store .entry)) (now (due .entry)) (now (near .entry)) base m t) (Stamped n k (now (store .entry)) stamp) r ⌝ }
 {
     let mut i = 0;
     while i < m {
-        let x = wide(near[c * Limits::CELLS + i]);
+        let x = wide(near[base + i]);
         let found = look(store, due, n, k, t, x, stamp);
         if let Found::Push {
             cell: _,
@@ -109,6 +109,7 @@ fn drop_out(store: &[u8], due: &[u16], n: usize, k: usize, c: usize, t: usize, s
 fn find(
     store: &[u8],
     near: &[u8],
+    start: &[u16],
     degree: &[u16],
     due: &[u16],
     hint: &[u8],
@@ -118,14 +119,15 @@ fn find(
     t: usize,
     stamp: u8,
 ) -> Found
-    requires { ⌜ Held n k (now store) (now due) × Rows n (now near) (now degree) (now hint) × (c < n) × (t * n + n ≤ k) ⌝ }
-    ensures { λ r. ⌜ Answers (From n k (now (store .entry)) (now (near .entry)) (now (degree .entry)) (now (due .entry)) c t) (Stamped n k (now (store .entry)) stamp) r ⌝ }
+    requires { ⌜ Held n k (now store) (now due) × Rows n (now near) (now start) (now degree) (now hint) × (c < n) × (t * n + n ≤ k) ⌝ }
+    ensures { λ r. ⌜ Answers (From n k (now (store .entry)) (now (near .entry)) (now (start .entry)) (now (degree .entry)) (now (due .entry)) c t) (Stamped n k (now (store .entry)) stamp) r ⌝ }
 {
     if 0 < t {
+        let base = start[c] as usize;
         let m = degree[c] as usize;
         let h = wide(hint[c]);
         if h < m {
-            let x = wide(near[c * Limits::CELLS + h]);
+            let x = wide(near[base + h]);
             let found = look(store, due, n, k, t, x, stamp);
             if let Found::Push {
                 cell: _,
@@ -135,7 +137,7 @@ fn find(
                 return found;
             }
         }
-        let found = scan(store, near, due, n, k, c, m, t, stamp);
+        let found = scan(store, near, due, n, k, base, m, t, stamp);
         if let Found::Push {
             cell: _,
             step: _,
@@ -169,6 +171,7 @@ fn push(
 
 pub fn search(
     near: &[u8],
+    start: &[u16],
     degree: &[u16],
     due: &[u16],
     cart_on: &[u8],
@@ -180,8 +183,8 @@ pub fn search(
     step: usize,
     stamp: u8,
 ) -> usize
-    requires { ⌜ ((j : model.Job) × Searching j (now near) (now degree) (now due) (now «cart_on») (now hint) (now store) n k cell step stamp) ⌝ }
-    ensures { λ r. ⌜ ((j : model.Job) → Searching j (now (near .entry)) (now (degree .entry)) (now (due .entry)) (now («cart_on» .entry)) (now (hint .entry)) (now (store .entry)) n k cell step stamp → Searched j (now (store .entry)) (now (store .exit)) stamp (point cell step) r) ⌝ }
+    requires { ⌜ ((j : model.Job) × Searching j (now near) (now start) (now degree) (now due) (now «cart_on») (now hint) (now store) n k cell step stamp) ⌝ }
+    ensures { λ r. ⌜ ((j : model.Job) → Searching j (now (near .entry)) (now (start .entry)) (now (degree .entry)) (now (due .entry)) (now («cart_on» .entry)) (now (hint .entry)) (now (store .entry)) n k cell step stamp → Searched j (now (store .entry)) (now (store .exit)) stamp (point cell step) r) ⌝ }
 {
     push(store, n, k, 0, cell, step, 0, stamp);
     let mut depth = 1;
@@ -194,6 +197,7 @@ pub fn search(
         let Found::Push { cell, step, via } = find(
             store,
             near,
+            start,
             degree,
             due,
             hint,

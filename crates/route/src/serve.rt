@@ -18,6 +18,7 @@ pub enum Served {
 // ones is made again with a new stamp.
 pub fn serve(
     near: &[u8],
+    start: &[u16],
     degree: &[u16],
     due: &[u16],
     cart_on: &[u8],
@@ -30,11 +31,12 @@ pub fn serve(
     stamp: u8,
     fresh: bool,
 ) -> Served
-    requires { ⌜ ((j : model.Job) × Serving j (now near) (now degree) (now due) (now «cart_on») (now hint) (now store) n k cell step stamp fresh) ⌝ }
-    ensures { λ r. ⌜ (length (now (store .exit)) ≡ length (now (store .entry))) × ((j : model.Job) → Serving j (now (near .entry)) (now (degree .entry)) (now (due .entry)) (now («cart_on» .entry)) (now (hint .entry)) (now (store .entry)) n k cell step stamp fresh → FlowIn j (now (store .exit)) × ServedBy j (now (store .entry)) (now (store .exit)) stamp (point cell step) r) ⌝ }
+    requires { ⌜ ((j : model.Job) × Serving j (now near) (now start) (now degree) (now due) (now «cart_on») (now hint) (now store) n k cell step stamp fresh) ⌝ }
+    ensures { λ r. ⌜ (length (now (store .exit)) ≡ length (now (store .entry))) × ((j : model.Job) → Serving j (now (near .entry)) (now (start .entry)) (now (degree .entry)) (now (due .entry)) (now («cart_on» .entry)) (now (hint .entry)) (now (store .entry)) n k cell step stamp fresh → FlowIn j (now (store .exit)) × ServedBy j (now (store .entry)) (now (store .exit)) stamp (point cell step) r) ⌝ }
 {
     let depth = search::search(
         near,
+        start,
         degree,
         due,
         cart_on,
@@ -56,6 +58,7 @@ pub fn serve(
     let again = stamp + 1;
     let depth = search::search(
         near,
+        start,
         degree,
         due,
         cart_on,

@@ -12,10 +12,10 @@ use Rattle.network.proofs.aim.aim.Statement.{statement}
 use Rattle.network.proofs.aim.aim.Tie as tie
 
 abbrev Inv-loop : tie.InvT-loop
-Inv-loop cells near degree cart-on store cell hint₀ queue₀ seen₀ to₀ place₀ head₀ tail₀ hint queue seen to place head tail = (length hint ≡ maxCells) × Queue cells queue tail
+Inv-loop cells near start degree cart-on store cell hint₀ queue₀ seen₀ to₀ place₀ head₀ tail₀ hint queue seen to place head tail = (length hint ≡ maxCells) × Queue cells queue tail
 
 abbrev μ-loop : tie.MeasureT-loop
-μ-loop cells near degree cart-on store cell hint₀ queue₀ seen₀ to₀ place₀ head₀ tail₀ hint queue seen to place head tail = cells - head
+μ-loop cells near start degree cart-on store cell hint₀ queue₀ seen₀ to₀ place₀ head₀ tail₀ hint queue seen to place head tail = cells - head
 
 cast-queue : tie.Need-cast-queue Inv-loop μ-loop
 cast-queue c = search needs
@@ -27,7 +27,7 @@ array-write-seen : tie.Need-array-write-seen Inv-loop μ-loop
 array-write-seen c = search needs
 
 loop-holds : tie.Need-loop-holds Inv-loop μ-loop
-loop-holds c = (search needs, queue-first (c .before .before .before .before .before .args .cell) (c .before .before .before .before .before .pre .0) (c .before .before .before .before .before .pre .4))
+loop-holds c = (search needs, queue-first (c .before .before .before .before .before .before .args .cell) (c .before .before .before .before .before .before .pre .0) (c .before .before .before .before .before .before .pre .4))
 
 array-read-wide : tie.Need-array-read-wide Inv-loop μ-loop
 array-read-wide c = search needs
@@ -41,7 +41,7 @@ shared-slice-read-if1 c = search needs
 shared-slice-read-if2 : tie.Need-shared-slice-read-if2 Inv-loop μ-loop
 shared-slice-read-if2 c =
     let l = c .before .before .before .before .before .loop in
-    omega (arith, c .before .before .before .wide .ensures .0, l .inv .1 .known (l .head) (c .before .before .before .before .loop-test .taken), c .before .before .before .before .before .before .before .before .before .before .before .pre .3)
+    omega (arith, c .before .before .before .wide .ensures .0, l .inv .1 .known (l .head) (c .before .before .before .before .loop-test .taken), c .before .before .before .before .before .before .before .before .before .before .before .before .pre .3)
 
 slice-write-hint : tie.Need-slice-write-hint Inv-loop μ-loop
 slice-write-hint c = search needs
@@ -57,11 +57,11 @@ returns c = search needs
 
 expand-requires : tie.Need-expand-requires Inv-loop μ-loop
 expand-requires c κs =
-    let r = c .before .before .before .before .before .before .before .before .before .before .before .before .before .before .pre .1 in
+    let r = c .before .before .before .before .before .before .before .before .before .before .before .before .before .before .before .pre .1 in
     let l = c .before .before .before .before .before .before .before .before .loop in
     let v = c .before .before .before .before .before .before .wide in
-    let k : v .result < c .before .before .before .before .before .before .before .before .before .before .before .before .before .before .args .cells = omega (arith, v .ensures .0, l .inv .1 .known (l .head) (c .before .before .before .before .before .before .before .loop-test .taken)) in
-    (v .ensures .1, r .rows, r .counts, r .few (v .result) k, λ i h. r .known (v .result) i k h, l .inv .1)
+    let k : v .result < c .before .before .before .before .before .before .before .before .before .before .before .before .before .before .before .args .cells = omega (arith, v .ensures .0, l .inv .1 .known (l .head) (c .before .before .before .before .before .before .before .loop-test .taken)) in
+    (v .ensures .1, r .rows, r .begins, r .counts, r .few (v .result) k, r .fits (v .result) k, λ i h. r .known (v .result) i k h, l .inv .1)
 
 add-head : tie.Need-add-head Inv-loop μ-loop
 add-head c = search needs

@@ -1,10 +1,9 @@
 -- `expand` puts known cells at the end of the queue. Invariant: the queue holds known cells. The measure is what is left of the row. Assumes nothing.
-use Prim.Native.Nat.{_+_, _-_, _*_, _≤_}
+use Prim.Native.Nat.{_+_, _-_, _≤_}
 use mathlib.Core.Logic.{⊎-elim}
 use native.Mathlib.Omega.{arith}
 use denote.Ref.{now}
 use lib.ListN.{getD}
-use Rattle.model.specs.Limits.{maxCells}
 use Rattle.network.specs.Queue.{Queue}
 use Rattle.network.proofs.AimLaws.{queue-more}
 use borrow.Author.Needs.{needs}
@@ -13,10 +12,19 @@ use Rattle.network.proofs.aim.expand.Statement.{statement}
 use Rattle.network.proofs.aim.expand.Tie as tie
 
 abbrev Inv-loop : tie.InvT-loop
-Inv-loop near degree cells c queue₀ seen₀ to₀ place₀ end tail₀ n i₀ queue seen to place tail i = (i ≤ n) × Queue cells queue tail
+Inv-loop near start degree cells c queue₀ seen₀ to₀ place₀ end tail₀ first n i₀ queue seen to place tail i = (i ≤ n) × Queue cells queue tail
 
 abbrev μ-loop : tie.MeasureT-loop
-μ-loop near degree cells c queue₀ seen₀ to₀ place₀ end tail₀ n i₀ queue seen to place tail i = n - i
+μ-loop near start degree cells c queue₀ seen₀ to₀ place₀ end tail₀ first n i₀ queue seen to place tail i = n - i
+
+mul-first : tie.Need-mul-first Inv-loop μ-loop
+mul-first c = search needs
+
+shared-slice-read-first : tie.Need-shared-slice-read-first Inv-loop μ-loop
+shared-slice-read-first c = search needs
+
+cast-first : tie.Need-cast-first Inv-loop μ-loop
+cast-first c = search needs
 
 mul-n : tie.Need-mul-n Inv-loop μ-loop
 mul-n c = search needs
@@ -28,10 +36,7 @@ cast-n : tie.Need-cast-n Inv-loop μ-loop
 cast-n c = search needs
 
 loop-holds : tie.Need-loop-holds Inv-loop μ-loop
-loop-holds c = (omega arith, c .before .before .before .pre .5)
-
-mul-b : tie.Need-mul-b Inv-loop μ-loop
-mul-b c = search needs
+loop-holds c = (omega arith, c .before .before .before .before .before .pre .7)
 
 add-b : tie.Need-add-b Inv-loop μ-loop
 add-b c = search needs
@@ -61,7 +66,7 @@ element-write-place : tie.Need-element-write-place Inv-loop μ-loop
 element-write-place c = search needs
 
 element-write-queue : tie.Need-element-write-queue Inv-loop μ-loop
-element-write-queue c = omega (arith, ltb-true (c .before .before .before .before .before .before .loop .tail) (c .before .before .before .before .before .before .before .before .before .before .args .cells) (c .if2 .taken), c .before .before .before .before .before .before .loop .inv .1 .few)
+element-write-queue c = omega (arith, ltb-true (c .before .before .before .before .before .before .loop .tail) (c .before .before .before .before .before .before .before .before .before .before .before .before .args .cells) (c .if2 .taken), c .before .before .before .before .before .before .loop .inv .1 .few)
 
 add-tail : tie.Need-add-tail Inv-loop μ-loop
 add-tail c = search needs
@@ -74,11 +79,11 @@ loop-less c = search needs
 
 loop-again : tie.Need-loop-again Inv-loop μ-loop
 loop-again c =
-    let a = c .before .before .before .before .before .before .before .before .before .args in
+    let a = c .before .before .before .before .before .before .before .before .before .before .before .args in
     let l = c .before .before .before .before .before .loop in
-    let b = getD (now (a .near)) (a .c * maxCells + l .i) 0 in
+    let b = getD (now (a .near)) (getD (now (a .start)) (a .c) 0 + l .i) 0 in
     ⊎-elim
-    (λ w. (omega arith, rw (w .2, w .6) (queue-more b (ltb-true (l .tail) (a .cells) (w .1 .taken)) (c .before .before .before .before .before .before .before .before .before .pre .4 (l .i) (c .before .before .before .before .loop-test .taken)) (l .inv .1))))
+    (λ w. (omega arith, rw (w .2, w .6) (queue-more b (ltb-true (l .tail) (a .cells) (w .1 .taken)) (c .before .before .before .before .before .before .before .before .before .before .before .pre .6 (l .i) (c .before .before .before .before .loop-test .taken)) (l .inv .1))))
     (λ w. (omega arith, rw (w .1, w .5) (l .inv .1)))
     (c .if1 .came)
 
@@ -91,11 +96,13 @@ expand-spec =
     (tie.spec
     Inv-loop
     μ-loop
+    mul-first
+    shared-slice-read-first
+    cast-first
     mul-n
     shared-slice-read-n
     cast-n
     loop-holds
-    mul-b
     add-b
     shared-slice-read-b
     wide-requires

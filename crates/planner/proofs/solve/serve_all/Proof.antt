@@ -16,27 +16,27 @@ use Rattle.planner.proofs.solve.serve_all.Statement.{statement}
 use Rattle.planner.proofs.solve.serve_all.Tie as tie
 
 abbrev Inv-loop : tie.InvT-loop
-Inv-loop lifts deadlines calls near degree due cart-on order store₀ n k hint₀ stamp₀ i₀ store hint stamp i =
+Inv-loop lifts deadlines calls near start degree due cart-on order store₀ n k hint₀ stamp₀ i₀ store hint stamp i =
     (length store ≡ length store₀) × (length hint ≡ maxCells) × (i ≤ calls)
-    × ((j : Job) → Begun j lifts deadlines calls near degree due cart-on order store₀ n k → SoFar j order store i stamp)
+    × ((j : Job) → Begun j lifts deadlines calls near start degree due cart-on order store₀ n k → SoFar j order store i stamp)
 
 abbrev μ-loop : tie.MeasureT-loop
-μ-loop lifts deadlines calls near degree due cart-on order store₀ n k hint₀ stamp₀ i₀ store hint stamp i = calls - i
+μ-loop lifts deadlines calls near start degree due cart-on order store₀ n k hint₀ stamp₀ i₀ store hint stamp i = calls - i
 
 loop-holds : tie.Need-loop-holds Inv-loop μ-loop
 loop-holds c =
-    let a = c .before .before .before .before .before .before .args in
+    let a = c .before .before .before .before .before .before .before .args in
     (refl, search needs, omega arith, λ j g. so-far-none j (now (a .order)) (now (a .store)) (rw (g .size) at (g .blank)))
 
 shared-slice-read-wide : tie.Need-shared-slice-read-wide Inv-loop μ-loop
-shared-slice-read-wide c = let g = c .before .before .before .before .before .before .before .before .before .pre .1 in omega (arith, g .ordered .size, g .counted, g .ready .fit .few-calls)
+shared-slice-read-wide c = let g = c .before .before .before .before .before .before .before .before .before .before .pre .1 in omega (arith, g .ordered .size, g .counted, g .ready .fit .few-calls)
 
 wide-requires : tie.Need-wide-requires Inv-loop μ-loop
 wide-requires c κs = search needs
 
 element-copy-out-wide : tie.Need-element-copy-out-wide Inv-loop μ-loop
 element-copy-out-wide c =
-    let g = c .before .before .before .before .before .before .before .before .before .before .pre .1 in
+    let g = c .before .before .before .before .before .before .before .before .before .before .before .pre .1 in
     omega (arith, call-known g (c .before .before .before .loop .inv .3 _ g) (c .before .before .loop-test .taken), c .wide .ensures .0, g .counted, g .ready .fit .few-calls)
 
 wide-requires-2 : tie.Need-wide-requires-2 Inv-loop μ-loop
@@ -44,7 +44,7 @@ wide-requires-2 c κs = search needs
 
 element-copy-out-wide-2 : tie.Need-element-copy-out-wide-2 Inv-loop μ-loop
 element-copy-out-wide-2 c =
-    let g = c .before .before .before .before .before .before .before .before .before .before .before .before .pre .1 in
+    let g = c .before .before .before .before .before .before .before .before .before .before .before .before .before .pre .1 in
     omega (arith, call-known g (c .before .before .before .before .before .loop .inv .3 _ g) (c .before .before .before .before .loop-test .taken), c .before .before .wide .ensures .0, g .counted, g .ready .fit .few-calls)
 
 wide-requires-3 : tie.Need-wide-requires-3 Inv-loop μ-loop
@@ -55,7 +55,7 @@ slice-aggregate-aim c = search needs
 
 aim-requires : tie.Need-aim-requires Inv-loop μ-loop
 aim-requires c κs =
-    let g = c .before .before .before .before .before .before .before .before .before .before .before .before .before .before .before .before .pre .1 in
+    let g = c .before .before .before .before .before .before .before .before .before .before .before .before .before .before .before .before .before .pre .1 in
     let l = c .before .before .before .before .before .before .before .before .before .loop in
     let h = call-cell g (l .inv .3 _ g) (c .before .before .before .before .before .before .before .before .loop-test .taken) (c .before .before .before .before .before .before .wide .result) (c .before .before .before .before .wide2 .result) (c .before .before .wide3 .result) (c .before .before .before .before .before .before .wide .ensures .0) (c .before .before .before .before .wide2 .ensures .0) (c .before .before .wide3 .ensures .0) in
     (omega (arith, g .width, g .ready .fit .few-cells), rw (g .width) (readable-of (g .rows)), g .carts .size, omega (arith, g .room, g .width, l .inv .0), h, l .inv .1)
@@ -65,9 +65,9 @@ slice-aggregate-serve c = search needs
 
 serve-requires : tie.Need-serve-requires Inv-loop μ-loop
 serve-requires c κs =
-    let g = c .before .before .before .before .before .before .before .before .before .before .before .before .before .before .before .before .before .before .before .before .pre .1 in
+    let g = c .before .before .before .before .before .before .before .before .before .before .before .before .before .before .before .before .before .before .before .before .before .pre .1 in
     let l = c .before .before .before .before .before .before .before .before .before .before .before .before .before .loop in
-    (c .before .before .before .before .before .before .before .before .before .before .before .before .before .before .before .before .before .before .before .before .pre .0, call-serving g (l .inv .3 _ g) (c .before .before .before .before .before .before .before .before .before .before .before .before .loop-test .taken) (c .before .before .before .before .before .before .before .before .before .before .wide .result) (c .before .before .before .before .before .before .before .before .wide2 .result) (c .before .before .before .before .before .before .wide3 .result) (c .before .before .before .before .before .before .before .before .before .before .wide .ensures .0) (c .before .before .before .before .before .before .before .before .wide2 .ensures .0) (c .before .before .before .before .before .before .wide3 .ensures .0) (l .inv .0) _ (c .before .before .before .aim .ensures))
+    (c .before .before .before .before .before .before .before .before .before .before .before .before .before .before .before .before .before .before .before .before .before .pre .0, call-serving g (l .inv .3 _ g) (c .before .before .before .before .before .before .before .before .before .before .before .before .loop-test .taken) (c .before .before .before .before .before .before .before .before .before .before .wide .result) (c .before .before .before .before .before .before .before .before .wide2 .result) (c .before .before .before .before .before .before .wide3 .result) (c .before .before .before .before .before .before .before .before .before .before .wide .ensures .0) (c .before .before .before .before .before .before .before .before .wide2 .ensures .0) (c .before .before .before .before .before .before .wide3 .ensures .0) (l .inv .0) _ (c .before .before .before .aim .ensures))
 
 enum-known-served : tie.Need-enum-known-served Inv-loop μ-loop
 enum-known-served c = search needs
@@ -84,11 +84,11 @@ returns c =
     let d = c .before .before .before .before .serve in (
       d .ensures .0 ∙ l .inv .0,
       λ j g. let b = d .ensures .1 j (call-serving g (l .inv .3 j g) (c .before .before .before .before .before .before .before .before .before .before .before .before .before .before .before .before .before .loop-test .taken) (c .before .before .before .before .before .before .before .before .before .before .before .before .before .before .before .wide .result) (c .before .before .before .before .before .before .before .before .before .before .before .before .before .wide2 .result) (c .before .before .before .before .before .before .before .before .before .before .before .wide3 .result) (c .before .before .before .before .before .before .before .before .before .before .before .before .before .before .before .wide .ensures .0) (c .before .before .before .before .before .before .before .before .before .before .before .before .before .wide2 .ensures .0) (c .before .before .before .before .before .before .before .before .before .before .before .wide3 .ensures .0) (l .inv .0) _ (c .before .before .before .before .before .before .before .before .aim .ensures)) in
-          (b .0, failed j (l .store) (d .last .1 .1 .1 .1 .1 .0) (l .stamp) (point (c .before .before .before .before .before .before .before .before .before .before .before .before .before .wide2 .result) (c .before .before .before .before .before .before .before .before .before .before .before .wide3 .result)) (d .result) (c .enum-told .given .1) (b .1)),
+          (b .0, failed j (l .store) (d .last .1 .1 .1 .1 .1 .1 .0) (l .stamp) (point (c .before .before .before .before .before .before .before .before .before .before .before .before .before .wide2 .result) (c .before .before .before .before .before .before .before .before .before .before .before .wide3 .result)) (d .result) (c .enum-told .given .1) (b .1)),
     )
 
 add-i : tie.Need-add-i Inv-loop μ-loop
-add-i c = let g = c .before .before .before .before .before .before .before .before .before .before .before .before .before .before .before .before .before .before .before .before .before .before .before .before .before .before .pre .1 in omega (arith, c .before .before .before .before .before .before .before .before .before .before .before .before .before .before .before .before .before .before .loop-test .taken, g .counted, g .ready .fit .few-calls)
+add-i c = let g = c .before .before .before .before .before .before .before .before .before .before .before .before .before .before .before .before .before .before .before .before .before .before .before .before .before .before .before .pre .1 in omega (arith, c .before .before .before .before .before .before .before .before .before .before .before .before .before .before .before .before .before .before .loop-test .taken, g .counted, g .ready .fit .few-calls)
 
 loop-less : tie.Need-loop-less Inv-loop μ-loop
 loop-less c = omega (arith, c .before .before .before .before .before .before .before .before .before .before .before .before .before .before .before .before .before .before .loop-test .taken)
@@ -111,7 +111,7 @@ same-length-2 c = c .before .loop .inv .0
 returns-2 : tie.Need-returns-2 Inv-loop μ-loop
 returns-2 c =
     let l = c .before .loop in
-    let e : l .i ≡ c .before .before .before .before .before .before .before .before .args .calls = omega arith in
+    let e : l .i ≡ c .before .before .before .before .before .before .before .before .before .args .calls = omega arith in
     (l .inv .0, λ j g. (l .inv .3 j g .flow, all-served (g .ordered) (l .i) (e ∙ sym (g .counted)) (l .inv .3 j g)))
 
 pub serve-all-spec : {M : Type 1} → statement M

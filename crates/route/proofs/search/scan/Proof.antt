@@ -11,16 +11,13 @@ use Rattle.route.proofs.search.scan.Statement.{statement}
 use Rattle.route.proofs.search.scan.Tie as tie
 
 abbrev Inv-loop : tie.InvT-loop
-Inv-loop store near due n k c m t stamp i₀ i = (i ≤ m) × Answers (ByRow n k store due near c i t) (Stamped n k store stamp) Found.Nothing
+Inv-loop store near due n k base m t stamp i₀ i = (i ≤ m) × Answers (ByRow n k store due near base i t) (Stamped n k store stamp) Found.Nothing
 
 abbrev μ-loop : tie.MeasureT-loop
-μ-loop store near due n k c m t stamp i₀ i = m - i
+μ-loop store near due n k base m t stamp i₀ i = m - i
 
 loop-holds : tie.Need-loop-holds Inv-loop μ-loop
 loop-holds c = (omega arith, λ x u via b. absurd (omega (arith, b .1)))
-
-mul-wide : tie.Need-mul-wide Inv-loop μ-loop
-mul-wide c = omega arith
 
 add-wide : tie.Need-add-wide Inv-loop μ-loop
 add-wide c = omega arith
@@ -32,7 +29,7 @@ wide-requires : tie.Need-wide-requires Inv-loop μ-loop
 wide-requires c κs = search needs
 
 look-requires : tie.Need-look-requires Inv-loop μ-loop
-look-requires c κs = let p = c .before .before .before .before .before .before .before .pre in (p .0, omega (arith, p .4 (c .before .before .before .loop .i) (omega arith), c .wide .ensures .0), p .5, p .6)
+look-requires c κs = let p = c .before .before .before .before .before .before .before .pre in (p .0, omega (arith, p .3 (c .before .before .before .loop .i) (omega arith), c .wide .ensures .0), p .4, p .5)
 
 enum-told : tie.Need-enum-told Inv-loop μ-loop
 enum-told c = search needs
@@ -41,7 +38,7 @@ returns : tie.Need-returns Inv-loop μ-loop
 returns c =
     let a = c .before .before .before .before .before .before .before .before .before .before .args in
     answer-push _ _ _ _ _ _ _ (c .enum-told .given .1)
-    (row-some (a .n) (a .k) (now (a .store)) (now (a .due)) (now (a .near)) (a .c) (c .before .before .before .before .before .before .loop .i) (a .t) (a .stamp) (c .before .before .before .wide .result) (c .before .before .before .wide .ensures .0) (a .m) (c .before .before .before .before .before .loop-test .taken)) (c .before .before .look .ensures)
+    (row-some (a .n) (a .k) (now (a .store)) (now (a .due)) (now (a .near)) (a .base) (c .before .before .before .before .before .before .loop .i) (a .t) (a .stamp) (c .before .before .before .wide .result) (c .before .before .before .wide .ensures .0) (a .m) (c .before .before .before .before .before .loop-test .taken)) (c .before .before .look .ensures)
 
 enum-told-2 : tie.Need-enum-told-2 Inv-loop μ-loop
 enum-told-2 c = search needs
@@ -55,7 +52,7 @@ loop-less c = omega arith
 loop-again : tie.Need-loop-again Inv-loop μ-loop
 loop-again c =
     let a = c .before .before .before .before .before .before .before .before .before .before .args in
-    (omega arith, row-more (a .n) (a .k) (now (a .store)) (now (a .due)) (now (a .near)) (a .c) (c .before .before .before .before .before .before .loop .i) (a .t) (a .stamp) (c .before .before .before .wide .result) (c .before .before .before .wide .ensures .0) (c .before .before .look .result) (c .enum-told2 .given .1) (c .before .before .before .before .before .before .loop .inv .1) (c .before .before .look .ensures))
+    (omega arith, row-more (a .n) (a .k) (now (a .store)) (now (a .due)) (now (a .near)) (a .base) (c .before .before .before .before .before .before .loop .i) (a .t) (a .stamp) (c .before .before .before .wide .result) (c .before .before .before .wide .ensures .0) (c .before .before .look .result) (c .enum-told2 .given .1) (c .before .before .before .before .before .before .loop .inv .1) (c .before .before .look .ensures))
 
 returns-2 : tie.Need-returns-2 Inv-loop μ-loop
 returns-2 c = let e : c .before .loop .i ≡ c .before .before .before .before .before .args .m = omega arith in rw e at (c .before .loop .inv .1)
@@ -67,7 +64,6 @@ scan-spec =
     Inv-loop
     μ-loop
     loop-holds
-    mul-wide
     add-wide
     shared-slice-read-wide
     wide-requires

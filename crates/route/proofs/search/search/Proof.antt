@@ -24,26 +24,26 @@ use Rattle.route.proofs.search.search.Statement.{statement}
 use Rattle.route.proofs.search.search.Tie as tie
 
 abbrev Inv-loop : tie.InvT-loop
-Inv-loop near degree due cart-on hint store₀ n k cell step stamp depth₀ store depth =
+Inv-loop near start degree due cart-on hint store₀ n k cell step stamp depth₀ store depth =
     (k ≤ maxSteps * maxCells) × (depth ≤ k) × (8 * k ≤ length store) × (length store ≡ length store₀)
-    × ((j : Job) → Searching j near degree due cart-on hint store₀ n k cell step stamp → Running j store₀ store stamp (point cell step) depth)
+    × ((j : Job) → Searching j near start degree due cart-on hint store₀ n k cell step stamp → Running j store₀ store stamp (point cell step) depth)
 
 abbrev μ-loop : tie.MeasureT-loop
-μ-loop near degree due cart-on hint store₀ n k cell step stamp depth₀ store depth = 2 * left k store stamp + depth
+μ-loop near start degree due cart-on hint store₀ n k cell step stamp depth₀ store depth = 2 * left k store stamp + depth
 
 -- A job that the search may be for, told from the store after the first push.
 abbrev For : tie.After-push Inv-loop μ-loop → Job → Type 0
 For c j =
-    let a = c .before .before .before .before .before .before .before .before .args in
-    Searching j (now (a .near)) (now (a .degree)) (now (a .due)) (now (a .cart-on)) (now (a .hint)) (c .push .last .0) (a .n) (a .k) (a .cell) (a .step) (a .stamp)
+    let a = c .before .before .before .before .before .before .before .before .before .args in
+    Searching j (now (a .near)) (now (a .start)) (now (a .degree)) (now (a .due)) (now (a .cart-on)) (now (a .hint)) (c .push .last .0) (a .n) (a .k) (a .cell) (a .step) (a .stamp)
 
 one : (c : tie.After-push Inv-loop μ-loop) → (j : Job) × For c j
-one c = (c .before .before .before .before .before .before .before .before .pre .0, begun (c .push .ensures) (c .before .before .before .before .before .before .before .before .pre .1))
+one c = (c .before .before .before .before .before .before .before .before .before .pre .0, begun (c .push .ensures) (c .before .before .before .before .before .before .before .before .before .pre .1))
 
 -- What is at hand once c and t are read.
 turn : (c : tie.After-wide2 Inv-loop μ-loop) (j : Job) → For (c .before .before .before .before .before .before .before .before) j →
-    (let a = c .before .before .before .before .before .before .before .before .before .before .before .before .before .before .before .before .args in
-    Turn j (now (a .near)) (now (a .degree)) (now (a .due)) (now (a .cart-on)) (now (a .hint)) (a .n) (a .k) (c .before .before .before .before .before .before .before .before .push .last .0) (c .before .before .before .before .before .loop .store) (a .cell) (a .step) (a .stamp)
+    (let a = c .before .before .before .before .before .before .before .before .before .before .before .before .before .before .before .before .before .args in
+    Turn j (now (a .near)) (now (a .start)) (now (a .degree)) (now (a .due)) (now (a .cart-on)) (now (a .hint)) (a .n) (a .k) (c .before .before .before .before .before .before .before .before .push .last .0) (c .before .before .before .before .before .loop .store) (a .cell) (a .step) (a .stamp)
     (c .before .before .before .before .before .loop .depth) (c .before .before .wide .result) (c .wide2 .result))
 turn c j h = record {
   for = h;
@@ -60,9 +60,9 @@ dull c j h = no-goal (turn (c .before) j h) (λ z. ⊎-elim (λ w. w .2 .left) (
 
 push-requires : tie.Need-push-requires Inv-loop μ-loop
 push-requires c κs =
-    let a = c .before .before .before .before .before .before .before .args in
-    let j = c .before .before .before .before .before .before .before .pre .0 in
-    let h = c .before .before .before .before .before .before .before .pre .1 in
+    let a = c .before .before .before .before .before .before .before .before .args in
+    let j = c .before .before .before .before .before .before .before .before .pre .0 in
+    let h = c .before .before .before .before .before .before .before .before .pre .1 in
     let i = idx-below j {x = point (a .cell) (a .step)} (h .known) in
     let f = h .ready .fit .few-cells in
     let k : a .step * a .n + a .cell < a .k = rw (h .cells, h .size) i in
@@ -70,9 +70,9 @@ push-requires c κs =
 
 loop-holds : tie.Need-loop-holds Inv-loop μ-loop
 loop-holds c =
-    let a = c .before .before .before .before .before .before .before .before .before .before .args in
-    let j = c .before .before .before .before .before .before .before .before .before .before .pre .0 in
-    let h = c .before .before .before .before .before .before .before .before .before .before .pre .1 in
+    let a = c .before .before .before .before .before .before .before .before .before .before .before .args in
+    let j = c .before .before .before .before .before .before .before .before .before .before .before .pre .0 in
+    let h = c .before .before .before .before .before .before .before .before .before .before .before .pre .1 in
     (omega (arith, few-nodes j (h .ready), h .size), omega (arith, idx-below j {x = point (a .cell) (a .step)} (h .known), h .size), omega (arith, h .room, h .size, c .before .before .push .ensures .long), refl, λ j g. under-way (c .before .before .push .ensures) g)
 
 mul-wide : tie.Need-mul-wide Inv-loop μ-loop

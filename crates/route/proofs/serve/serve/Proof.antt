@@ -10,16 +10,16 @@ use Rattle.route.proofs.serve.serve.Statement.{statement}
 use Rattle.route.proofs.serve.serve.Tie as tie
 
 search-requires : tie.Need-search-requires
-search-requires c κs = let p = c .before .before .before .before .before .before .before .pre in (p .0, p .1 .search)
+search-requires c κs = let p = c .before .before .before .before .before .before .before .before .pre in (p .0, p .1 .search)
 
 augment-requires : tie.Need-augment-requires
 augment-requires c κs =
-    let (j, h) = c .before .before .before .before .before .before .before .before .before .before .before .before .pre in
+    let (j, h) = c .before .before .before .before .before .before .before .before .before .before .before .before .before .pre in
     (j, may-lay (c .before .before .before .before .search .ensures j (h .search)) (h .search) (c .before .if1 .taken))
 
 same-length : tie.Need-same-length
 same-length c =
-    let (j, h) = c .before .before .before .before .before .before .before .before .before .before .before .before .before .before .before .pre in
+    let (j, h) = c .before .before .before .before .before .before .before .before .before .before .before .before .before .before .before .before .pre in
     let f = c .before .before .before .before .before .before .before .search .ensures j (h .search) in
     c .before .before .augment .ensures j (may-lay f (h .search) (c .before .before .before .before .if1 .taken)) .long ∙ f .same .long
 
@@ -27,7 +27,7 @@ returns : tie.Need-returns
 returns c = (
   same-length c,
   λ j h.
-      let a = c .before .before .before .before .before .before .before .before .before .before .before .before .before .before .before .args in
+      let a = c .before .before .before .before .before .before .before .before .before .before .before .before .before .before .before .before .args in
       let f = c .before .before .before .before .before .before .before .search .ensures j (h .search) in
       let some = c .before .before .before .before .if1 .taken in
       let g = c .before .before .augment .ensures j (may-lay f (h .search) some) in
@@ -35,7 +35,7 @@ returns c = (
 )
 
 same-length-2 : tie.Need-same-length-2
-same-length-2 c = let (j, h) = c .before .before .before .before .before .before .before .before .before .before .before .before .pre in c .before .before .before .before .search .ensures j (h .search) .same .long
+same-length-2 c = let (j, h) = c .before .before .before .before .before .before .before .before .before .before .before .before .before .pre in c .before .before .before .before .search .ensures j (h .search) .same .long
 
 returns-2 : tie.Need-returns-2
 returns-2 c = (
@@ -46,20 +46,20 @@ returns-2 c = (
 )
 
 add-again : tie.Need-add-again
-add-again c = omega (arith, c .before .before .before .before .before .before .before .before .before .before .before .before .pre .1 .small)
+add-again c = omega (arith, c .before .before .before .before .before .before .before .before .before .before .before .before .before .pre .1 .small)
 
 search-requires-2 : tie.Need-search-requires-2
-search-requires-2 c κs = let (j, h) = c .before .before .before .before .before .before .before .before .before .before .before .before .before .pre in (j, search-again (c .before .before .before .before .before .search .ensures j (h .search)) (h .search))
+search-requires-2 c κs = let (j, h) = c .before .before .before .before .before .before .before .before .before .before .before .before .before .before .pre in (j, search-again (c .before .before .before .before .before .search .ensures j (h .search)) (h .search))
 
 augment-requires-2 : tie.Need-augment-requires-2
 augment-requires-2 c κs =
-    let (j, h) = c .before .before .before .before .before .before .before .before .before .before .before .before .before .before .before .before .before .before .pre in
+    let (j, h) = c .before .before .before .before .before .before .before .before .before .before .before .before .before .before .before .before .before .before .before .pre in
     let h′ = search-again (c .before .before .before .before .before .before .before .before .before .before .search .ensures j (h .search)) (h .search) in
     (j, may-lay (c .before .before .before .before .search2 .ensures j h′) h′ (c .before .if3 .taken))
 
 same-length-3 : tie.Need-same-length-3
 same-length-3 c =
-    let (j, h) = c .before .before .before .before .before .before .before .before .before .before .before .before .before .before .before .before .before .before .before .before .before .pre in
+    let (j, h) = c .before .before .before .before .before .before .before .before .before .before .before .before .before .before .before .before .before .before .before .before .before .before .pre in
     let f = c .before .before .before .before .before .before .before .before .before .before .before .before .before .search .ensures j (h .search) in
     let h′ = search-again f (h .search) in
     let f′ = c .before .before .before .before .before .before .before .search2 .ensures j h′ in
@@ -69,7 +69,7 @@ returns-3 : tie.Need-returns-3
 returns-3 c = (
   same-length-3 c,
   λ j h.
-      let a = c .before .before .before .before .before .before .before .before .before .before .before .before .before .before .before .before .before .before .before .before .before .args in
+      let a = c .before .before .before .before .before .before .before .before .before .before .before .before .before .before .before .before .before .before .before .before .before .before .args in
       let f = c .before .before .before .before .before .before .before .before .before .before .before .before .before .search .ensures j (h .search) in
       let h′ = search-again f (h .search) in
       let f′ = c .before .before .before .before .before .before .before .search2 .ensures j h′ in
@@ -80,7 +80,7 @@ returns-3 c = (
 
 same-length-4 : tie.Need-same-length-4
 same-length-4 c =
-    let (j, h) = c .before .before .before .before .before .before .before .before .before .before .before .before .before .before .before .before .before .pre in
+    let (j, h) = c .before .before .before .before .before .before .before .before .before .before .before .before .before .before .before .before .before .before .pre in
     let f = c .before .before .before .before .before .before .before .before .before .search .ensures j (h .search) in
     c .before .before .before .search2 .ensures j (search-again f (h .search)) .same .long ∙ f .same .long
 
