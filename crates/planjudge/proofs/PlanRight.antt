@@ -3,7 +3,7 @@
 use Prim.Native.Nat.{ℕ, suc, _+_, _≤_, _<_}
 use mathlib.Core.Path.{_≡_, sym, ap, _∙_}
 use mathlib.Core.List.{List, map}
-use mathlib.Core.Logic.{inl, inr}
+use mathlib.Core.Logic.{inl, inr, ⊎-elim}
 use mathlib.Core.Bool.{true}
 use native.Mathlib.Omega.{arith}
 use native.Mathlib.Numerals.{add-one}
@@ -22,6 +22,7 @@ use Rattle.model.proofs.Decisions.{track-eq, track-parts}
 use Rattle.job.specs.Arrays.{jobOf}
 use Rattle.job.specs.declared.state.Job.{Job}
 use Rattle.job.specs.Held.{pathAt, pathsOf}
+use Rattle.job.proofs.Triangle.{pair-back}
 use Rattle.planjudge.specs.PlanTests.{cellOf, Listed, Lasts, Precedes, Ordered, Marks, Goes, AllLed, Apart, Untraded, Clear}
 use Rattle.job.proofs.Arrays.{Whole, calls-count, carts-count, call-at, cart-at, in-tracks, deadline-by}
 use Rattle.job.proofs.Rows.{paths-length, path-at, in-paths, paths-in}
@@ -164,13 +165,12 @@ module _ {s : Job} {carts calls rows : List ℕ} (g : Given s carts calls rows) 
     module _ {table : List ℕ} (marks : Marks (s .from) (s .to) (s .tracks) table) where
       goes : (t u v : ℕ) → u < maxCells → v < maxCells → Step (jobOf s) t u v → Goes table u v
       goes t u v a b (inl e) = inl e
-      goes t u v a b (inr (inl x)) = inr (inl (marks .all u v a b (track-listed u v x)))
-      goes t u v a b (inr (inr x)) = inr (inr (marks .all v u b a (track-listed v u x)))
+      goes t u v a b (inr (inl x)) = inr (marks .all u v a b (track-listed u v x))
+      goes t u v a b (inr (inr x)) = inr (rw (pair-back u v) (marks .all v u b a (track-listed v u x)))
 
       step : (t u v : ℕ) → u < maxCells → v < maxCells → Goes table u v → Step (jobOf s) t u v
       step t u v a b (inl e) = inl e
-      step t u v a b (inr (inl x)) = inr (inl (listed-track u v (marks .only u v a b x)))
-      step t u v a b (inr (inr x)) = inr (inr (listed-track v u (marks .only v u b a x)))
+      step t u v a b (inr x) = inr (⊎-elim (λ l. inl (listed-track u v l)) (λ l. inr (listed-track v u l)) (marks .only u v a b x))
 
       start : (k : ℕ) → k < s .calls → cartCell (jobOf s) (getD carts k 0) ≡ getD (s .starts) (getD carts k 0) 0
       start k h = cart-at s (g .full) (getD carts k 0) (known-cart k h)

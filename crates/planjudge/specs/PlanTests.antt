@@ -4,6 +4,7 @@ use mathlib.Core.Path.{_≡_}
 use mathlib.Core.List.{List}
 use mathlib.Core.Logic.{_⊎_}
 use lib.ListN.{getD}
+use Rattle.job.specs.Lines.{pairAt}
 use Rattle.model.specs.Limits.{maxCells, maxCalls, maxSteps}
 
 -- the cell of path k at the step t
@@ -30,14 +31,14 @@ Ordered last calls n = (k : ℕ) → k + 1 < n → Precedes last calls k (k + 1)
 abbrev pub Listed : List ℕ → List ℕ → ℕ → ℕ → ℕ → Type 0
 Listed from to n u v = (i : ℕ) × (i < n) × (getD from i 0 ≡ u) × (getD to i 0 ≡ v)
 
--- The table has a 1 for each of the first n pairs, and for no other.
+-- The table has a 1 for each of the first n pairs, either way round, and for no other.
 pub record Marks (from to : List ℕ) (n : ℕ) (table : List ℕ) : Type 0 where
-  pub all : (u v : ℕ) → u < maxCells → v < maxCells → Listed from to n u v → getD table (u * maxCells + v) 0 ≡ 1
-  pub only : (u v : ℕ) → u < maxCells → v < maxCells → getD table (u * maxCells + v) 0 ≡ 1 → Listed from to n u v
+  pub all : (u v : ℕ) → u < maxCells → v < maxCells → Listed from to n u v → getD table (pairAt u v) 0 ≡ 1
+  pub only : (u v : ℕ) → u < maxCells → v < maxCells → getD table (pairAt u v) 0 ≡ 1 → Listed from to n u v ⊎ Listed from to n v u
 
 -- By the table, a cart may go from u to v in a step.
 abbrev pub Goes : List ℕ → ℕ → ℕ → Type 0
-Goes table u v = (u ≡ v) ⊎ ((getD table (u * maxCells + v) 0 ≡ 1) ⊎ (getD table (v * maxCells + u) 0 ≡ 1))
+Goes table u v = (u ≡ v) ⊎ (getD table (pairAt u v) 0 ≡ 1)
 
 -- By the table, path k walks up to the step d.
 abbrev pub Walks : List ℕ → List ℕ → ℕ → ℕ → Type 0

@@ -1,5 +1,6 @@
 // Whether paths are a plan in the order of the sheet: each a walk of its cart to its call, no two sharing a cell or trading places.
 use job::state::Job;
+use job::state::pair;
 use model::Limits;
 use model::bytes::wide;
 ghost use Prim.Native.Nat.{ℕ, _+_, _*_, _<_, _≤_};
@@ -14,10 +15,14 @@ ghost use Rattle.model.specs.ReadSheet.{knownPath};
 ghost use Rattle.model.specs.Contracts.{RightPlan};
 ghost use Rattle.job.specs.Arrays.{jobOf, Sized};
 ghost use Rattle.job.specs.Held.{Room, pathsOf, Decides};
+ghost use Rattle.job.specs.Lines.{pairsBelow};
 ghost use Rattle.planjudge.specs.PlanTests.{cellOf, Known, Lasts, Precedes, Ordered, Marks, Goes, Walks, Led, AllLed, Apart, Meets, Untraded, Clear, Standing};
 
 // In the place of a path's number: no path.
 const NONE: u8 = Limits::CALLS as u8;
+
+// Places for each two cells, a cell with itself too.
+const PAIRS: usize = Limits::CELLS * (Limits::CELLS + 1) / 2;
 
 // The cell of path k at the step t.
 fn cell(rows: &[u8], k: usize, t: usize) -> usize
@@ -71,41 +76,38 @@ fn in_order(calls: &[u8], last: &[u8; Limits::CALLS], n: usize) -> bool
     true
 }
 
-// Marks each track in the table, the way that its line has it.
+// Marks each track in the table, which has a place for each two cells.
 fn mark<'a>(
     from: &'a [u8; Limits::TRACKS],
     to: &'a [u8; Limits::TRACKS],
     n: usize,
-    table: &mut [u8; Limits::CELLS * Limits::CELLS],
+    table: &mut [u8; PAIRS],
 )
-    requires { ⌜ (n ≤ maxTracks) × (length (now table) ≡ maxCells * maxCells) × ((x : ℕ) → x < maxCells * maxCells → getD (now table) x 0 ≡ 0) ⌝ }
+    requires { ⌜ (n ≤ maxTracks) × (length (now table) ≡ pairsBelow maxCells) × ((x : ℕ) → x < pairsBelow maxCells → getD (now table) x 0 ≡ 0) ⌝ }
     ensures { λ r. ⌜ Marks (now (from .entry)) (now (to .entry)) n (now (table .exit)) ⌝ }
 {
     let mut i = 0;
     while i < n {
         let u = wide(from[i]);
         let v = wide(to[i]);
-        table[u * Limits::CELLS + v] = 1;
+        table[pair(u, v)] = 1;
         i += 1;
     }
 }
 
 // Whether a cart may go from u to v in a step.
-fn goes(table: &[u8; Limits::CELLS * Limits::CELLS], u: usize, v: usize) -> bool
+fn goes(table: &[u8; PAIRS], u: usize, v: usize) -> bool
     requires { ⌜ (u < maxCells) × (v < maxCells) ⌝ }
     ensures { λ r. ⌜ Decides r (Goes (now (table .entry)) u v) ⌝ }
 {
     if u == v {
         return true;
     }
-    if table[u * Limits::CELLS + v] == 1 {
-        return true;
-    }
-    table[v * Limits::CELLS + u] == 1
+    table[pair(u, v)] == 1
 }
 
 // Whether path k is a walk up to the step d.
-fn walks(table: &[u8; Limits::CELLS * Limits::CELLS], rows: &[u8], k: usize, d: usize) -> bool
+fn walks(table: &[u8; PAIRS], rows: &[u8], k: usize, d: usize) -> bool
     requires { ⌜ (length (now rows) ≡ maxCalls * maxSteps) × (k < maxCalls) × (d < maxSteps) ⌝ }
     ensures { λ r. ⌜ Decides r (Walks (now (table .entry)) (now (rows .entry)) k d) ⌝ }
 {
@@ -120,14 +122,7 @@ fn walks(table: &[u8; Limits::CELLS * Limits::CELLS], rows: &[u8], k: usize, d: 
 }
 
 // Whether path k is a walk from the cell a to the cell b, and there at the step d.
-fn leads(
-    table: &[u8; Limits::CELLS * Limits::CELLS],
-    rows: &[u8],
-    k: usize,
-    d: usize,
-    a: usize,
-    b: usize,
-) -> bool
+fn leads(table: &[u8; PAIRS], rows: &[u8], k: usize, d: usize, a: usize, b: usize) -> bool
     requires { ⌜ (length (now rows) ≡ maxCalls * maxSteps) × (k < maxCalls) × (d < maxSteps) ⌝ }
     ensures { λ r. ⌜ Decides r (Led (now (table .entry)) (now (rows .entry)) k d a b) ⌝ }
 {
@@ -142,7 +137,7 @@ fn leads(
 
 // Whether each of the first n paths leads from its cart to its call.
 fn all_lead<'a>(
-    table: &[u8; Limits::CELLS * Limits::CELLS],
+    table: &[u8; PAIRS],
     rows: &[u8],
     last: &[u8; Limits::CALLS],
     carts: &[u8],
@@ -282,7 +277,7 @@ pub fn is_plan(job: Job, carts: &[u8], calls: &[u8], rows: &[u8]) -> bool
     if !in_order(calls, &last, n) {
         return false;
     }
-    let mut table = [0u8; Limits::CELLS * Limits::CELLS];
+    let mut table = [0u8; PAIRS];
     mark(&job.from, &job.to, job.tracks, &mut table);
     if !all_lead(
         &table,

@@ -3,16 +3,18 @@ use native.Mathlib.Omega.{arith}
 use Rattle.planjudge.proofs.PlanSteps.{marks-more, marks-none}
 use denote.Ref.{now}
 use Rattle.planjudge.specs.PlanTests.{Marks}
-use Prim.Native.Nat.{_*_, _-_, _≤_}
+use Prim.Native.Nat.{_-_, _≤_}
 use mathlib.Core.Path.{_≡_}
 use lib.ListN.{length, getD, length-set}
 use Rattle.model.specs.Limits.{maxCells}
+use Rattle.job.specs.Lines.{pairsBelow}
+use Rattle.job.proofs.Triangle.{pair-small}
 use borrow.Author.Needs.{needs}
 use Rattle.planjudge.proofs.plan.mark.Statement.{statement}
 use Rattle.planjudge.proofs.plan.mark.Tie as tie
 
 abbrev Inv-loop : tie.InvT-loop
-Inv-loop from to n table₀ i₀ table i = (i ≤ n) × (length table ≡ maxCells * maxCells) × Marks from to i table
+Inv-loop from to n table₀ i₀ table i = (i ≤ n) × (length table ≡ pairsBelow maxCells) × Marks from to i table
 
 abbrev μ-loop : tie.MeasureT-loop
 μ-loop from to n table₀ i₀ table i = n - i
@@ -34,14 +36,14 @@ element-copy-out-wide-2 c = search needs
 wide-requires-2 : tie.Need-wide-requires-2 Inv-loop μ-loop
 wide-requires-2 c κs = search needs
 
-mul-table : tie.Need-mul-table Inv-loop μ-loop
-mul-table c = search needs
-
-add-table : tie.Need-add-table Inv-loop μ-loop
-add-table c = search needs
+pair-requires : tie.Need-pair-requires Inv-loop μ-loop
+pair-requires c κs = search needs
 
 element-write-table : tie.Need-element-write-table Inv-loop μ-loop
-element-write-table c = search needs
+element-write-table c =
+    let u = c .before .before .before .wide in
+    let v = c .before .wide2 in
+    omega (arith, c .pair .ensures, pair-small (u .result) (v .result) (u .ensures .1) (v .ensures .1))
 
 add-i : tie.Need-add-i Inv-loop μ-loop
 add-i c = search needs
@@ -51,13 +53,13 @@ loop-less c = search needs
 
 loop-again : tie.Need-loop-again Inv-loop μ-loop
 loop-again c =
-    let a = c .before .before .before .before .before .before .args in
-    let l = c .before .before .before .before .before .loop in
+    let a = c .before .before .before .before .before .before .before .args in
+    let l = c .before .before .before .before .before .before .loop in
     let from = now (a .from) in
     let to = now (a .to) in
-    let u : c .before .before .wide .result ≡ getD from (l .i) 0 = c .before .before .wide .ensures .0 in
-    let v : c .wide2 .result ≡ getD to (l .i) 0 = c .wide2 .ensures .0 in
-    (omega arith, simp length-set (l .inv .1), rw (u, v) (marks-more from to (l .i) (l .table) (l .inv .1) (omega arith) (omega arith) (l .inv .2)))
+    let u : c .before .before .before .wide .result ≡ getD from (l .i) 0 = c .before .before .before .wide .ensures .0 in
+    let v : c .before .wide2 .result ≡ getD to (l .i) 0 = c .before .wide2 .ensures .0 in
+    (omega arith, simp length-set (l .inv .1), rw (c .pair .ensures, u, v) (marks-more from to (l .i) (l .table) (l .inv .1) (omega arith) (omega arith) (l .inv .2)))
 
 returns : tie.Need-returns Inv-loop μ-loop
 returns c =
@@ -75,8 +77,7 @@ mark-spec =
     wide-requires
     element-copy-out-wide-2
     wide-requires-2
-    mul-table
-    add-table
+    pair-requires
     element-write-table
     add-i
     loop-less
