@@ -8,8 +8,8 @@ use native.Mathlib.Nat.{eq-or-lt-of-le}
 use lib.ListN.{length, getD, set, replicate, length-set}
 use Rattle.model.proofs.Lists.{rising-of, rising-at}
 use Rattle.model.specs.Choke.{Point, point, Rises, ChokesInOrder}
-use Rattle.job.specs.Held.{pointsOf}
-use Rattle.chokejudge.specs.ChokeLayers.{Some, Marks, Placed, Choked, Spread, Met}
+use Rattle.job.specs.Held.{pointsOf, Some}
+use Rattle.chokejudge.specs.ChokeLayers.{Marks, Placed, Choked, Spread, Met}
 use Rattle.job.proofs.Pairs.{pairs-count, pairs-at}
 
 module _ (P : ℕ → Type 0) where

@@ -4,10 +4,7 @@ use mathlib.Core.Path.{_≡_}
 use mathlib.Core.List.{List}
 use mathlib.Core.Logic.{_⊎_, _↔_}
 use lib.ListN.{getD}
-
--- P holds of a number below n.
-abbrev pub Some : ℕ → (ℕ → Type 0) → Type 0
-Some n P = (k : ℕ) × (k < n) × P k
+use Rattle.job.specs.Held.{Some}
 
 -- The table has a 1 at the cells of P, and at no other.
 abbrev pub Marks : List ℕ → (ℕ → Type 0) → Type 0

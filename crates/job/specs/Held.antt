@@ -1,5 +1,5 @@
 -- Paths and choke points as a sheet's reader and writer hold them: two lists with the first and second number of each line, and a row of steps for the cells of each path.
-use Prim.Native.Nat.{ℕ, zero, suc, _*_}
+use Prim.Native.Nat.{ℕ, zero, suc, _*_, _<_}
 use mathlib.Core.Path.{_≡_}
 use mathlib.Core.List.{List, [], _∷_, _++_}
 use mathlib.Core.Bool.{Bool, true, false}
@@ -36,6 +36,10 @@ pub record Room (first second rows : List ℕ) : Type 0 where
   pub firsts : length first ≡ maxCalls
   pub seconds : length second ≡ maxCalls
   pub cells : length rows ≡ maxCalls * maxSteps
+
+-- P holds of a number below n.
+abbrev pub Some : ℕ → (ℕ → Type 0) → Type 0
+Some n P = (k : ℕ) × (k < n) × P k
 
 -- What a test of P answers.
 abbrev pub Decides : Bool → Type 0 → Type 0
