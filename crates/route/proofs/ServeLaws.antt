@@ -1,5 +1,5 @@
 -- What a call's search and augmentation leave, put together: a search keeps the flow, so the next search or the augmentation may start from its store, and
--- what is served is told from the store at entry. Marks stay at most the stamp, so that the stamp after it is on none of them. Assumes nothing.
+-- what is served is told from the store at entry. Marks stay at most the stamp, so that a larger one is on none of them. Assumes nothing.
 use Prim.Native.Nat.{ℕ, _+_, _<_, _≤_}
 use mathlib.Core.Path.{_≡_, subst₂}
 use mathlib.Core.List.{List}
@@ -23,13 +23,14 @@ module _ {j : Job} {s t : List ℕ} {stamp : ℕ} {x : Point} {r : ℕ} (f : Sea
   pub marks-search : (n : ℕ) → n ≤ stamp → MarksUpTo j s n → MarksUpTo j t stamp
   marks-search n l h v b = ⊎-elim (λ e. omega (arith, e, h v b)) (λ e. omega (arith, e)) (f .marks v b)
 
-  pub fresh-next : MarksUpTo j s stamp → Fresh j t (stamp + 1)
-  fresh-next h v b e = omega (arith, e, marks-search stamp (omega arith) h v b)
+  pub fresh-next : {m : ℕ} → stamp < m → MarksUpTo j s stamp → Fresh j t m
+  fresh-next l h v b e = omega (arith, e, marks-search stamp (omega arith) h v b)
 
 module _ {j : Job} {near start degree due cart-on hint s t : List ℕ} {n k cell step stamp r : ℕ} (f : Searched j s t stamp (point cell step) r)
     (h : Searching j near start degree due cart-on hint s n k cell step stamp) where
-  pub search-again : Searching j near start degree due cart-on hint t n k cell step (stamp + 1)
-  search-again = may-search j s t (f .same) (stamp + 1) (omega arith) h
+  -- Whatever its stamp; what a failure then shows is another matter.
+  pub search-again : {m : ℕ} → 0 < m → Searching j near start degree due cart-on hint t n k cell step m
+  search-again {m} some = may-search j s t (f .same) m some h
 
   -- The way that was found may be laid.
   pub may-lay : 0 < r → Laying j t n k r
@@ -38,8 +39,8 @@ module _ {j : Job} {near start degree due cart-on hint s t : List ℕ} {n k cell
       record {
         cells = h .cells;
         size = h .size;
-        room = search-again .room;
-        ok = search-again .ok;
+        room = search-again (h .some) .room;
+        ok = search-again (h .some) .ok;
         deep = some;
         fit = omega (arith, h .size, f .deep);
         known = f .known;

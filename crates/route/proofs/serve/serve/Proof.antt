@@ -49,21 +49,20 @@ add-again : tie.Need-add-again
 add-again c = omega (arith, c .before .before .before .before .before .before .before .before .before .before .before .before .before .pre .1 .small)
 
 search-requires-2 : tie.Need-search-requires-2
-search-requires-2 c κs = let (j, h) = c .before .before .before .before .before .before .before .before .before .before .before .before .before .before .pre in (j, search-again (c .before .before .before .before .before .search .ensures j (h .search)) (h .search))
+search-requires-2 c κs = let (j, h) = c .before .before .before .before .before .before .before .before .before .before .before .before .before .before .pre in (j, search-again (c .before .before .before .before .before .search .ensures j (h .search)) (h .search) (omega (arith, h .search .some)))
 
 augment-requires-2 : tie.Need-augment-requires-2
 augment-requires-2 c κs =
     let (j, h) = c .before .before .before .before .before .before .before .before .before .before .before .before .before .before .before .before .before .before .before .pre in
-    let h′ = search-again (c .before .before .before .before .before .before .before .before .before .before .search .ensures j (h .search)) (h .search) in
-    (j, may-lay (c .before .before .before .before .search2 .ensures j h′) h′ (c .before .if3 .taken))
+    let f = c .before .before .before .before .before .before .before .before .before .before .search .ensures j (h .search) in
+    (j, may-lay (c .before .before .before .before .search2 .ensures j (search-again f (h .search) (omega (arith, h .search .some)))) (search-again f (h .search) (omega (arith, h .search .some))) (c .before .if3 .taken))
 
 same-length-3 : tie.Need-same-length-3
 same-length-3 c =
     let (j, h) = c .before .before .before .before .before .before .before .before .before .before .before .before .before .before .before .before .before .before .before .before .before .before .pre in
     let f = c .before .before .before .before .before .before .before .before .before .before .before .before .before .search .ensures j (h .search) in
-    let h′ = search-again f (h .search) in
-    let f′ = c .before .before .before .before .before .before .before .search2 .ensures j h′ in
-    c .before .before .augment2 .ensures j (may-lay f′ h′ (c .before .before .before .before .if3 .taken)) .long ∙ f′ .same .long ∙ f .same .long
+    let f′ = c .before .before .before .before .before .before .before .search2 .ensures j (search-again f (h .search) (omega (arith, h .search .some))) in
+    c .before .before .augment2 .ensures j (may-lay f′ (search-again f (h .search) (omega (arith, h .search .some))) (c .before .before .before .before .if3 .taken)) .long ∙ f′ .same .long ∙ f .same .long
 
 returns-3 : tie.Need-returns-3
 returns-3 c = (
@@ -71,26 +70,25 @@ returns-3 c = (
   λ j h.
       let a = c .before .before .before .before .before .before .before .before .before .before .before .before .before .before .before .before .before .before .before .before .before .before .args in
       let f = c .before .before .before .before .before .before .before .before .before .before .before .before .before .search .ensures j (h .search) in
-      let h′ = search-again f (h .search) in
-      let f′ = c .before .before .before .before .before .before .before .search2 .ensures j h′ in
+      let f′ = c .before .before .before .before .before .before .before .search2 .ensures j (search-again f (h .search) (omega (arith, h .search .some))) in
       let some = c .before .before .before .before .if3 .taken in
-      let g = c .before .before .augment2 .ensures j (may-lay f′ h′ some) in
-      (g .flow, (omega arith, omega arith, marks-augment g (a .stamp + 1) (marks-search f′ (a .stamp) (omega arith) (marks-search f (a .stamp) (omega arith) (h .marks))), serves-too g (now (a .store)) (point (a .cell) (a .step)) (same-on f′ ∙ same-on f) (f′ .first some))),
+      let g = c .before .before .augment2 .ensures j (may-lay f′ (search-again f (h .search) (omega (arith, h .search .some))) some) in
+      (g .flow, (omega arith, omega arith, marks-augment g _ (marks-search f′ (a .stamp) (omega arith) (marks-search f (a .stamp) (omega arith) (h .marks))), serves-too g (now (a .store)) (point (a .cell) (a .step)) (same-on f′ ∙ same-on f) (f′ .first some))),
 )
 
 same-length-4 : tie.Need-same-length-4
 same-length-4 c =
     let (j, h) = c .before .before .before .before .before .before .before .before .before .before .before .before .before .before .before .before .before .before .pre in
     let f = c .before .before .before .before .before .before .before .before .before .search .ensures j (h .search) in
-    c .before .before .before .search2 .ensures j (search-again f (h .search)) .same .long ∙ f .same .long
+    c .before .before .before .search2 .ensures j (search-again f (h .search) (omega (arith, h .search .some))) .same .long ∙ f .same .long
 
 returns-4 : tie.Need-returns-4
 returns-4 c = (
   same-length-4 c,
   λ j h.
       let f = c .before .before .before .before .before .before .before .before .before .search .ensures j (h .search) in
-      let f′ = c .before .before .before .search2 .ensures j (search-again f (h .search)) in
-      (still-flow f′ (still-flow f (h .search .ok)), (omega arith, f′ .stuck (omega (arith, c .if3 .left)) (fresh-next f (h .marks)))),
+      let f′ = c .before .before .before .search2 .ensures j (search-again f (h .search) (omega (arith, h .search .some))) in
+      (still-flow f′ (still-flow f (h .search .ok)), (omega arith, f′ .stuck (omega (arith, c .if3 .left)) (fresh-next f (omega arith) (h .marks)))),
 )
 
 pub serve-spec : {M : Type 1} → statement M
