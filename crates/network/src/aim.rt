@@ -9,12 +9,21 @@ ghost use Rattle.network.specs.Tables.{nearSize};
 ghost use Rattle.network.specs.Rows.{Readable};
 ghost use Rattle.network.specs.Queue.{Queue};
 
-// Puts the cells of row c that were not seen at the end of the queue, with the way back to c. Answers where the queue ends then. It never has more entries than
-// there are cells: the test of the tail only says so to the proof.
+// Whether a cart stands on the cell at step 0 that no call has yet.
+fn is_free(cart_on: &[u8], store: &[u8], c: usize) -> bool
+    requires { ⌜ (c < length (now «cart_on»)) × (c < length (now store)) ⌝ }
+{
+    cart_on[c] != 0 && store[c] == 0
+}
+
+// Puts the cells of row c that were not seen at the end of the queue, with the way back to c, up to the first free cart. Answers where the queue ends then. It never has
+// more entries than there are cells: the test of the tail only says so to the proof.
 fn expand(
     near: &[u8],
     start: &[u16],
     degree: &[u16],
+    cart_on: &[u8],
+    store: &[u8],
     cells: usize,
     c: usize,
     queue: &mut [u8; Limits::CELLS],
@@ -23,7 +32,7 @@ fn expand(
     place: &mut [u8; Limits::CELLS],
     end: usize,
 ) -> usize
-    requires { ⌜ (c < maxCells) × (length (now near) ≡ nearSize) × (length (now start) ≡ maxCells) × (length (now degree) ≡ maxCells) × (getD (now degree) c 0 ≤ maxCells) × (getD (now start) c 0 + getD (now degree) c 0 ≤ nearSize) × ((i : ℕ) → i < getD (now degree) c 0 → getD (now near) (getD (now start) c 0 + i) 0 < cells) × Queue cells (now queue) end ⌝ }
+    requires { ⌜ (cells ≤ length (now «cart_on»)) × (cells ≤ length (now store)) × (c < maxCells) × (length (now near) ≡ nearSize) × (length (now start) ≡ maxCells) × (length (now degree) ≡ maxCells) × (getD (now degree) c 0 ≤ maxCells) × (getD (now start) c 0 + getD (now degree) c 0 ≤ nearSize) × ((i : ℕ) → i < getD (now degree) c 0 → getD (now near) (getD (now start) c 0 + i) 0 < cells) × Queue cells (now queue) end ⌝ }
     ensures { λ r. ⌜ Queue cells (now (queue .exit)) r ⌝ }
 {
     let mut tail = end;
@@ -38,6 +47,9 @@ fn expand(
             place[x] = i as u8;
             queue[tail] = b;
             tail += 1;
+            if is_free(cart_on, store, x) {
+                return tail;
+            }
         }
     }
     tail
@@ -89,16 +101,19 @@ pub fn aim(
     let mut head = 0;
     let mut tail = 1;
     while head < tail {
-        let c = wide(queue[head]);
-        if cart_on[c] != 0 && store[c] == 0 {
-            hint[c] = 0;
-            lay(hint, &to, &place, cells, c, cell);
+        let x = wide(queue[tail - 1]);
+        if is_free(cart_on, store, x) {
+            hint[x] = 0;
+            lay(hint, &to, &place, cells, x, cell);
             return;
         }
+        let c = wide(queue[head]);
         tail = expand(
             near,
             start,
             degree,
+            cart_on,
+            store,
             cells,
             c,
             &mut queue,

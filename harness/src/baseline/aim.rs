@@ -9,15 +9,14 @@ use super::{Mode, CELLS};
 pub fn aim<M: Mode>(j: &Job, p: &Planes, call: usize, hint: &mut [u8; CELLS]) {
     let (mut queue, mut seen) = ([0u8; CELLS], [false; CELLS]);
     let (mut to, mut at) = ([0u8; CELLS], [0u8; CELLS]); // cell x was met at place at[x] of from(to[x])
+    let is_free = |c: usize| j.cart_on[c] != 0 && p.used[c] == 0;
     queue[0] = call as u8;
     seen[call] = true;
     let (mut head, mut tail) = (0, 1);
     while head < tail {
-        let c = queue[head] as usize;
-        head += 1;
-        if j.cart_on[c] != 0 && p.used[c] == 0 {
-            hint[c] = j.stand::<M>(c) as u8;
-            let mut x = c;
+        let mut x = queue[tail - 1] as usize;
+        if is_free(x) {
+            hint[x] = j.stand::<M>(x) as u8;
             for _ in 0..j.cells {
                 if x == call {
                     break;
@@ -27,12 +26,17 @@ pub fn aim<M: Mode>(j: &Job, p: &Planes, call: usize, hint: &mut [u8; CELLS]) {
             }
             return;
         }
+        let c = queue[head] as usize;
+        head += 1;
         for (i, &x) in j.from(c).iter().enumerate() {
             if !seen[x as usize] && tail < CELLS {
                 seen[x as usize] = true;
                 (to[x as usize], at[x as usize]) = (c as u8, i as u8);
                 queue[tail] = x;
                 tail += 1;
+                if is_free(x as usize) {
+                    break; // the last of the queue
+                }
             }
         }
     }

@@ -29,19 +29,20 @@ array-write-seen c = search needs
 loop-holds : tie.Need-loop-holds Inv-loop μ-loop
 loop-holds c = (search needs, queue-first (c .before .before .before .before .before .before .args .cell) (c .before .before .before .before .before .before .pre .0) (c .before .before .before .before .before .before .pre .4))
 
+sub-wide : tie.Need-sub-wide Inv-loop μ-loop
+sub-wide c = search needs
+
 array-read-wide : tie.Need-array-read-wide Inv-loop μ-loop
 array-read-wide c = search needs
 
 wide-requires : tie.Need-wide-requires Inv-loop μ-loop
 wide-requires c κs = search needs
 
-shared-slice-read-if1 : tie.Need-shared-slice-read-if1 Inv-loop μ-loop
-shared-slice-read-if1 c = search needs
-
-shared-slice-read-if2 : tie.Need-shared-slice-read-if2 Inv-loop μ-loop
-shared-slice-read-if2 c =
-    let l = c .before .before .before .before .before .loop in
-    omega (arith, c .before .before .before .wide .ensures .0, l .inv .1 .known (l .head) (c .before .before .before .before .loop-test .taken), c .before .before .before .before .before .before .before .before .before .before .before .before .pre .3)
+is-free-requires : tie.Need-is-free-requires Inv-loop μ-loop
+is-free-requires c κs =
+    let l = c .before .before .loop in
+    let x : c .wide .result < c .before .before .before .before .before .before .before .before .before .args .cells = omega (arith, c .wide .ensures .0, l .inv .1 .known (l .tail - 1) (omega (arith, c .before .loop-test .taken))) in
+    (omega (arith, c .before .before .before .before .before .before .before .before .before .pre .0, c .before .before .before .before .before .before .before .before .before .pre .2), omega (arith, c .before .before .before .before .before .before .before .before .before .pre .3))
 
 slice-write-hint : tie.Need-slice-write-hint Inv-loop μ-loop
 slice-write-hint c = search needs
@@ -55,13 +56,19 @@ same-length c = search needs
 returns : tie.Need-returns Inv-loop μ-loop
 returns c = search needs
 
+array-read-wide-2 : tie.Need-array-read-wide-2 Inv-loop μ-loop
+array-read-wide-2 c = search needs
+
+wide-requires-2 : tie.Need-wide-requires-2 Inv-loop μ-loop
+wide-requires-2 c κs = search needs
+
 expand-requires : tie.Need-expand-requires Inv-loop μ-loop
 expand-requires c κs =
-    let r = c .before .before .before .before .before .before .before .before .before .before .before .before .before .before .before .pre .1 in
-    let l = c .before .before .before .before .before .before .before .before .loop in
-    let v = c .before .before .before .before .before .before .wide in
-    let k : v .result < c .before .before .before .before .before .before .before .before .before .before .before .before .before .before .before .args .cells = omega (arith, v .ensures .0, l .inv .1 .known (l .head) (c .before .before .before .before .before .before .before .loop-test .taken)) in
-    (v .ensures .1, r .rows, r .begins, r .counts, r .few (v .result) k, r .fits (v .result) k, λ i h. r .known (v .result) i k h, l .inv .1)
+    let (few, r, carts, room, known, long) = c .before .before .before .before .before .before .before .before .before .before .before .before .before .before .before .before .pre in
+    let l = c .before .before .before .before .before .before .before .before .before .loop in
+    let v = c .before .before .before .before .wide2 in
+    let k : v .result < c .before .before .before .before .before .before .before .before .before .before .before .before .before .before .before .before .args .cells = omega (arith, v .ensures .0, l .inv .1 .known (l .head) (c .before .before .before .before .before .before .before .before .loop-test .taken)) in
+    (omega (arith, few, carts), room, v .ensures .1, r .rows, r .begins, r .counts, r .few (v .result) k, r .fits (v .result) k, λ i h. r .known (v .result) i k h, l .inv .1)
 
 add-head : tie.Need-add-head Inv-loop μ-loop
 add-head c = search needs
@@ -88,14 +95,16 @@ aim-spec =
     array-write-queue
     array-write-seen
     loop-holds
+    sub-wide
     array-read-wide
     wide-requires
-    shared-slice-read-if1
-    shared-slice-read-if2
+    is-free-requires
     slice-write-hint
     lay-requires
     same-length
     returns
+    array-read-wide-2
+    wide-requires-2
     expand-requires
     add-head
     loop-less

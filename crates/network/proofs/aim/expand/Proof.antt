@@ -1,5 +1,5 @@
 -- `expand` puts known cells at the end of the queue. Invariant: the queue holds known cells. The measure is what is left of the row. Assumes nothing.
-use Prim.Native.Nat.{_+_, _-_, _≤_}
+use Prim.Native.Nat.{_+_, _-_, _≤_, _<_}
 use mathlib.Core.Logic.{⊎-elim}
 use native.Mathlib.Omega.{arith}
 use denote.Ref.{now}
@@ -12,10 +12,10 @@ use Rattle.network.proofs.aim.expand.Statement.{statement}
 use Rattle.network.proofs.aim.expand.Tie as tie
 
 abbrev Inv-loop : tie.InvT-loop
-Inv-loop near start degree cells c queue₀ seen₀ to₀ place₀ end tail₀ first n i₀ queue seen to place tail i = (i ≤ n) × Queue cells queue tail
+Inv-loop near start degree cart-on store cells c queue₀ seen₀ to₀ place₀ end tail₀ first n i₀ queue seen to place tail i = (i ≤ n) × Queue cells queue tail
 
 abbrev μ-loop : tie.MeasureT-loop
-μ-loop near start degree cells c queue₀ seen₀ to₀ place₀ end tail₀ first n i₀ queue seen to place tail i = n - i
+μ-loop near start degree cart-on store cells c queue₀ seen₀ to₀ place₀ end tail₀ first n i₀ queue seen to place tail i = n - i
 
 mul-first : tie.Need-mul-first Inv-loop μ-loop
 mul-first c = search needs
@@ -36,7 +36,7 @@ cast-n : tie.Need-cast-n Inv-loop μ-loop
 cast-n c = search needs
 
 loop-holds : tie.Need-loop-holds Inv-loop μ-loop
-loop-holds c = (omega arith, c .before .before .before .before .before .pre .7)
+loop-holds c = (omega arith, c .before .before .before .before .before .before .before .pre .9)
 
 add-b : tie.Need-add-b Inv-loop μ-loop
 add-b c = search needs
@@ -66,10 +66,19 @@ element-write-place : tie.Need-element-write-place Inv-loop μ-loop
 element-write-place c = search needs
 
 element-write-queue : tie.Need-element-write-queue Inv-loop μ-loop
-element-write-queue c = omega (arith, ltb-true (c .before .before .before .before .before .before .loop .tail) (c .before .before .before .before .before .before .before .before .before .before .before .before .args .cells) (c .if2 .taken), c .before .before .before .before .before .before .loop .inv .1 .few)
+element-write-queue c = omega (arith, ltb-true (c .before .before .before .before .before .before .loop .tail) (c .before .before .before .before .before .before .before .before .before .before .before .before .before .before .args .cells) (c .if2 .taken), c .before .before .before .before .before .before .loop .inv .1 .few)
 
 add-tail : tie.Need-add-tail Inv-loop μ-loop
 add-tail c = search needs
+
+is-free-requires : tie.Need-is-free-requires Inv-loop μ-loop
+is-free-requires c κs =
+    let x : c .before .before .before .wide .result < c .before .before .before .before .before .before .before .before .before .before .before .before .before .before .args .cells = omega (arith, c .before .before .before .wide .ensures .0, c .before .before .before .before .before .before .before .before .before .before .before .before .before .before .pre .8 (c .before .before .before .before .before .before .loop .i) (c .before .before .before .before .before .loop-test .taken)) in
+    (omega (arith, c .before .before .before .before .before .before .before .before .before .before .before .before .before .before .pre .0), omega (arith, c .before .before .before .before .before .before .before .before .before .before .before .before .before .before .pre .1))
+
+returns : tie.Need-returns Inv-loop μ-loop
+returns c =
+    queue-more (getD (now (c .before .before .before .before .before .before .before .before .before .before .before .before .before .before .before .before .args .near)) (getD (now (c .before .before .before .before .before .before .before .before .before .before .before .before .before .before .before .before .args .start)) (c .before .before .before .before .before .before .before .before .before .before .before .before .before .before .before .before .args .c) 0 + c .before .before .before .before .before .before .before .before .loop .i) 0) (ltb-true (c .before .before .before .before .before .before .before .before .loop .tail) (c .before .before .before .before .before .before .before .before .before .before .before .before .before .before .before .before .args .cells) (c .before .before .if2 .taken)) (c .before .before .before .before .before .before .before .before .before .before .before .before .before .before .before .before .pre .8 (c .before .before .before .before .before .before .before .before .loop .i) (c .before .before .before .before .before .before .before .loop-test .taken)) (c .before .before .before .before .before .before .before .before .loop .inv .1)
 
 add-i : tie.Need-add-i Inv-loop μ-loop
 add-i c = search needs
@@ -79,16 +88,16 @@ loop-less c = search needs
 
 loop-again : tie.Need-loop-again Inv-loop μ-loop
 loop-again c =
-    let a = c .before .before .before .before .before .before .before .before .before .before .before .args in
+    let a = c .before .before .before .before .before .before .before .before .before .before .before .before .before .args in
     let l = c .before .before .before .before .before .loop in
     let b = getD (now (a .near)) (getD (now (a .start)) (a .c) 0 + l .i) 0 in
     ⊎-elim
-    (λ w. (omega arith, rw (w .2, w .6) (queue-more b (ltb-true (l .tail) (a .cells) (w .1 .taken)) (c .before .before .before .before .before .before .before .before .before .before .before .pre .6 (l .i) (c .before .before .before .before .loop-test .taken)) (l .inv .1))))
+    (λ w. (omega arith, rw (w .4, w .8) (queue-more b (ltb-true (l .tail) (a .cells) (w .1 .taken)) (c .before .before .before .before .before .before .before .before .before .before .before .before .before .pre .8 (l .i) (c .before .before .before .before .loop-test .taken)) (l .inv .1))))
     (λ w. (omega arith, rw (w .1, w .5) (l .inv .1)))
     (c .if1 .came)
 
-returns : tie.Need-returns Inv-loop μ-loop
-returns c = c .before .loop .inv .1
+returns-2 : tie.Need-returns-2 Inv-loop μ-loop
+returns-2 c = c .before .loop .inv .1
 
 pub expand-spec : {M : Type 1} → statement M
 expand-spec =
@@ -114,7 +123,9 @@ expand-spec =
     element-write-place
     element-write-queue
     add-tail
+    is-free-requires
+    returns
     add-i
     loop-less
     loop-again
-    returns)
+    returns-2)
