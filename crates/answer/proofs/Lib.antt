@@ -3,6 +3,5 @@ pub mod CutLaws
 pub mod PathList
 pub mod PathPlan
 pub mod PathTrail
-pub mod UncrossLinks
-pub mod UncrossSteps
+pub mod PathLinks
 pub mod PathArrays

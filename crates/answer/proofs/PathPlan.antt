@@ -1,4 +1,4 @@
--- The planner's paths, one after the other: each is traced back through the flow from its call, at the end they are a right plan. Assumes nothing.
+-- The planner's paths, one after the other: each is traced back from its call, through the flow in which no two carts trade; at the end they are a right plan. Assumes nothing.
 use Prim.Native.Nat.{ℕ, suc, _+_, _*_, _-_, _≤_, _<_}
 use mathlib.Core.Path.{_≡_, refl, sym, ap, _∙_, subst}
 use mathlib.Core.List.{List, _++_}
@@ -22,12 +22,14 @@ use Rattle.flow.specs.Flow.{Link, off, end}
 use Rattle.network.specs.Graph.{isLift}
 use Rattle.network.specs.Store.{nodes, isUsed}
 use Rattle.network.specs.Links.{backLink, onLink}
+use Rattle.network.specs.Stand.{stoodBack}
 use Rattle.network.specs.Traced.{Traced}
 use Rattle.answer.specs.Full.{FullFlow}
 use Rattle.answer.specs.Trail.{trail, Trailed}
 use Rattle.network.proofs.Plans as plans
 use Rattle.network.proofs.Plans.{starts-on-cart, flow-plan}
 use Rattle.network.proofs.NodeBytes.{used-known}
+use Rattle.network.proofs.Calm.{stood-flow, stood-calm, stood-ends}
 use Rattle.answer.proofs.PathArrays.{lift-read, deadline-read}
 use Rattle.job.proofs.Rows.{withRow, path-kept, path-new}
 use Rattle.answer.proofs.PathTrail.{trail-length, trail-ends, trail-inside, trail-start, trail-follows}
@@ -36,7 +38,7 @@ use Rattle.answer.proofs.PathList.{values, values-length, values-in, va
 -- The first i paths are traced, in the order of the calls.
 pub record Written (j : Job) (order s first second rows : List ℕ) (i : ℕ) : Type 0 where
   pub room : Room first second rows
-  pub traced : (m : ℕ) → m < i → Traced j (backLink j s) (pathAt j first second rows m)
+  pub traced : (m : ℕ) → m < i → Traced j (stoodBack (backLink j s)) (pathAt j first second rows m)
   pub calls : (m : ℕ) → m < i → getD second m 0 ≡ getD order m 0
 
 pub written-none : (j : Job) (order s first second rows : List ℕ) → Room first second rows → Written j order s first second rows 0
@@ -79,20 +81,20 @@ module _ {j : Job} {lifts deadlines : List ℕ} {calls : ℕ} {cartOn order s : 
   served : onLink j s (point c t) ≡ end
   served = g .full (callOf j q) (in-getD (j .calls) q (call 0 0) is-call)
 
-  used : backLink j s (point c t) ≡ off → ⊥
-  used = plans.lifts (g .flow) (point c t) served
+  used : stoodBack (backLink j s) (point c t) ≡ off → ⊥
+  used = plans.lifts (stood-flow (g .flow)) (point c t) (stood-ends (g .flow) (point c t) served)
 
   known : Known j (point c t)
   known = used-known j s (point c t) (ends-used (isUsed j s (point c t)) (isLift j (point c t)) _ served)
 
-  begins : (backLink j s (point (getD cells 0 0) 0) ≡ end) × (getD cells 0 0 < j .cells)
+  begins : (stoodBack (backLink j s) (point (getD cells 0 0) 0) ≡ end) × (getD cells 0 0 < j .cells)
   begins = trail-start j s (g .flow) t c (known .0) used
 
   -- It begins on a cart's cell.
   on-cart : 0 < getD cartOn (getD cells 0 0) 0
-  on-cart = g .carts .has-cart (getD cells 0 0) (starts-on-cart (g .flow) (point (getD cells 0 0) 0) (begins .0))
+  on-cart = g .carts .has-cart (getD cells 0 0) (starts-on-cart (stood-flow (g .flow)) (point (getD cells 0 0) 0) (begins .0))
 
-  traces : (r : ℕ) → r ≡ getD cells 0 0 → Traced j (backLink j s) (pathOf (getD cartOn r 0 - 1) q cells)
+  traces : (r : ℕ) → r ≡ getD cells 0 0 → Traced j (stoodBack (backLink j s)) (pathOf (getD cartOn r 0 - 1) q cells)
   traces r e =
       let h = g .carts .cart (getD cells 0 0) (begins .1) on-cart in
       record {
@@ -128,9 +130,9 @@ module _ {j : Job} {lifts deadlines : List ℕ} {calls : ℕ} {cartOn order s : 
             path-new j (short j (g .ready)) first second rows row i cart q fits same (omega (arith, few, w .room .firsts)) (omega (arith, few, w .room .seconds))
             ∙ ap (pathOf cart q) e
 
-        traced : (m : ℕ) → m < i + 1 → Dec (m < i) → Traced j (backLink j s) (pathAt j (set first i cart) (set second i q) (withRow rows i row) m)
-        traced m h (yes l) = subst (Traced j (backLink j s)) (sym (path-kept j (short j (g .ready)) first second rows row i cart q fits same m l)) (w .traced m l)
-        traced m h (no l) = let z : m ≡ i = omega arith in rw z (subst (Traced j (backLink j s)) (sym new) (traces r f))
+        traced : (m : ℕ) → m < i + 1 → Dec (m < i) → Traced j (stoodBack (backLink j s)) (pathAt j (set first i cart) (set second i q) (withRow rows i row) m)
+        traced m h (yes l) = subst (Traced j (stoodBack (backLink j s))) (sym (path-kept j (short j (g .ready)) first second rows row i cart q fits same m l)) (w .traced m l)
+        traced m h (no l) = let z : m ≡ i = omega arith in rw z (subst (Traced j (stoodBack (backLink j s))) (sym new) (traces r f))
 
         called : (m : ℕ) → m < i + 1 → Dec (m < i) → getD (set second i q) m 0 ≡ getD order m 0
         called m h (yes l) = getD-set-other second i m q 0 (λ z. omega arith) ∙ w .calls m l
@@ -176,7 +178,7 @@ module _ {j : Job} {lifts deadlines : List ℕ} {calls : ℕ} {cartOn order s : 
   right : Written j order s first second rows (length (j .calls)) → RightPlan j (pathsOf j first second rows)
   right w =
       subst (RightPlan j) (sym (paths-values j first second rows all)) (
-        flow-plan j (g .ready) (g .flow) (g .calm) (g .full) (values f 0 all) (values-length f 0 all) (values-once f (λ p. p .call) 0 all once) traced,
+        flow-plan j (g .ready) (stood-flow (g .flow)) (stood-calm (backLink j s)) (λ q h. stood-ends (g .flow) (point (q .cell) (q .deadline)) (g .full q h)) (values f 0 all) (values-length f 0 all) (values-once f (λ p. p .call) 0 all once) traced,
         values-rising f (Before j) 0 all rises,
       )
     where
@@ -190,8 +192,8 @@ module _ {j : Job} {lifts deadlines : List ℕ} {calls : ℕ} {cartOn order s : 
       once m m′ lo l hi e =
           calls-once j order (g .ordered) m m′ l (omega arith) (sym (w .calls m (omega arith)) ∙ e ∙ w .calls m′ (omega arith))
 
-      traced : (p : Path) → In p (values f 0 all) → Traced j (backLink j s) p
-      traced p h = let (m, lo, hi, e) = values-in f 0 all p h in subst (Traced j (backLink j s)) (sym e) (w .traced m (omega arith))
+      traced : (p : Path) → In p (values f 0 all) → Traced j (stoodBack (backLink j s)) p
+      traced p h = let (m, lo, hi, e) = values-in f 0 all p h in subst (Traced j (stoodBack (backLink j s))) (sym e) (w .traced m (omega arith))
 
       rises : (m : ℕ) → 0 ≤ m → suc m < 0 + all → Before j (f m) (f (suc m))
       rises m lo hi = rw (w .calls m (omega arith), w .calls (suc m) (omega arith)) (g .ordered .rises m (omega arith))

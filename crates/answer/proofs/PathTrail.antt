@@ -1,4 +1,4 @@
--- A trail is a line of the flow that the store holds: from a used node it leads from used node to used node down to a cart's cell at step 0.
+-- A trail is a line of the flow that the store holds, with the carts left standing that would trade: from a used node it leads from used node to used node down to a cart's cell at step 0.
 -- A row that is written from its end on holds it. Assumes nothing.
 use Prim.Native.Nat.{ℕ, zero, suc, _+_, _-_, _<_}
 use mathlib.Core.Path.{_≡_, refl, sym, ap, _∙_}
@@ -9,15 +9,18 @@ use native.Mathlib.Omega.{arith}
 use lib.ListN.{length, getD, drop, set, length-append, length-set, List·getD-append}
 use lib.Seq.{drop-cons, append-snoc, drop-set-lt, getD-set-same, getD-at}
 use Rattle.model.specs.Job.{Job}
-use Rattle.model.specs.Choke.{point}
+use Rattle.model.specs.Choke.{Point, point}
 use Rattle.model.proofs.Decide.{dec-lt}
-use Rattle.flow.specs.Flow.{off, end, to}
+use Rattle.flow.specs.Flow.{Link, off, end, to, Flow}
+use Rattle.network.specs.Graph.{graph}
 use Rattle.network.specs.Store.{nodes}
-use Rattle.network.specs.Links.{FlowIn, backLink}
-use Rattle.answer.specs.Trail.{cameFrom, trail, Inside, Trailed}
+use Rattle.network.specs.Links.{FlowIn, backLink, onLink}
+use Rattle.network.specs.Stand.{stoodBack, stoodOn}
+use Rattle.answer.specs.Trail.{linked, cameFrom, Linked, trail, Inside, Trailed}
 use Rattle.network.proofs.Points.{point-eq}
 use Rattle.network.proofs.Plans.{began, came}
-use Rattle.answer.proofs.UncrossLinks.{back-of}
+use Rattle.network.proofs.Calm.{stood-flow}
+use Rattle.answer.proofs.PathLinks.{came-from}
 
 seam : (l : List ℕ) (i a : ℕ) → i < length l → drop i (set l i a) ≡ a ∷ drop (suc i) l
 seam l i a h =
@@ -50,12 +53,16 @@ module _ (k n : ℕ) (s : List ℕ) where
     trail-zero zero e h = (rw (add-one) (seam row 0 c h), refl)
     trail-zero (suc t) e h = absurd (omega arith)
 
+    pub trail-linked : (t : ℕ) → Trailed k n s row c t → (t ≡ 0 → ⊥) → Linked k n s c t
+    trail-linked zero g ne = absurd (ne refl)
+    trail-linked (suc t) g ne = record { known = g .inside .0; from-known = g .inside .1; fits = g .fits; room = g .room }
+
     pub trailed-on : (t p : ℕ) → p ≡ cameFrom k n s c t → Trailed k n s row c t → (t ≡ 0 → ⊥) → Trailed k n s (set row t c) p (t - 1)
     trailed-on zero p e g ne = absurd (ne refl)
     trailed-on (suc t) p e g ne =
         let a : suc t - 1 ≡ t = omega arith in
         rw (a, e) (record {
-          inside = g .inside .1;
+          inside = g .inside .2;
           small = g .small;
           fits = omega (arith, g .fits, suc-mul t n);
           room = g .room;
@@ -76,8 +83,14 @@ module _ (k n : ℕ) (s : List ℕ) where
         )
 
 module _ (j : Job) (s : List ℕ) (ok : FlowIn j s) where
+  abbrev back : Point → Link Point
+  back = stoodBack (backLink j s)
+
+  flow : Flow (graph j) back (stoodOn (backLink j s) (onLink j s))
+  flow = stood-flow ok
+
   abbrev Used : ℕ → ℕ → Type 0
-  Used c t = backLink j s (point c t) ≡ off → ⊥
+  Used c t = back (point c t) ≡ off → ⊥
 
   abbrev from : ℕ → ℕ → ℕ
   from c t = cameFrom (nodes j) (j .cells) s c t
@@ -85,39 +98,40 @@ module _ (j : Job) (s : List ℕ) (ok : FlowIn j s) where
   abbrev cells : ℕ → ℕ → List ℕ
   cells c t = trail (nodes j) (j .cells) s c t
 
-  step : (c t : ℕ) → Used c (suc t) → (backLink j s (point c (suc t)) ≡ to (point (from c (suc t)) t)) × (from c (suc t) < j .cells) × Used (from c (suc t)) t
+  step : (c t : ℕ) → Used c (suc t)
+      → (back (point c (suc t)) ≡ to (point (from c (suc t)) t)) × (from c (suc t) < j .cells) × Used (from c (suc t)) t × (linked (nodes j) (j .cells) s c (suc t) < j .cells)
   step c t u =
-      let (v, e, h, known, used) = came ok (point c (suc t)) t u refl in
-      let q : from c (suc t) ≡ v .cell = back-of j s (point c (suc t)) v e .1 in
-      let r : v ≡ point (from c (suc t)) t = point-eq (sym q) h in
-      (e ∙ ap to r, rw q known, λ z. used (ap (backLink j s) r ∙ z))
+      let (v, e, h, known, used) = came flow (point c (suc t)) t u refl in
+      let q = came-from j s ok c t v e in
+      let r : v ≡ point (from c (suc t)) t = point-eq (sym (q .0)) h in
+      (e ∙ ap to r, rw (q .0) known, λ z. used (ap back r ∙ z), q .1)
 
   pub trail-inside : (t c : ℕ) → c < j .cells → Used c t → Inside (nodes j) (j .cells) s c t
   trail-inside zero c h u = h
-  trail-inside (suc t) c h u = let (e, l, v) = step c t u in (h, trail-inside t (from c (suc t)) l v)
+  trail-inside (suc t) c h u = let (e, l, v, m) = step c t u in (h, m, trail-inside t (from c (suc t)) l v)
 
-  pub trail-start : (t c : ℕ) → c < j .cells → Used c t → (backLink j s (point (getD (cells c t) 0 0) 0) ≡ end) × (getD (cells c t) 0 0 < j .cells)
-  trail-start zero c h u = (began ok (point c 0) u refl, h)
+  pub trail-start : (t c : ℕ) → c < j .cells → Used c t → (back (point (getD (cells c t) 0 0) 0) ≡ end) × (getD (cells c t) 0 0 < j .cells)
+  trail-start zero c h u = (began flow (point c 0) u refl, h)
   trail-start (suc t) c h u =
-      let (e, l, v) = step c t u in
+      let (e, l, v, m) = step c t u in
       let first : getD (cells c (suc t)) 0 0 ≡ getD (cells (from c (suc t)) t) 0 0 = earlier (nodes j) (j .cells) s t c 0 (omega arith) in
       let ih = trail-start t (from c (suc t)) l v in
-      (ap (λ x. backLink j s (point x 0)) first ∙ ih .0, rw first (ih .1))
+      (ap (λ x. back (point x 0)) first ∙ ih .0, rw first (ih .1))
 
-  pub trail-follows : (t c : ℕ) → Used c t → (m : ℕ) → m < t → backLink j s (point (getD (cells c t) (suc m) 0) (suc m)) ≡ to (point (getD (cells c t) m 0) m)
+  pub trail-follows : (t c : ℕ) → Used c t → (m : ℕ) → m < t → back (point (getD (cells c t) (suc m) 0) (suc m)) ≡ to (point (getD (cells c t) m 0) m)
   trail-follows zero c u m h = absurd (omega arith)
   trail-follows (suc t) c u m h = go (dec-lt m t) (λ l. trail-follows t (from c (suc t)) (step c t u .2) m l)
     where
       here : getD (cells c (suc t)) m 0 ≡ getD (cells (from c (suc t)) t) m 0
       here = earlier (nodes j) (j .cells) s t c m h
 
-      go : Dec (m < t) → (m < t → backLink j s (point (getD (cells (from c (suc t)) t) (suc m) 0) (suc m)) ≡ to (point (getD (cells (from c (suc t)) t) m 0) m))
-          → backLink j s (point (getD (cells c (suc t)) (suc m) 0) (suc m)) ≡ to (point (getD (cells c (suc t)) m 0) m)
+      go : Dec (m < t) → (m < t → back (point (getD (cells (from c (suc t)) t) (suc m) 0) (suc m)) ≡ to (point (getD (cells (from c (suc t)) t) m 0) m))
+          → back (point (getD (cells c (suc t)) (suc m) 0) (suc m)) ≡ to (point (getD (cells c (suc t)) m 0) m)
       go (yes l) ih =
-          ap (λ x. backLink j s (point x (suc m))) (earlier (nodes j) (j .cells) s t c (suc m) (omega arith))
+          ap (λ x. back (point x (suc m))) (earlier (nodes j) (j .cells) s t c (suc m) (omega arith))
           ∙ ih l ∙ ap (λ x. to (point x m)) (sym here)
       go (no l) ih =
           let e : m ≡ t = omega arith in
           let top : getD (cells c (suc t)) (suc m) 0 ≡ c = ap (λ x. getD (cells c (suc t)) (suc x) 0) e ∙ trail-ends (nodes j) (j .cells) s (suc t) c in
           let low : getD (cells c (suc t)) m 0 ≡ from c (suc t) = here ∙ ap (λ x. getD (cells (from c (suc t)) t) x 0) e ∙ trail-ends (nodes j) (j .cells) s t (from c (suc t)) in
-          ap (backLink j s) (point-eq {y = point c (suc t)} top (ap suc e)) ∙ step c t u .0 ∙ ap to (point-eq {x = point (from c (suc t)) t} (sym low) (sym e))
+          ap back (point-eq {y = point c (suc t)} top (ap suc e)) ∙ step c t u .0 ∙ ap to (point-eq {x = point (from c (suc t)) t} (sym low) (sym e))

@@ -10,12 +10,11 @@ use Rattle.model.specs.Ready.{Ready}
 use Rattle.job.specs.Arrays.{pairs}
 use Rattle.flow.specs.Flow.{end}
 use Rattle.network.specs.Store.{nodes, Spacious}
-use Rattle.network.specs.Links.{FlowIn, backLink, onLink}
+use Rattle.network.specs.Links.{FlowIn, onLink}
 use Rattle.network.specs.Order.{Order}
 use Rattle.network.specs.Tables.{CartOn}
-use Rattle.network.specs.Traced.{Calm}
 
--- The job has n cells, k nodes and the calls of the arrays. The store holds a flow of it in which no two carts trade and every call is served.
+-- The job has n cells, k nodes and the calls of the arrays. The store holds a flow of it in which every call is served.
 pub record FullFlow (j : Job) (lifts deadlines : List ℕ) (calls : ℕ) (cartOn order s : List ℕ) (n k : ℕ) : Type 0 where
   pub ready : Ready j
   pub width : n ≡ j .cells
@@ -26,5 +25,4 @@ pub record FullFlow (j : Job) (lifts deadlines : List ℕ) (calls : ℕ) (cartOn
   pub ordered : Order j order
   pub room : Spacious j s
   pub flow : FlowIn j s
-  pub calm : Calm (backLink j s)
   pub full : (q : Call) → In q (j .calls) → onLink j s (point (q .cell) (q .deadline)) ≡ end

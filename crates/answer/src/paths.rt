@@ -9,7 +9,24 @@ ghost use Rattle.model.specs.Job as model;
 ghost use Rattle.model.specs.Contracts.{RightPlan};
 ghost use Rattle.job.specs.Held.{Room, pathsOf};
 ghost use Rattle.answer.specs.Full.{FullFlow};
-ghost use Rattle.answer.specs.Trail.{trail, Trailed};
+ghost use Rattle.answer.specs.Trail.{cameFrom, Linked, trail, Trailed};
+
+// Where the cart on b at step t > 0 comes from. Two carts that would trade places both stand instead.
+fn came_from(store: &[u8], n: usize, k: usize, b: usize, t: usize) -> usize
+    requires { ⌜ Linked k n (now store) b t ⌝ }
+    ensures { λ r. ⌜ r ≡ cameFrom k n (now (store .entry)) b t ⌝ }
+{
+    let v = t * n + b;
+    let a = wide(store[3 * k + v]);
+    let w = t * n + a;
+    if store[w] == 0 {
+        return a;
+    }
+    if wide(store[3 * k + w]) != b {
+        return a;
+    }
+    b
+}
 
 // Follows the cart on c at step t back to step 0. Its cells go into the row, and the first of them is the answer.
 fn follow(store: &[u8], n: usize, k: usize, row: &mut [u8], c: usize, t: usize) -> usize
@@ -20,8 +37,7 @@ fn follow(store: &[u8], n: usize, k: usize, row: &mut [u8], c: usize, t: usize) 
     if t == 0 {
         return c;
     }
-    let v = t * n + c;
-    follow(store, n, k, row, wide(store[3 * k + v]), t - 1)
+    follow(store, n, k, row, came_from(store, n, k, c, t), t - 1)
 }
 
 // The job has n cells and k nodes. The carts' numbers go into first, the calls' into second, the cells of the i-th path into row i.

@@ -6,5 +6,5 @@ pub mod Links
 pub mod Augment
 pub mod Cut
 pub mod Line
-pub mod Uncross
+pub mod Exchange
 pub mod Count

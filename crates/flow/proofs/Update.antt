@@ -37,18 +37,3 @@ upd-swap {N} {B} dec f a b p q v h = go (dec v b) (dec v a)
     go (yes e) (yes e′) = absurd (h (cc))
     go (yes e) (no k) = refl
     go (no k) d′ = refl
-
--- The same of a function that was changed at a, and then at b.
-module _ {N B : Type 0} (dec : Discrete N) (f : N → B) (a b : N) (p q : B) where
-  pub data Upd2 (v : N) : Type 0 where
-    second : v ≡ b → upd dec (upd dec f a p) b q v ≡ q → Upd2 v
-    first : (v ≡ b → ⊥) → v ≡ a → upd dec (upd dec f a p) b q v ≡ p → Upd2 v
-    neither : (v ≡ b → ⊥) → (v ≡ a → ⊥) → upd dec (upd dec f a p) b q v ≡ f v → Upd2 v
-
-  pub look2 : (v : N) → Upd2 v
-  look2 v = go (dec v b) refl (dec v a) refl
-    where
-      go : (d : Dec (v ≡ b)) → dec v b ≡ d → (d′ : Dec (v ≡ a)) → dec v a ≡ d′ → Upd2 v
-      go (yes e) q d′ q′ = second e (rw (q, pick))
-      go (no h) q (yes e) q′ = first h e (rw (q, q′, pick))
-      go (no h) q (no h′) q′ = neither h h′ (rw (q, q′, pick))

@@ -3,5 +3,5 @@ pub mod Update
 pub mod Way
 pub mod Cut
 pub mod Line
-pub mod Cross
+pub mod Exchange
 pub mod Count

@@ -1,95 +1,120 @@
--- Two carts that trade the cells a and b may each stand instead: the links led so are a flow with the same starts and the same used nodes.
--- It has no new trade, as a link that leads to another cell is as it was, and none at a and b. Assumes nothing.
-use Prim.Native.Nat.{ℕ, suc, _<_}
+-- Where two carts that would trade places both stand instead, the links are still a flow, since two of its nodes exchange where they lead. No two carts trade in it:
+-- a link that changed leads to its own cell, and two that did not and traded would have changed. Assumes nothing.
+use Prim.Native.Nat.{ℕ, suc}
 use mathlib.Core.Path.{_≡_, refl, sym, _∙_, ap}
-use mathlib.Core.Logic.{_⊎_, inl, inr, ⊎-elim, _↔_}
-use native.Mathlib.Decide.{ℕ-discrete}
-use Rattle.model.specs.Job.{Job, horizon}
+use mathlib.Core.Bool.{Bool, true, false}
+use mathlib.Core.Logic.{_⊎_, inl, inr}
+use lib.Dec.{eqb}
+use borrow.Author.Tests.{eqb-true, eq-eqb}
+use Rattle.model.specs.Job.{Job}
 use Rattle.model.specs.Choke.{Point, point}
+use Rattle.model.proofs.Basics.{nope, and-left, and-right, and-both}
 use Rattle.flow.specs.Flow.{Link, off, end, to, Flow}
-use Rattle.flow.specs.Cross.{Crossed}
-use Rattle.flow.specs.Update.{upd}
-use Rattle.flow.proofs.Update.{Upd2, first, second, neither, look2}
-use Rattle.flow.proofs.Uncross.{uncrossed, same-starts}
+use Rattle.flow.specs.Exchange.{led}
+use Rattle.flow.proofs.Exchange.{exchanged}
 use Rattle.network.specs.Graph.{graph, Earlier}
 use Rattle.network.specs.Traced.{Calm}
-use Rattle.network.proofs.Points.{point-cell, point-eq, to-eq, dec-point}
+use Rattle.network.specs.Stand.{isTo, otherBy, other, stoodBack, stoodOn}
+use Rattle.network.proofs.Points.{point-cell, point-step, point-eq, to-eq}
 
--- Between t and the next step a cart goes from a to b, and one from b to a.
-abbrev pub Trades : (Point → Link Point) → ℕ → ℕ → ℕ → Type 0
-Trades back a b t = (back (point b (suc t)) ≡ to (point a t)) × (back (point a (suc t)) ≡ to (point b t))
+is-to : (x : Point) (l : Link Point) → isTo x l ≡ true → l ≡ to x
+is-to x off e = nope (cc)
+is-to x end e = nope (cc)
+is-to x (to y) e =
+    let a = eqb (y .cell) (x .cell) in
+    let b = eqb (y .step) (x .step) in
+    ap to (point-eq (eqb-true (y .cell) (x .cell) (and-left a b e)) (eqb-true (y .step) (x .step) (and-right a b e)))
 
--- The links, with both carts left standing: a's are written last.
-abbrev pub straight : (Point → Link Point) → ℕ → ℕ → ℕ → Point → Link Point
-straight back a b t = upd dec-point (upd dec-point back (point b (suc t)) (to (point b t))) (point a (suc t)) (to (point a t))
+to-is : (x : Point) (l : Link Point) → l ≡ to x → isTo x l ≡ true
+to-is x off e = nope (cc)
+to-is x end e = nope (cc)
+to-is x (to y) e =
+    let f = to-eq e in
+    and-both (eqb (y .cell) (x .cell)) (eqb (y .step) (x .step)) (eq-eqb (y .cell) (x .cell) (point-cell f)) (eq-eqb (y .step) (x .step) (point-step f))
 
-abbrev pub straight-on : (Point → Link Point) → ℕ → ℕ → ℕ → Point → Link Point
-straight-on on a b t = upd dec-point (upd dec-point on (point b t) (to (point b (suc t)))) (point a t) (to (point a (suc t)))
+module _ (back : Point → Link Point) where
+  -- The cart on v came from u, and the one then on u's cell came from v's. A cart that stood is one of these, with itself.
+  abbrev Trades : Point → Point → Type 0
+  Trades v u = (back v ≡ to u) × (back (point (u .cell) (v .step)) ≡ to (point (v .cell) (u .step)))
 
-module _ (back : Point → Link Point) (a b t : ℕ) where
-  abbrev Seen : Point → Type 0
-  Seen = Upd2 dec-point back (point b (suc t)) (point a (suc t)) (to (point b t)) (to (point a t))
+  pub data Meets (v : Point) : Type 0 where
+    trades : (u : Point) → Trades v u → other back v ≡ point (u .cell) (v .step) → Meets v
+    passes : ((u : Point) → Trades v u → ⊥) → other back v ≡ v → Meets v
 
-  seen : (v : Point) → Seen v
-  seen v = look2 dec-point back (point b (suc t)) (point a (suc t)) (to (point b t)) (to (point a t)) v
-
-  -- A link leads to its own cell, or is as it was and elsewhere.
-  led : (u w s : ℕ) → straight back a b t (point u (suc s)) ≡ to (point w s)
-      → (u ≡ w) ⊎ ((back (point u (suc s)) ≡ to (point w s)) × ((u ≡ a) ⊎ (u ≡ b) → s ≡ t → ⊥))
-  led u w s e = go (seen (point u (suc s)))
+  pub meets : (v : Point) → Meets v
+  meets v = go (back v) refl
     where
-      go : Seen (point u (suc s)) → (u ≡ w) ⊎ ((back (point u (suc s)) ≡ to (point w s)) × ((u ≡ a) ⊎ (u ≡ b) → s ≡ t → ⊥))
-      go (second q f) = inl (point-cell q ∙ sym (point-cell (to-eq (sym e ∙ f))))
-      go (first k q f) = inl (point-cell q ∙ sym (point-cell (to-eq (sym e ∙ f))))
-      go (neither k₁ k₂ f) = inr (sym f ∙ e, λ o q. ⊎-elim (λ p. k₁ (point-eq p (ap suc q))) (λ p. k₂ (point-eq p (ap suc q))) o)
+      on : (u : Point) → back v ≡ to u → (b : Bool) → isTo (point (v .cell) (u .step)) (back (point (u .cell) (v .step))) ≡ b → Meets v
+      on u e true f = trades u (e, is-to _ _ f) (rw (e, otherBy, f))
+      on u e false f = passes (λ w (g, h). let q : u ≡ w = to-eq (sym e ∙ g) in nope (cc (to-is (point (v .cell) (u .step)) (back (point (u .cell) (v .step))) (rw q h)))) (rw (e, otherBy, f))
 
-  kept : (u w s : ℕ) → straight back a b t (point u (suc s)) ≡ to (point w s) → (u ≡ w → ⊥) → back (point u (suc s)) ≡ to (point w s)
-  kept u w s e ne = ⊎-elim (λ q. absurd (ne q)) (λ k. k .0) (led u w s e)
+      go : (l : Link Point) → back v ≡ l → Meets v
+      go off e = passes (λ w (g, h). nope (cc)) (rw (e, otherBy))
+      go end e = passes (λ w (g, h). nope (cc)) (rw (e, otherBy))
+      go (to u) e = on u e _ refl
 
-  pub calm-kept : (u w s : ℕ) → Trades (straight back a b t) u w s → (u ≡ w → ⊥) → Trades back u w s
-  calm-kept u w s (e, f) ne = (kept w u s e (λ q. ne (sym q)), kept u w s f ne)
-
-  pub calm-gone : (u w : ℕ) → (u ≡ a) ⊎ (u ≡ b) → Trades (straight back a b t) u w t → u ≡ w
-  calm-gone u w o tr = ⊎-elim (λ q. q) (λ k. absurd (k .1 o refl)) (led u w t (tr .1))
-
-  pub calm-step : (Done : ℕ → ℕ → Type 0) → ((u w s : ℕ) → Done u s → Trades back u w s → u ≡ w)
-      → (u w s : ℕ) → Done u s ⊎ (((u ≡ a) ⊎ (u ≡ b)) × (s ≡ t)) → Trades (straight back a b t) u w s → u ≡ w
-  calm-step Done calm u w s d tr = go (ℕ-discrete u w) d
+  twice : (v : Point) → other back (other back v) ≡ v
+  twice v = go (meets v)
     where
-      go : Dec (u ≡ w) → Done u s ⊎ (((u ≡ a) ⊎ (u ≡ b)) × (s ≡ t)) → u ≡ w
-      go (yes e) d = e
-      go (no ne) (inl d) = calm u w s d (calm-kept u w s tr ne)
-      go (no ne) (inr (o, e)) = calm-gone u w o (rw e at tr)
+      -- the other node of two that trade, and v with it
+      turn : (u : Point) → Trades v u → Meets (point (u .cell) (v .step)) → other back (point (u .cell) (v .step)) ≡ v
+      turn u (e, f) (trades w (g, h) q) = let p : w ≡ point (v .cell) (u .step) = to-eq (sym g ∙ f) in q ∙ point-eq (point-cell p) refl
+      turn u (e, f) (passes none q) = absurd (none (point (v .cell) (u .step)) (f, e))
+
+      go : Meets v → other back (other back v) ≡ v
+      go (trades u t q) = ap (other back) q ∙ turn u t (meets (point (u .cell) (v .step)))
+      go (passes none q) = ap (other back) q ∙ q
+
+  leads : (v : Point) → (other back v ≡ v) ⊎ ((w : Point) × (back v ≡ to w))
+  leads v = go (meets v)
+    where
+      go : Meets v → (other back v ≡ v) ⊎ ((w : Point) × (back v ≡ to w))
+      go (trades u t q) = inr (u, t .0)
+      go (passes none q) = inl q
+
+  -- A link now leads to the node's own cell, or where it did, and that in no trade.
+  abbrev Leads : ℕ → ℕ → ℕ → Type 0
+  Leads u w t = (u ≡ w) ⊎ ((back (point u (suc t)) ≡ to (point w t)) × (Trades (point u (suc t)) (point w t) → ⊥))
+
+  now-leads : (u w t : ℕ) → stoodBack back (point u (suc t)) ≡ to (point w t) → Leads u w t
+  now-leads u w t e = go (meets (point u (suc t)))
+    where
+      go : Meets (point u (suc t)) → Leads u w t
+      go (trades x (f, g) q) = inl (point-cell (to-eq (sym g ∙ ap back (sym q) ∙ e)))
+      go (passes none q) = inr (ap back (sym q) ∙ e, none (point w t))
+
+  pub stood-calm : Calm (stoodBack back)
+  stood-calm u w t e f = go (now-leads u w t e) (now-leads w u t f)
+    where
+      go : Leads u w t → Leads w u t → u ≡ w
+      go (inl q) r = q
+      go (inr p) (inl q) = sym q
+      go (inr (g, none)) (inr (h, _)) = absurd (none (g, h))
 
 module _ {j : Job} {back on : Point → Link Point} (ok : Flow (graph j) back on) where
-  -- Where the links lead, the cells and the steps are those of the job.
-  pub calm-all : ((u w t : ℕ) → u < j .cells → t < horizon j → Trades back u w t → u ≡ w) → Calm back
-  calm-all free u w t e f = free u w t (ok .edge _ _ e .known) (ok .edge _ _ e .in-time) (f, e)
+  -- A cart that stands instead of trading could have: the other one left its cell.
+  stands : (v u : Point) → Trades back v u → Earlier j v (point (v .cell) (u .step))
+  stands v u (e, f) =
+      let d = ok .edge v u e in
+      record {
+        falls = d .falls;
+        moves = inl refl;
+        leaves = ok .edge _ _ f .leaves;
+        in-time = d .in-time;
+        known = d .known;
+        known-before = d .known;
+      }
 
-  module _ {a b t : ℕ} (tr : Trades back a b t) where
-    stands : (u w : ℕ) → back (point u (suc t)) ≡ to (point w t) → back (point w (suc t)) ≡ to (point u t) → Earlier j (point u (suc t)) (point u t)
-    stands u w e f = record {
-      falls = refl;
-      moves = inl refl;
-      leaves = ok .edge _ _ f .leaves;
-      in-time = ok .edge _ _ e .in-time;
-      known = ok .edge _ _ e .known;
-      known-before = ok .edge _ _ e .known;
-    }
+  edge : (v w : Point) → stoodBack back v ≡ to w → Earlier j v w
+  edge v w e = go (meets back v)
+    where
+      go : Meets back v → Earlier j v w
+      go (trades u (f, g) q) = let p : w ≡ point (v .cell) (u .step) = to-eq (sym e ∙ ap back q ∙ g) in rw p (stands v u (f, g))
+      go (passes none q) = ok .edge v w (ap back (sym q) ∙ e)
 
-    crossed : Crossed (graph j) back (point b (suc t)) (point b t) (point a (suc t)) (point a t)
-    crossed = record { one = tr .0; other = tr .1; one-edge = stands b a (tr .0) (tr .1); other-edge = stands a b (tr .1) (tr .0) }
+  pub stood-flow : Flow (graph j) (stoodBack back) (stoodOn back on)
+  stood-flow = exchanged ok (record { twice = twice back; leads = leads back; edge = edge })
 
-    pub straightened : Flow (graph j) (straight back a b t) (straight-on on a b t)
-    straightened = uncrossed dec-point ok crossed
-
-    pub straight-starts : (v : Point) → (straight-on on a b t v ≡ end) ↔ (on v ≡ end)
-    straight-starts v = same-starts dec-point ok crossed v
-
-    pub straight-used : (v : Point) → (straight back a b t v ≡ off) ↔ (back v ≡ off)
-    straight-used v = go (seen back a b t v)
-      where
-        go : Seen back a b t v → (straight back a b t v ≡ off) ↔ (back v ≡ off)
-        go (second e f) = (λ h. cc, λ h. cc (tr .1))
-        go (first k e f) = (λ h. cc, λ h. cc (tr .0))
-        go (neither k₁ k₂ f) = (λ h. cc, λ h. cc)
+  -- The lines begin where they did.
+  pub stood-ends : (v : Point) → on v ≡ end → stoodOn back on v ≡ end
+  stood-ends v e = ap (led (other back)) e

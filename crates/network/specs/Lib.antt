@@ -1,6 +1,7 @@
 pub mod Graph
 pub mod Stuck
 pub mod Traced
+pub mod Stand
 pub mod Store
 pub mod Links
 pub mod Tables

@@ -1,27 +1,22 @@
--- What each part of the planner hands to the next: the tables of a job and the cleared store are what its calls are served from, and what that leaves is what the pass over
--- trading carts, the paths and the choke list ask for. Assumes nothing.
+-- What each part of the planner hands to the next: the tables of a job and the cleared store are what its calls are served from, and what that leaves is what the
+-- paths and the choke list ask for. Assumes nothing.
 use Prim.Native.Nat.{ℕ, _<_}
 use mathlib.Core.Path.{_≡_, refl}
 use mathlib.Core.List.{List}
 use native.Mathlib.Omega.{arith}
 use lib.ListN.{length, getD}
-use Rattle.model.specs.Lists.{In}
-use Rattle.model.specs.Job.{Job, Call, horizon}
-use Rattle.model.specs.Choke.{point}
+use Rattle.model.specs.Job.{Job, horizon}
 use Rattle.model.specs.Ready.{Ready}
 use Rattle.job.specs.Arrays.{jobOf}
 use Rattle.job.specs.declared.state.Job as arrays
 use Rattle.job.proofs.Arrays.{Whole, calls-count}
-use Rattle.flow.specs.Flow.{end}
 use Rattle.network.specs.Store.{nodes, at, Spacious}
-use Rattle.network.specs.Links.{FlowIn, onLink}
+use Rattle.network.specs.Links.{FlowIn}
 use Rattle.network.specs.Rows.{Beside, Rows, Filled}
 use Rattle.network.specs.Sorted.{Sorted}
-use Rattle.network.proofs.ChokeLifts.{nodeOf}
 use Rattle.network.proofs.JobTables.{near-of, due-of, carts-of, order-of}
 use Rattle.route.specs.declared.serve.Served.{Served}
 use Rattle.route.specs.declared.serve.Served.the-variants.{Yes, No}
-use Rattle.answer.specs.Uncrossed.{Flowing, Uncrossed}
 use Rattle.answer.specs.Cut.{Failed}
 use Rattle.answer.specs.Full.{FullFlow}
 use Rattle.planner.specs.Solved.{Begun, ServedAll}
@@ -48,27 +43,22 @@ begun a w ready size rows dues carts sorted room blank = record {
 -- The calls were served, as far as they could be, in a store that is as long.
 module _ {j : Job} {lifts deadlines : List ℕ} {calls : ℕ} {near start degree due cartOn order s₀ : List ℕ} {n k : ℕ} (g : Begun j lifts deadlines calls near start degree due cartOn order s₀ n k)
     {s : List ℕ} (same : length s ≡ length s₀) (answer : Served) (served : FlowIn j s × ServedAll j s answer) where
-  pub flowing : {last : ℕ} → last ≡ horizon j → Flowing j n k last s
-  flowing ends = record { ready = g .ready; width = g .width; size = g .size; ends = ends; room = omega (arith, g .room); flow = served .0 }
-
-  -- All of them are, and still are where no two carts trade places.
-  pub full : {m : ℕ} → answer ≡ Yes m → {s′ : List ℕ} → Uncrossed j s s′ → FullFlow j lifts deadlines calls cartOn order s′ n k
-  full {m} e {s′} u = record {
-    ready = g .ready;
-    width = g .width;
-    size = g .size;
-    counted = g .counted;
-    listed = g .listed;
-    carts = g .carts;
-    ordered = g .ordered;
-    room = omega (arith, g .room, u .long);
-    flow = u .flow;
-    calm = u .calm;
-    full = still (rw e at (served .1));
-  }
-    where
-      still : ServedAll j s (Yes m) → (q : Call) → In q (j .calls) → onLink j s′ (point (q .cell) (q .deadline)) ≡ end
-      still all q h = u .serves (nodeOf q) .1 (all q h)
+  -- All of them are.
+  pub full : {m : ℕ} → answer ≡ Yes m → FullFlow j lifts deadlines calls cartOn order s n k
+  full {m} e =
+      let all : ServedAll j s (Yes m) = rw e at (served .1) in
+      record {
+        ready = g .ready;
+        width = g .width;
+        size = g .size;
+        counted = g .counted;
+        listed = g .listed;
+        carts = g .carts;
+        ordered = g .ordered;
+        room = omega (arith, g .room);
+        flow = served .0;
+        full = all;
+      }
 
   -- One cannot be.
   pub stuck : {m : ℕ} → answer ≡ No m → {last : ℕ} → last ≡ horizon j → Failed j due s n k last m

@@ -121,7 +121,6 @@ pub fn solve(
         k,
     );
     let Served::No(stamp) = served else {
-        answer::uncross::uncross(store, n, k, last);
         answer::paths::write_paths(
             &job.lifts,
             &job.deadlines,

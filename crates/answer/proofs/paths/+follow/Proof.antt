@@ -5,16 +5,16 @@ use native.Mathlib.Omega.{arith}
 use denote.Ref.{now}
 use lib.ListN.{length-set}
 use borrow.Author.Needs.{needs}
-use Rattle.answer.proofs.PathTrail.{inside-known, trail-zero, trailed-on, trail-more}
+use Rattle.answer.proofs.PathTrail.{inside-known, trail-zero, trail-linked, trailed-on, trail-more}
 use Prim.Native.Nat.{ℕ, _<_}
 use borrow.Fn.Kinds.{In}
 use borrow.Fn.PlainCycle.{Measures, is, falls, and}
 use Rattle.answer.proofs.paths.follow.Reads as follow
 use Rattle.answer.proofs.paths.follow.Kinds as follow-kinds
 use Rattle.answer.proofs.paths.+follow.Lts-follow as follow-lts
-use Rattle.model.proofs.bytes.wide.Reads as wide-reads
 use Rattle.answer.proofs.paths.+follow.{statement}
 use Rattle.answer.proofs.paths.+follow.Tie.{close}
+use Rattle.answer.proofs.paths.came_from.Reads as came-from-reads
 
 abbrev μ-follow : Measures 2 follow-kinds.ps ℕ
 μ-follow κs a = a .1 .1 .1 .1 .1 .0
@@ -26,121 +26,81 @@ abbrev follow-below : ℕ → In 2 follow-kinds.ps
 follow-below t = and 2 follow-kinds.ps (falls 2 follow-kinds.ps _<_ μ-follow t) follow.Pre
 
 follow-cast-row : (t : ℕ) → follow-lts.Need-cast-row (
-  wide-reads.Asked,
-  wide-reads.Learnt,
+  came-from-reads.Asked,
+  came-from-reads.Learnt,
   follow-below t,
   follow.Post,
 ) (follow-at t) follow.Post
 follow-cast-row t c = let a = c .before .before .args in omega (arith, c .before .before .pre .1 .small, inside-known (a .k) (a .n) (now (a .store)) (a .t) (a .c) (c .before .before .pre .1 .inside))
 
 follow-slice-write-row : (t : ℕ) → follow-lts.Need-slice-write-row (
-  wide-reads.Asked,
-  wide-reads.Learnt,
+  came-from-reads.Asked,
+  came-from-reads.Learnt,
   follow-below t,
   follow.Post,
 ) (follow-at t) follow.Post
 follow-slice-write-row t c = omega (arith, c .before .before .pre .1 .long)
 
 follow-same-length : (t : ℕ) → follow-lts.Need-same-length (
-  wide-reads.Asked,
-  wide-reads.Learnt,
+  came-from-reads.Asked,
+  came-from-reads.Learnt,
   follow-below t,
   follow.Post,
 ) (follow-at t) follow.Post
 follow-same-length t c = search needs
 
 follow-returns : (t : ℕ) → follow-lts.Need-returns (
-  wide-reads.Asked,
-  wide-reads.Learnt,
+  came-from-reads.Asked,
+  came-from-reads.Learnt,
   follow-below t,
   follow.Post,
 ) (follow-at t) follow.Post
 follow-returns t c = let a = c .before .before .before .args in trail-zero (a .k) (a .n) (now (a .store)) (now (a .row)) (a .c) (a .t) (c .if1 .taken) (c .before .before .before .pre .1 .long)
 
-follow-mul-v : (t : ℕ) → follow-lts.Need-mul-v (
-  wide-reads.Asked,
-  wide-reads.Learnt,
+follow-came-from-requires : (t : ℕ) → follow-lts.Need-came-from-requires (
+  came-from-reads.Asked,
+  came-from-reads.Learnt,
   follow-below t,
   follow.Post,
 ) (follow-at t) follow.Post
-follow-mul-v t c = omega (arith, c .before .before .before .pre .1 .fits)
-
-follow-add-v : (t : ℕ) → follow-lts.Need-add-v (
-  wide-reads.Asked,
-  wide-reads.Learnt,
-  follow-below t,
-  follow.Post,
-) (follow-at t) follow.Post
-follow-add-v t c = let a = c .before .before .before .args in omega (arith, c .before .before .before .pre .1 .fits, inside-known (a .k) (a .n) (now (a .store)) (a .t) (a .c) (c .before .before .before .pre .1 .inside))
-
-follow-mul-wide : (t : ℕ) → follow-lts.Need-mul-wide (
-  wide-reads.Asked,
-  wide-reads.Learnt,
-  follow-below t,
-  follow.Post,
-) (follow-at t) follow.Post
-follow-mul-wide t c = omega (arith, c .before .before .before .before .pre .1 .room)
-
-follow-add-wide : (t : ℕ) → follow-lts.Need-add-wide (
-  wide-reads.Asked,
-  wide-reads.Learnt,
-  follow-below t,
-  follow.Post,
-) (follow-at t) follow.Post
-follow-add-wide t c = let a = c .before .before .before .before .args in omega (arith, c .before .before .before .before .pre .1 .room, c .before .before .before .before .pre .1 .fits, inside-known (a .k) (a .n) (now (a .store)) (a .t) (a .c) (c .before .before .before .before .pre .1 .inside))
-
-follow-shared-slice-read-wide : (t : ℕ) → follow-lts.Need-shared-slice-read-wide (
-  wide-reads.Asked,
-  wide-reads.Learnt,
-  follow-below t,
-  follow.Post,
-) (follow-at t) follow.Post
-follow-shared-slice-read-wide t c = let a = c .before .before .before .before .before .args in omega (arith, c .before .before .before .before .before .pre .1 .room, c .before .before .before .before .before .pre .1 .fits, inside-known (a .k) (a .n) (now (a .store)) (a .t) (a .c) (c .before .before .before .before .before .pre .1 .inside))
-
-follow-wide-requires : (t : ℕ) → follow-lts.Need-wide-requires (
-  wide-reads.Asked,
-  wide-reads.Learnt,
-  follow-below t,
-  follow.Post,
-) (follow-at t) follow.Post
-follow-wide-requires t c κs = search needs
+follow-came-from-requires t c κs = let a = c .before .before .before .before .args in trail-linked (a .k) (a .n) (now (a .store)) (now (a .row)) (a .c) (a .t) (c .before .before .before .before .pre .1) (c .before .if1 .left)
 
 follow-sub-follow : (t : ℕ) → follow-lts.Need-sub-follow (
-  wide-reads.Asked,
-  wide-reads.Learnt,
+  came-from-reads.Asked,
+  came-from-reads.Learnt,
   follow-below t,
   follow.Post,
 ) (follow-at t) follow.Post
 follow-sub-follow t c = search needs
 
 follow-follow-requires : (t : ℕ) → follow-lts.Need-follow-requires (
-  wide-reads.Asked,
-  wide-reads.Learnt,
+  came-from-reads.Asked,
+  came-from-reads.Learnt,
   follow-below t,
   follow.Post,
 ) (follow-at t) follow.Post
-follow-follow-requires t c κs = let a = c .before .before .before .before .before .before .args in (omega arith, trailed-on (a .k) (a .n) (now (a .store)) (now (a .row)) (a .c) (a .t) (c .wide .result) (c .wide .ensures .0) (c .before .before .before .before .before .before .pre .1) (c .before .before .before .if1 .left))
+follow-follow-requires t c κs = let a = c .before .before .before .before .before .args in (omega arith, trailed-on (a .k) (a .n) (now (a .store)) (now (a .row)) (a .c) (a .t) (c .came-from .result) (c .came-from .ensures) (c .before .before .before .before .before .pre .1) (c .before .before .if1 .left))
 
 follow-same-length-2 : (t : ℕ) → follow-lts.Need-same-length-2 (
-  wide-reads.Asked,
-  wide-reads.Learnt,
+  came-from-reads.Asked,
+  came-from-reads.Learnt,
   follow-below t,
   follow.Post,
 ) (follow-at t) follow.Post
 follow-same-length-2 t c = c .before .before .follow .kept .1 .1 .1 .0 ∙ simp length-set
 
 follow-returns-2 : (t : ℕ) → follow-lts.Need-returns-2 (
-  wide-reads.Asked,
-  wide-reads.Learnt,
+  came-from-reads.Asked,
+  came-from-reads.Learnt,
   follow-below t,
   follow.Post,
 ) (follow-at t) follow.Post
-follow-returns-2 t c = let a = c .before .before .before .before .before .before .before .before .before .args in trail-more (a .k) (a .n) (now (a .store)) (now (a .row)) (a .c) (a .t) (c .before .before .before .wide .result) (c .before .before .follow .result) _ (c .before .before .before .wide .ensures .0) (c .before .before .before .before .before .before .if1 .left) (c .before .before .before .before .before .before .before .before .before .pre .1 .long) (c .before .before .follow .ensures)
+follow-returns-2 t c = let a = c .before .before .before .before .before .before .before .before .args in trail-more (a .k) (a .n) (now (a .store)) (now (a .row)) (a .c) (a .t) (c .before .before .before .came-from .result) (c .before .before .follow .result) _ (c .before .before .before .came-from .ensures) (c .before .before .before .before .before .if1 .left) (c .before .before .before .before .before .before .before .before .pre .1 .long) (c .before .before .follow .ensures)
 
 pub +follow-spec : {M : Type 1} → statement M
 +follow-spec = close μ-follow λ t. follow-lts.spec (
-  wide-reads.Asked,
-  wide-reads.Learnt,
+  came-from-reads.Asked,
+  came-from-reads.Learnt,
   follow-below t,
   follow.Post,
 )
@@ -150,12 +110,7 @@ pub +follow-spec : {M : Type 1} → statement M
     (follow-slice-write-row t)
     (follow-same-length t)
     (follow-returns t)
-    (follow-mul-v t)
-    (follow-add-v t)
-    (follow-mul-wide t)
-    (follow-add-wide t)
-    (follow-shared-slice-read-wide t)
-    (follow-wide-requires t)
+    (follow-came-from-requires t)
     (follow-sub-follow t)
     (follow-follow-requires t)
     (follow-same-length-2 t)

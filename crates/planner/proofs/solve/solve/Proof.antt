@@ -11,10 +11,9 @@ use Rattle.job.proofs.Arrays.{Whole, long, whole, last-deadline}
 use Rattle.network.specs.Links.{FlowIn}
 use Rattle.network.proofs.JobTables.{tracks-of, calls-apart, carts-apart}
 use Rattle.network.proofs.NodeBytes.{few-nodes}
-use Rattle.answer.specs.Uncrossed.{Uncrossed}
 use Rattle.planner.specs.Solved.{Begun, ServedAll}
 use Rattle.planner.proofs.SolveLaws.{size, fits, clear-length, clear-room, clear-bytes}
-use Rattle.planner.proofs.SolveParts.{begun, flowing, full, stuck}
+use Rattle.planner.proofs.SolveParts.{begun, full, stuck}
 use borrow.Author.Needs.{needs}
 use Rattle.planner.proofs.solve.solve.Statement.{statement}
 use Rattle.planner.proofs.solve.solve.Tie as tie
@@ -124,12 +123,6 @@ enum-known-served c = search needs
 enum-told : tie.Need-enum-told
 enum-told c = search needs
 
-uncross-requires : tie.Need-uncross-requires
-uncross-requires c κs = (jobOf (c .before .before .before .before .before .before .before .before .before .before .before .before .before .before .before .before .before .before .before .before .before .before .before .before .before .before .before .before .before .before .before .before .before .before .before .before .before .before .before .before .before .before .before .before .before .before .before .before .before .before .before .before .before .args .t1), flowing (at-start (c .before .before .before .before .before .before)) (c .before .before .before .before .before .serve-all .ensures .0) (c .before .before .before .before .before .serve-all .result) (at-end (c .before .before .before .before .before)) (last-is (c .before .before .before .before .before .before .before .before .before .before .before .before .before .before .before .before .before .before .before .before .before .before .before .before .before .before .before .before .before .before .before .before .before .before .before .before .before .before .before .before .before .before .before .before .before .before)))
-
-calm : (c : tie.After-uncross) → Uncrossed (jobOf (c .before .before .before .before .before .before .before .before .before .before .before .before .before .before .before .before .before .before .before .before .before .before .before .before .before .before .before .before .before .before .before .before .before .before .before .before .before .before .before .before .before .before .before .before .before .before .before .before .before .before .before .before .before .before .args .t1)) (c .before .before .before .before .before .before .serve-all .last .1 .1 .1 .1 .1 .1 .1 .1 .1 .0) (c .uncross .last .0)
-calm c = c .uncross .ensures (jobOf (c .before .before .before .before .before .before .before .before .before .before .before .before .before .before .before .before .before .before .before .before .before .before .before .before .before .before .before .before .before .before .before .before .before .before .before .before .before .before .before .before .before .before .before .before .before .before .before .before .before .before .before .before .before .before .args .t1)) (flowing (at-start (c .before .before .before .before .before .before .before)) (c .before .before .before .before .before .before .serve-all .ensures .0) (c .before .before .before .before .before .before .serve-all .result) (at-end (c .before .before .before .before .before .before)) (last-is (c .before .before .before .before .before .before .before .before .before .before .before .before .before .before .before .before .before .before .before .before .before .before .before .before .before .before .before .before .before .before .before .before .before .before .before .before .before .before .before .before .before .before .before .before .before .before .before)))
-
 slice-aggregate-write-paths : tie.Need-slice-aggregate-write-paths
 slice-aggregate-write-paths c = search needs
 
@@ -137,10 +130,10 @@ slice-aggregate-write-paths-2 : tie.Need-slice-aggregate-write-paths-2
 slice-aggregate-write-paths-2 c = search needs
 
 write-paths-requires : tie.Need-write-paths-requires
-write-paths-requires c κs = ((jobOf (c .before .before .before .before .before .before .before .before .before .before .before .before .before .before .before .before .before .before .before .before .before .before .before .before .before .before .before .before .before .before .before .before .before .before .before .before .before .before .before .before .before .before .before .before .before .before .before .before .before .before .before .before .before .before .before .before .before .before .before .before .before .before .before .before .before .args .t1), full (at-start (c .before .before .before .before .before .before .before .before .before .before .before .before .before .before .before .before .before .before)) (c .before .before .before .before .before .before .before .before .before .before .before .before .before .before .before .before .before .serve-all .ensures .0) (c .before .before .before .before .before .before .before .before .before .before .before .before .before .before .before .before .before .serve-all .result) (at-end (c .before .before .before .before .before .before .before .before .before .before .before .before .before .before .before .before .before)) (c .before .before .before .before .before .before .before .before .before .before .before .before .before .enum-told .given .1) (calm (c .before .before .before .before .before .before .before .before .before .before .before))), c .before .before .before .before .before .before .before .before .before .before .before .before .before .before .before .before .before .before .before .before .before .before .before .before .before .before .before .before .before .before .before .before .before .before .before .before .before .before .before .before .before .before .before .before .before .before .before .before .before .before .before .before .before .before .before .before .before .before .before .before .before .before .before .before .before .pre .3)
+write-paths-requires c κs = ((jobOf (c .before .before .before .before .before .before .before .before .before .before .before .before .before .before .before .before .before .before .before .before .before .before .before .before .before .before .before .before .before .before .before .before .before .before .before .before .before .before .before .before .before .before .before .before .before .before .before .before .before .before .before .before .before .before .before .before .before .before .before .before .before .args .t1), full (at-start (c .before .before .before .before .before .before .before .before .before .before .before .before .before .before)) (c .before .before .before .before .before .before .before .before .before .before .before .before .before .serve-all .ensures .0) (c .before .before .before .before .before .before .before .before .before .before .before .before .before .serve-all .result) (at-end (c .before .before .before .before .before .before .before .before .before .before .before .before .before)) (c .before .before .before .before .before .before .before .before .before .enum-told .given .1)), c .before .before .before .before .before .before .before .before .before .before .before .before .before .before .before .before .before .before .before .before .before .before .before .before .before .before .before .before .before .before .before .before .before .before .before .before .before .before .before .before .before .before .before .before .before .before .before .before .before .before .before .before .before .before .before .before .before .before .before .before .before .pre .3)
 
 same-length : tie.Need-same-length
-same-length c = calm (c .before .before .before .before .before .before .before .before .before .before .before .before .before .before .before .before .before .before) .long ∙ c .before .before .before .before .before .before .before .before .before .before .before .before .before .before .before .before .before .before .before .before .before .before .before .before .serve-all .ensures .0 ∙ cleared (c .before .before .before .before .before .before .before .before .before .before .before .before .before .before .before .before .before .before .before .before .before .before .before .before .before .before .before .before .before .before .before .before .before .before .before .before .before .before .before .before .before .before .before .before .before .before .before .before .before .before .before .before .before .before .before .before .before .before .before .before .before .before .before)
+same-length c = c .before .before .before .before .before .before .before .before .before .before .before .before .before .before .before .before .before .before .before .before .serve-all .ensures .0 ∙ cleared (c .before .before .before .before .before .before .before .before .before .before .before .before .before .before .before .before .before .before .before .before .before .before .before .before .before .before .before .before .before .before .before .before .before .before .before .before .before .before .before .before .before .before .before .before .before .before .before .before .before .before .before .before .before .before .before .before .before .before .before)
 
 same-length-2 : tie.Need-same-length-2
 same-length-2 c = search needs
@@ -153,9 +146,9 @@ same-length-4 c = search needs
 
 returns : tie.Need-returns
 returns c = (
-  calm (c .before .before .before .before .before .before .before .before .before .before .before .before .before .before .before .before .before .before) .long ∙ c .before .before .before .before .before .before .before .before .before .before .before .before .before .before .before .before .before .before .before .before .before .before .before .before .serve-all .ensures .0 ∙ cleared (c .before .before .before .before .before .before .before .before .before .before .before .before .before .before .before .before .before .before .before .before .before .before .before .before .before .before .before .before .before .before .before .before .before .before .before .before .before .before .before .before .before .before .before .before .before .before .before .before .before .before .before .before .before .before .before .before .before .before .before .before .before .before .before),
+  c .before .before .before .before .before .before .before .before .before .before .before .before .before .before .before .before .before .before .before .before .serve-all .ensures .0 ∙ cleared (c .before .before .before .before .before .before .before .before .before .before .before .before .before .before .before .before .before .before .before .before .before .before .before .before .before .before .before .before .before .before .before .before .before .before .before .before .before .before .before .before .before .before .before .before .before .before .before .before .before .before .before .before .before .before .before .before .before .before .before),
   c .before .before .before .before .before .before .write-paths .ensures .0,
-  c .before .before .before .before .before .before .write-paths .ensures .1 (jobOf (c .before .before .before .before .before .before .before .before .before .before .before .before .before .before .before .before .before .before .before .before .before .before .before .before .before .before .before .before .before .before .before .before .before .before .before .before .before .before .before .before .before .before .before .before .before .before .before .before .before .before .before .before .before .before .before .before .before .before .before .before .before .before .before .before .before .before .before .before .before .before .before .before .args .t1)) (full (at-start (c .before .before .before .before .before .before .before .before .before .before .before .before .before .before .before .before .before .before .before .before .before .before .before .before .before)) (c .before .before .before .before .before .before .before .before .before .before .before .before .before .before .before .before .before .before .before .before .before .before .before .before .serve-all .ensures .0) (c .before .before .before .before .before .before .before .before .before .before .before .before .before .before .before .before .before .before .before .before .before .before .before .before .serve-all .result) (at-end (c .before .before .before .before .before .before .before .before .before .before .before .before .before .before .before .before .before .before .before .before .before .before .before .before)) (c .before .before .before .before .before .before .before .before .before .before .before .before .before .before .before .before .before .before .before .before .enum-told .given .1) (calm (c .before .before .before .before .before .before .before .before .before .before .before .before .before .before .before .before .before .before))),
+  c .before .before .before .before .before .before .write-paths .ensures .1 (jobOf (c .before .before .before .before .before .before .before .before .before .before .before .before .before .before .before .before .before .before .before .before .before .before .before .before .before .before .before .before .before .before .before .before .before .before .before .before .before .before .before .before .before .before .before .before .before .before .before .before .before .before .before .before .before .before .before .before .before .before .before .before .before .before .before .before .before .before .before .before .args .t1)) (full (at-start (c .before .before .before .before .before .before .before .before .before .before .before .before .before .before .before .before .before .before .before .before .before)) (c .before .before .before .before .before .before .before .before .before .before .before .before .before .before .before .before .before .before .before .before .serve-all .ensures .0) (c .before .before .before .before .before .before .before .before .before .before .before .before .before .before .before .before .before .before .before .before .serve-all .result) (at-end (c .before .before .before .before .before .before .before .before .before .before .before .before .before .before .before .before .before .before .before .before)) (c .before .before .before .before .before .before .before .before .before .before .before .before .before .before .before .before .enum-told .given .1)),
 )
 
 slice-aggregate-list-chokes : tie.Need-slice-aggregate-list-chokes
@@ -209,7 +202,6 @@ solve-spec =
     serve-all-requires
     enum-known-served
     enum-told
-    uncross-requires
     slice-aggregate-write-paths
     slice-aggregate-write-paths-2
     write-paths-requires
