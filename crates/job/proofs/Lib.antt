@@ -1,3 +1,4 @@
+pub mod BitLaws
 pub mod Pairs
 pub mod Arrays
 pub mod Tests

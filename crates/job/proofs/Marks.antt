@@ -1,14 +1,13 @@
 -- The table stays true to the job. A table of zeros is that of no job; a mark at a line's place adds the line and no other, since different
 -- lines have different places: the pairs of cells that tracks join, then the row of the carts, then that of the calls. Assumes nothing.
-use Prim.Native.Nat.{ℕ, zero, suc, _+_, _<_}
+use Prim.Native.Nat.{ℕ, _+_, _*_, _<_}
 use mathlib.Core.Path.{_≡_, refl, sym, ap, _∙_}
 use mathlib.Core.List.{List, [], _∷_, _++_, map, map-append}
 use mathlib.Core.Logic.{_⊎_, inl, inr}
 use mathlib.Core.Bool.{Bool, true, false, _&&_, _||_, or-true, or-false, or-assoc}
 use native.Mathlib.Omega.{arith}
 use lib.Dec.{eqb}
-use lib.ListN.{length, getD, set, replicate, length-set}
-use lib.Seq.{getD-set-same, getD-set-other}
+use lib.ListN.{length, replicate}
 use borrow.Author.Tests.{eqb-true, eq-eqb}
 use Rattle.model.specs.Limits.{maxCells}
 use Rattle.model.specs.Job as model
@@ -17,19 +16,17 @@ use Rattle.model.specs.ReadJob.{noJob, add, leads, member}
 use Rattle.model.proofs.Basics.{and-left, and-right, and-both, nope}
 use Rattle.job.specs.declared.state.Kind.{Kind}
 use Rattle.job.specs.declared.state.Kind.the-variants.{Floor, Track, Cart, Call}
-use Rattle.job.specs.Lines.{kindOf, Small, cartRow, callRow, tableSize, pairAt, placeOf, marked, bit, Marked}
+use Rattle.job.specs.Bits.{bitAt, withBit}
+use Rattle.job.specs.Lines.{kindOf, Small, cartRow, callRow, tableSize, pairAt, placeOf, marked, Marked}
+use Rattle.job.proofs.BitLaws.{bit-set, bit-other, bits-length, no-bits}
 use Rattle.job.proofs.Triangle.{pair-small, pair-back, pair-same}
 
-zeros : (n i : ℕ) → _≡_ {A = ℕ} (getD (replicate n 0) i 0) 0
-zeros zero i = refl
-zeros (suc n) zero = refl
-zeros (suc n) (suc i) = zeros n i
-
-pub marked-none : (seen : List ℕ) → ((i : ℕ) → getD seen i 0 ≡ 0) → Marked seen noJob
-marked-none seen z = record { tracks = λ a b h k. z (pairAt a b); carts = λ a h. z (cartRow + a); calls = λ a h. z (callRow + a) }
-
 pub marked-zeros : (n : ℕ) → Marked (replicate n 0) noJob
-marked-zeros n = marked-none (replicate n 0) (zeros n)
+marked-zeros n = record {
+  tracks = λ a b h k. no-bits n (pairAt a b);
+  carts = λ a h. no-bits n (cartRow + a);
+  calls = λ a h. no-bits n (callRow + a);
+}
 
 pub place-small : (k : Kind) (a b : ℕ) → Small k a b → placeOf k a b < tableSize
 place-small Floor a b s = omega arith
@@ -39,9 +36,9 @@ place-small Call a b s = omega arith
 
 pub marked-length : (seen : List ℕ) (k : Kind) (a b : ℕ) → length (marked seen k a b) ≡ length seen
 marked-length seen Floor a b = refl
-marked-length seen Track a b = length-set seen (pairAt a b) 1
-marked-length seen Cart a b = length-set seen (cartRow + a) 1
-marked-length seen Call a b = length-set seen (callRow + a) 1
+marked-length seen Track a b = bits-length seen (pairAt a b)
+marked-length seen Cart a b = bits-length seen (cartRow + a)
+marked-length seen Call a b = bits-length seen (callRow + a)
 
 -- One track or one cell more.
 leads-more : (a b u v : ℕ) (ts : List model.Track) → leads a b (ts ++ (track u v ∷ [])) ≡ (leads a b ts || (eqb a u && eqb b v))
@@ -91,25 +88,24 @@ place-joins a b u v q = go (pair-same a b u v q)
     go (inl e) = rw (same-both a b u v e)
     go (inr e) = rw (same-both b a u v e) (or-true (eqb a u && eqb b v))
 
-module _ (seen : List ℕ) (j : model.Job) (long : length seen ≡ tableSize) (m : Marked seen j) where
-  -- After a mark at p, the byte at i tells x, which it told, or that i is p.
-  told : (p i : ℕ) (x t : Bool) → p < tableSize → (t ≡ true → i ≡ p) → (i ≡ p → t ≡ true) → getD seen i 0 ≡ bit x
-      → getD (set seen p 1) i 0 ≡ bit (x || t)
-  told p i x true h f g e = rw (f refl) (getD-set-same seen p 1 0 (omega arith) ∙ sym (ap bit (or-true x)))
-  told p i x false h f g e = getD-set-other seen p i 1 0 (λ q. let z = g q in nope (cc)) ∙ e ∙ sym (ap bit (or-false x))
+module _ (seen : List ℕ) (j : model.Job) (long : 8 * length seen ≡ tableSize) (m : Marked seen j) where
+  -- After a mark at p, the bit at i tells x, which it told, or that i is p.
+  told : (p i : ℕ) (x t : Bool) → p < tableSize → (t ≡ true → i ≡ p) → (i ≡ p → t ≡ true) → bitAt seen i ≡ x → bitAt (withBit seen p) i ≡ (x || t)
+  told p i x true h f g e = rw (f refl) (bit-set seen p (omega arith) ∙ sym (or-true x))
+  told p i x false h f g e = bit-other seen p (omega arith) i (λ q. let z = g q in nope (cc)) ∙ e ∙ sym (or-false x)
 
-  kept : (p i : ℕ) {x : ℕ} → (i ≡ p → ⊥) → getD seen i 0 ≡ x → getD (set seen p 1) i 0 ≡ x
-  kept p i h e = getD-set-other seen p i 1 0 h ∙ e
+  kept : (p i : ℕ) {x : Bool} → p < tableSize → (i ≡ p → ⊥) → bitAt seen i ≡ x → bitAt (withBit seen p) i ≡ x
+  kept p i l h e = bit-other seen p (omega arith) i h ∙ e
 
   -- a row of cells from r on
-  told-cell : (r u a : ℕ) (l : List ℕ) → r + u < tableSize → getD seen (r + a) 0 ≡ bit (member a l)
-      → getD (set seen (r + u) 1) (r + a) 0 ≡ bit (member a (l ++ (u ∷ [])))
+  told-cell : (r u a : ℕ) (l : List ℕ) → r + u < tableSize → bitAt seen (r + a) ≡ member a l
+      → bitAt (withBit seen (r + u)) (r + a) ≡ member a (l ++ (u ∷ []))
   told-cell r u a l h e =
       rw (member-more a u l)
       (told (r + u) (r + a) (member a l) (eqb a u) h (λ t. ap (λ x. r + x) (eqb-true a u t)) (λ q. eq-eqb a u (omega arith)) e)
 
   told-track : (u v a b : ℕ) → u < maxCells → v < maxCells → a < maxCells → b < maxCells
-      → getD (set seen (pairAt u v) 1) (pairAt a b) 0 ≡ bit (joined a b (j .tracks ++ (track u v ∷ [])))
+      → bitAt (withBit seen (pairAt u v)) (pairAt a b) ≡ joined a b (j .tracks ++ (track u v ∷ []))
   told-track u v a b s t h k =
       rw (joined-more a b u v (j .tracks))
       (told
@@ -126,17 +122,17 @@ module _ (seen : List ℕ) (j : model.Job) (long : length seen ≡ tableSize) (m
   marked-add Floor u v s = record { tracks = m .tracks; carts = m .carts; calls = m .calls }
   marked-add Track u v (s, t) = record {
     tracks = λ a b h k. told-track u v a b s t h k;
-    carts = λ a h. kept (pairAt u v) (cartRow + a) (λ e. omega (arith, pair-small u v s t)) (m .carts a h);
-    calls = λ a h. kept (pairAt u v) (callRow + a) (λ e. omega (arith, pair-small u v s t)) (m .calls a h);
+    carts = λ a h. kept (pairAt u v) (cartRow + a) (omega (arith, pair-small u v s t)) (λ e. omega (arith, pair-small u v s t)) (m .carts a h);
+    calls = λ a h. kept (pairAt u v) (callRow + a) (omega (arith, pair-small u v s t)) (λ e. omega (arith, pair-small u v s t)) (m .calls a h);
   }
   marked-add Cart u v s = record {
-    tracks = λ a b h k. kept (cartRow + u) (pairAt a b) (λ e. omega (arith, pair-small a b h k)) (m .tracks a b h k);
+    tracks = λ a b h k. kept (cartRow + u) (pairAt a b) (omega arith) (λ e. omega (arith, pair-small a b h k)) (m .tracks a b h k);
     carts = λ a h. told-cell cartRow u a (j .carts) (omega arith) (m .carts a h);
-    calls = λ a h. kept (cartRow + u) (callRow + a) (λ e. omega arith) (m .calls a h);
+    calls = λ a h. kept (cartRow + u) (callRow + a) (omega arith) (λ e. omega arith) (m .calls a h);
   }
   marked-add Call u v (s, t) = record {
-    tracks = λ a b h k. kept (callRow + u) (pairAt a b) (λ e. omega (arith, pair-small a b h k)) (m .tracks a b h k);
-    carts = λ a h. kept (callRow + u) (cartRow + a) (λ e. omega arith) (m .carts a h);
+    tracks = λ a b h k. kept (callRow + u) (pairAt a b) (omega arith) (λ e. omega (arith, pair-small a b h k)) (m .tracks a b h k);
+    carts = λ a h. kept (callRow + u) (cartRow + a) (omega arith) (λ e. omega arith) (m .carts a h);
     calls = λ a h.
         rw (map-append (λ q. q .cell) (j .calls) (call u v ∷ [])) (told-cell callRow u a (map (λ q. q .cell) (j .calls)) (omega arith) (m .calls a h));
   }

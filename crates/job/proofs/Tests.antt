@@ -1,9 +1,8 @@
--- What the tests of a line cite: emptiness is a count of 0, a byte of the table tells whether it is there, and numbers in range are small.
--- Assumes nothing.
+-- What the tests of a line cite: emptiness is a count of 0, and numbers in range are small. Assumes nothing.
 use Prim.Native.Nat.{ℕ, suc, _≤_}
 use mathlib.Core.Path.{_≡_, refl, sym}
 use mathlib.Core.List.{List, [], _∷_}
-use mathlib.Core.Bool.{Bool, true, false, not, _&&_}
+use mathlib.Core.Bool.{true, _&&_}
 use native.Mathlib.Omega.{arith}
 use lib.Dec.{ltb, leb, eqb}
 use lib.ListN.{length}
@@ -15,15 +14,11 @@ use Rattle.model.proofs.Basics.{and-left, and-right}
 use Rattle.job.specs.declared.state.Kind.{Kind}
 use Rattle.job.specs.declared.state.Kind.the-variants.{Floor, Track, Cart, Call}
 use Rattle.job.specs.declared.state.Counts.{Counts}
-use Rattle.job.specs.Lines.{kindOf, bit, Counted, Small}
+use Rattle.job.specs.Lines.{kindOf, Counted, Small}
 
 pub empty-count : {A : Type 0} (l : List A) → isEmpty l ≡ eqb (length l) 0
 empty-count [] = refl
 empty-count (a ∷ l) = sym (ne-eqb (suc (length l)) 0 (λ e. omega arith))
-
-pub bit-not : (x : Bool) → eqb (bit x) 0 ≡ not x
-bit-not true = refl
-bit-not false = refl
 
 -- A job's tests by its counts.
 module _ (c : Counts) (j : model.Job) (k : Counted c j) where

@@ -1,6 +1,6 @@
 -- A turn of the reader, in plain lists: what the lines from an index on say, by the end of the first and what it says; what the reader keeps
 -- from turn to turn; and what it answers at the end. Assumes nothing.
-use Prim.Native.Nat.{ℕ, _+_, _-_, _≤_, _<_}
+use Prim.Native.Nat.{ℕ, _+_, _-_, _*_, _/_, _≤_, _<_}
 use mathlib.Core.Path.{_≡_, refl, sym, ap, _∙_}
 use mathlib.Core.List.{List}
 use native.Mathlib.Omega.{arith}
@@ -55,7 +55,7 @@ pub record Kept (s : List ℕ) (job : Job) (seen : List ℕ) (at line : ℕ) : T
   pub sized : Sized job
   pub long : Long job
   pub cells : job .cells ≤ maxCells
-  pub table : length seen ≡ tableSize
+  pub table : 8 * length seen ≡ tableSize
   pub marks : Marked seen (jobOf job)
   pub rest : linesSay (jobOf job) line (linesOf (drop at s)) ≡ readJob s
 
@@ -76,7 +76,7 @@ unfilled = held
     (replicate maxCalls 0)
     (replicate maxCalls 0)
 
-pub kept-first : (s : List ℕ) → length s ≤ maxText → Kept s unfilled (replicate tableSize 0) 0 1
+pub kept-first : (s : List ℕ) → length s ≤ maxText → Kept s unfilled (replicate (tableSize / 8) 0) 0 1
 unfolding readJob
 kept-first s h = record {
   within = omega arith;
@@ -91,8 +91,8 @@ kept-first s h = record {
     deadlines = length-replicate {A = ℕ} maxCalls 0;
   };
   cells = omega arith;
-  table = length-replicate {A = ℕ} tableSize 0;
-  marks = marked-zeros tableSize;
+  table = ap (λ n. 8 * n) (length-replicate {A = ℕ} (tableSize / 8) 0);
+  marks = marked-zeros (tableSize / 8);
   rest = simp (le-ltb _ _ h);
 }
 
@@ -126,7 +126,7 @@ module _ (s : List ℕ) (job : Job) (seen : List ℕ) (at line : ℕ) (k : Kept 
             sized = t .sized;
             long = t .long;
             cells = omega (arith, cells-small (jobOf job) kind a b (k .cells) small);
-            table = ap length m ∙ marked-length seen kind a b ∙ k .table;
+            table = ap (λ n. 8 * n) (ap length m ∙ marked-length seen kind a b) ∙ k .table;
             marks = rw (m, g) (marked-add seen (jobOf job) (k .table) (k .marks) kind a b small);
             rest = rw g (rw w at turned);
           }

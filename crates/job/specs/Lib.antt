@@ -1,3 +1,4 @@
+pub mod Bits
 pub mod Arrays
 pub mod Lines
 pub mod Answers

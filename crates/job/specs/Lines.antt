@@ -3,9 +3,9 @@ use Prim.Native.Nat.{ℕ, _+_, _*_, _/_, _<_, _≤_}
 use mathlib.Core.Path.{_≡_}
 use mathlib.Core.List.{List, map}
 use mathlib.Core.Option.{Option, none, some}
-use mathlib.Core.Bool.{Bool, true, false, cond, _||_}
+use mathlib.Core.Bool.{Bool, true, cond, _||_}
 use lib.Dec.{ltb, eqb}
-use lib.ListN.{length, getD, set}
+use lib.ListN.{length, getD}
 use Rattle.model.specs.Limits.{maxCells, maxSteps}
 use Rattle.model.specs.Job as model
 use Rattle.model.specs.Text.{numbersOf}
@@ -21,6 +21,7 @@ use Rattle.job.specs.declared.line.Numbers.the-variants.{Bad, Good}
 use Rattle.job.specs.declared.state.Counts.{Counts}
 use Rattle.job.specs.declared.state.Job.{Job}
 use Rattle.job.specs.Arrays.{jobOf, Sized, Long}
+use Rattle.job.specs.Bits.{bitAt, withBit}
 
 abbrev pub kindOf : Kind → read.Kind
 kindOf Floor = read.floorLine
@@ -83,7 +84,7 @@ pairsBelow n = n * (n + 1) / 2
 abbrev pub pairAt : ℕ → ℕ → ℕ
 pairAt a b = cond (ltb a b) (pairsBelow b + a) (pairsBelow a + b)
 
--- The table: a place for each two cells, either way round, then a row of cells for the carts and one for the calls.
+-- The table: a bit for each two cells, either way round, then a row of cells for the carts and one for the calls.
 abbrev pub cartRow : ℕ
 cartRow = pairsBelow maxCells
 
@@ -101,19 +102,15 @@ placeOf Call a b = callRow + a
 
 abbrev pub marked : List ℕ → Kind → ℕ → ℕ → List ℕ
 marked seen Floor a b = seen
-marked seen Track a b = set seen (placeOf Track a b) 1
-marked seen Cart a b = set seen (placeOf Cart a b) 1
-marked seen Call a b = set seen (placeOf Call a b) 1
-
-abbrev pub bit : Bool → ℕ
-bit true = 1
-bit false = 0
+marked seen Track a b = withBit seen (placeOf Track a b)
+marked seen Cart a b = withBit seen (placeOf Cart a b)
+marked seen Call a b = withBit seen (placeOf Call a b)
 
 -- The table says which cells a track joins, and which cells have a cart or a call.
 pub record Marked (seen : List ℕ) (j : model.Job) : Type 0 where
-  pub tracks : (a b : ℕ) → a < maxCells → b < maxCells → getD seen (placeOf Track a b) 0 ≡ bit (read.leads a b (j .tracks) || read.leads b a (j .tracks))
-  pub carts : (a : ℕ) → a < maxCells → getD seen (placeOf Cart a 0) 0 ≡ bit (read.member a (j .carts))
-  pub calls : (a : ℕ) → a < maxCells → getD seen (placeOf Call a 0) 0 ≡ bit (read.member a (map (λ q. q .cell) (j .calls)))
+  pub tracks : (a b : ℕ) → a < maxCells → b < maxCells → bitAt seen (placeOf Track a b) ≡ (read.leads a b (j .tracks) || read.leads b a (j .tracks))
+  pub carts : (a : ℕ) → a < maxCells → bitAt seen (placeOf Cart a 0) ≡ read.member a (j .carts)
+  pub calls : (a : ℕ) → a < maxCells → bitAt seen (placeOf Call a 0) ≡ read.member a (map (λ q. q .cell) (j .calls))
 
 -- Whether the numbers of a line pass a test. A line that has numbers passed the first two.
 abbrev pub passing : model.Job → Fault → read.Kind → ℕ → ℕ → Bool

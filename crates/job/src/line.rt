@@ -1,4 +1,5 @@
 // One line: the five tests in their order, over the whole line.
+use crate::bits;
 use crate::state;
 use crate::state::Counts;
 use crate::state::Kind;
@@ -8,7 +9,7 @@ ghost use mathlib.Core.Path.{_≡_};
 ghost use mathlib.Core.List.{[], _∷_};
 ghost use mathlib.Core.Option.{some};
 ghost use mathlib.Core.Logic.{_⊎_};
-ghost use Prim.Native.Nat.{_<_, _≤_};
+ghost use Prim.Native.Nat.{_*_, _<_, _≤_};
 ghost use lib.ListN.{length};
 ghost use Rattle.model.specs.Limits.{maxCells};
 ghost use Rattle.model.specs.Job as model;
@@ -103,30 +104,30 @@ fn has_room(kind: Kind, counts: Counts) -> bool
 
 // No track joins a and b yet, either way round, and they are two cells.
 fn is_new_track(seen: &[u8], a: usize, b: usize) -> bool
-    requires { ⌜ (a < maxCells) × (b < maxCells) × (length (now seen) ≡ tableSize) ⌝ }
+    requires { ⌜ (a < maxCells) × (b < maxCells) × (8 * length (now seen) ≡ tableSize) ⌝ }
     ensures { λ r. ⌜ ((j : model.Job) → Marked (now (seen .entry)) j → r ≡ isNew j trackLine a b) ⌝ }
 {
     if a == b {
         return false;
     }
-    seen[state::pair(a, b)] == 0
+    !bits::has(seen, state::pair(a, b))
 }
 
 fn is_new(kind: Kind, seen: &[u8], a: usize, b: usize) -> bool
-    requires { ⌜ Small kind a b × (length (now seen) ≡ tableSize) ⌝ }
+    requires { ⌜ Small kind a b × (8 * length (now seen) ≡ tableSize) ⌝ }
     ensures { λ r. ⌜ ((j : model.Job) → Marked (now (seen .entry)) j → r ≡ isNew j (kindOf kind) a b) ⌝ }
 {
     match kind {
         Kind::Floor => true,
         Kind::Track => is_new_track(seen, a, b),
-        Kind::Cart => seen[state::CART_ROW + a] == 0,
-        Kind::Call => seen[state::CALL_ROW + a] == 0,
+        Kind::Cart => !bits::has(seen, state::CART_ROW + a),
+        Kind::Call => !bits::has(seen, state::CALL_ROW + a),
     }
 }
 
 // Whether the numbers of a line pass a test. A line that has numbers passed the first two.
 fn passes(test: Fault, kind: Kind, counts: Counts, seen: &[u8], a: usize, b: usize) -> bool
-    requires { ⌜ Ready test kind a b × (length (now seen) ≡ tableSize) ⌝ }
+    requires { ⌜ Ready test kind a b × (8 * length (now seen) ≡ tableSize) ⌝ }
     ensures { λ r. ⌜ ((j : model.Job) → Known test counts (now (seen .entry)) j → r ≡ passing j test (kindOf kind) a b) ⌝ }
 {
     match test {
@@ -139,7 +140,7 @@ fn passes(test: Fault, kind: Kind, counts: Counts, seen: &[u8], a: usize, b: usi
 
 // What the numbers of a line of this kind say: the first test that they fail, or the line.
 fn numbers_say(kind: Kind, counts: Counts, seen: &[u8], a: usize, b: usize) -> Entry
-    requires { ⌜ (counts .cells ≤ maxCells) × (length (now seen) ≡ tableSize) ⌝ }
+    requires { ⌜ (counts .cells ≤ maxCells) × (8 * length (now seen) ≡ tableSize) ⌝ }
     ensures { λ r. ⌜ Sound counts r × ((j : model.Job) → Counted counts j → Marked (now (seen .entry)) j → saidBy j r ≡ numbersSay j (kindOf kind) (some (a ∷ b ∷ []))) ⌝ }
 {
     if !passes(Fault::Range, kind, counts, seen, a, b) {
@@ -156,7 +157,7 @@ fn numbers_say(kind: Kind, counts: Counts, seen: &[u8], a: usize, b: usize) -> E
 
 // What the fields of a line of this kind say.
 fn fields_say(kind: Kind, fields: &[u8], counts: Counts, seen: &[u8]) -> Entry
-    requires { ⌜ (counts .cells ≤ maxCells) × (length (now seen) ≡ tableSize) ⌝ }
+    requires { ⌜ (counts .cells ≤ maxCells) × (8 * length (now seen) ≡ tableSize) ⌝ }
     ensures { λ r. ⌜ Sound counts r × ((j : model.Job) → Counted counts j → Marked (now (seen .entry)) j → saidBy j r ≡ fieldsSay j (kindOf kind) (fieldsOf (now (fields .entry)))) ⌝ }
 {
     if !may_follow(kind, counts) {
@@ -171,7 +172,7 @@ fn fields_say(kind: Kind, fields: &[u8], counts: Counts, seen: &[u8]) -> Entry
 
 // What a line says. The word at its start decides, and what follows the word and its tab goes on as the fields.
 pub fn entry_of(line: &[u8], counts: Counts, seen: &[u8]) -> Entry
-    requires { ⌜ (counts .cells ≤ maxCells) × (length (now seen) ≡ tableSize) ⌝ }
+    requires { ⌜ (counts .cells ≤ maxCells) × (8 * length (now seen) ≡ tableSize) ⌝ }
     ensures { λ r. ⌜ Sound counts r × ((j : model.Job) → Counted counts j → Marked (now (seen .entry)) j → saidBy j r ≡ lineSays j (now (line .entry))) ⌝ }
 {
     if text::scan::opens_with(line, b"FLOOR\t") {

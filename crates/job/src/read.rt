@@ -64,7 +64,7 @@ pub fn read(text: &[u8]) -> Reading
         carts: 0,
         calls: 0,
     };
-    let mut seen = [0u8; state::TABLE];
+    let mut seen = [0u8; state::TABLE / 8];
     let mut at = 0;
     let mut line = 1;
     while at < text.len() {

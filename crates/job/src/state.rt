@@ -1,7 +1,8 @@
 // A job as arrays with their counts, and the table of what stands in them already.
+use crate::bits;
 use model::Limits;
 ghost use mathlib.Core.Path.{_≡_};
-ghost use Prim.Native.Nat.{_<_};
+ghost use Prim.Native.Nat.{_*_, _<_};
 ghost use lib.ListN.{length};
 ghost use Rattle.model.specs.Limits.{maxCells};
 ghost use Rattle.model.specs.ReadJob.{noJob};
@@ -29,8 +30,8 @@ pub struct Counts {
     pub calls: usize,
 }
 
-// The table has a place for each two cells, either way round, then a row of cells for the carts and one for the calls. A cell with itself
-// has a place too, so that every pair has one of its own.
+// The table has a bit for each two cells, either way round, then a row of cells for the carts and one for the calls. A cell with itself
+// has one too, so that every pair has one of its own.
 pub const CART_ROW: usize = Limits::CELLS * (Limits::CELLS + 1) / 2;
 
 pub const CALL_ROW: usize = CART_ROW + Limits::CELLS;
@@ -135,12 +136,12 @@ pub fn place(kind: Kind, a: usize, b: usize) -> usize
 
 // Marks the line in the table. A FLOOR line has no place there.
 pub fn mark(seen: &mut [u8], kind: Kind, a: usize, b: usize)
-    requires { ⌜ Small kind a b × (length (now seen) ≡ tableSize) ⌝ }
+    requires { ⌜ Small kind a b × (8 * length (now seen) ≡ tableSize) ⌝ }
     ensures { λ _. ⌜ now (seen .exit) ≡ marked (now (seen .entry)) kind a b ⌝ }
 {
     if let Kind::Floor = kind {
         return;
     }
     let i = place(kind, a, b);
-    seen[i] = 1;
+    bits::add(seen, i);
 }

@@ -1,5 +1,5 @@
 -- What each turn of the loops of `plan` keeps, over plain lists and numbers. Assumes nothing.
-use Prim.Native.Nat.{ℕ, zero, suc, _+_, _≤_, _<_}
+use Prim.Native.Nat.{ℕ, zero, suc, _+_, _*_, _≤_, _<_}
 use mathlib.Core.Path.{_≡_, sym, _∙_, ap}
 use mathlib.Core.List.{List}
 use mathlib.Core.Logic.{inl, inr, _⊎_, ⊎-elim}
@@ -12,8 +12,10 @@ use borrow.Author.Count.{below-more}
 use borrow.Author.Tests.{ltb-true, ltb-false, eqb-true, eqb-false}
 use Rattle.model.specs.Limits.{maxCells, maxCalls}
 use Rattle.model.proofs.Decide.{dec-eq}
+use Rattle.job.specs.Bits.{bitAt, withBit}
 use Rattle.job.specs.Held.{Decides}
 use Rattle.job.specs.Lines.{pairsBelow, pairAt}
+use Rattle.job.proofs.BitLaws.{bit-set, bit-other}
 use Rattle.job.proofs.Triangle.{pair-small, pair-same}
 use Rattle.planjudge.specs.PlanTests.{cellOf, Lasts, Precedes, Ordered, Listed, Marks, Goes, Apart, Meets, Standing}
 
@@ -70,34 +72,34 @@ lasts-more deadlines calls last k h l = below-more _ k
 
 -- Tracks.
 module _ (from to : List ℕ) where
-  pub marks-none : (table : List ℕ) → ((x : ℕ) → x < pairsBelow maxCells → getD table x 0 ≡ 0) → Marks from to 0 table
+  pub marks-none : (table : List ℕ) → ((x : ℕ) → bitAt table x ≡ false) → Marks from to 0 table
   marks-none table z = record {
     all = λ u v a b w. absurd (omega (arith, w .1));
-    only = λ u v a b e. absurd (omega (arith, z (pairAt u v) (pair-small u v a b)));
+    only = λ u v a b e. absurd (false≢true (sym (z (pairAt u v)) ∙ e));
   }
 
-  module _ (i : ℕ) (table : List ℕ) (size : length table ≡ pairsBelow maxCells) (a : getD from i 0 < maxCells) (b : getD to i 0 < maxCells) (m : Marks from to i table) where
+  module _ (i : ℕ) (table : List ℕ) (size : 8 * length table ≡ pairsBelow maxCells) (a : getD from i 0 < maxCells) (b : getD to i 0 < maxCells) (m : Marks from to i table) where
     abbrev at : ℕ
     at = pairAt (getD from i 0) (getD to i 0)
 
-    inside : at < length table
+    inside : at < 8 * length table
     inside = rw size (pair-small (getD from i 0) (getD to i 0) a b)
 
     older : (u v : ℕ) → Listed from to i u v → Listed from to (i + 1) u v
     older u v (x, h, f, g) = (x, omega arith, f, g)
 
-    more-all : (u v : ℕ) → u < maxCells → v < maxCells → Listed from to (i + 1) u v → getD (set table at 1) (pairAt u v) 0 ≡ 1
+    more-all : (u v : ℕ) → u < maxCells → v < maxCells → Listed from to (i + 1) u v → bitAt (withBit table at) (pairAt u v) ≡ true
     more-all u v c d (x, h, e, f) = go (dec-eq (pairAt u v) at)
       where
-        go : Dec (pairAt u v ≡ at) → getD (set table at 1) (pairAt u v) 0 ≡ 1
-        go (yes q) = rw q (getD-set-same table at 1 0 inside)
-        go (no n) = getD-set-other table at (pairAt u v) 1 0 n ∙ m .all u v c d (x, earlier (dec-eq x i), e, f)
+        go : Dec (pairAt u v ≡ at) → bitAt (withBit table at) (pairAt u v) ≡ true
+        go (yes q) = rw q (bit-set table at inside)
+        go (no n) = bit-other table at inside (pairAt u v) n ∙ m .all u v c d (x, earlier (dec-eq x i), e, f)
           where
             earlier : Dec (x ≡ i) → x < i
             earlier (yes q) = absurd (n (rw (sym (rw q at e), sym (rw q at f))))
             earlier (no k) = omega arith
 
-    more-only : (u v : ℕ) → u < maxCells → v < maxCells → getD (set table at 1) (pairAt u v) 0 ≡ 1 → Listed from to (i + 1) u v ⊎ Listed from to (i + 1) v u
+    more-only : (u v : ℕ) → u < maxCells → v < maxCells → bitAt (withBit table at) (pairAt u v) ≡ true → Listed from to (i + 1) u v ⊎ Listed from to (i + 1) v u
     more-only u v c d e = go (dec-eq (pairAt u v) at)
       where
         here : ((u ≡ getD from i 0) × (v ≡ getD to i 0)) ⊎ ((v ≡ getD from i 0) × (u ≡ getD to i 0)) → Listed from to (i + 1) u v ⊎ Listed from to (i + 1) v u
@@ -106,13 +108,13 @@ module _ (from to : List ℕ) where
 
         go : Dec (pairAt u v ≡ at) → Listed from to (i + 1) u v ⊎ Listed from to (i + 1) v u
         go (yes q) = here (pair-same u v (getD from i 0) (getD to i 0) q)
-        go (no n) = ⊎-elim (λ l. inl (older u v l)) (λ l. inr (older v u l)) (m .only u v c d (sym (getD-set-other table at (pairAt u v) 1 0 n) ∙ e))
+        go (no n) = ⊎-elim (λ l. inl (older u v l)) (λ l. inr (older v u l)) (m .only u v c d (sym (bit-other table at inside (pairAt u v) n) ∙ e))
 
-    pub marks-more : Marks from to (i + 1) (set table at 1)
+    pub marks-more : Marks from to (i + 1) (withBit table at)
     marks-more = record { all = more-all; only = more-only }
 
 -- Steps by the table: what is not the same cell is marked.
-pub no-go : (table : List ℕ) (u v : ℕ) → (u ≡ v → ⊥) → Goes table u v → getD table (pairAt u v) 0 ≡ 1
+pub no-go : (table : List ℕ) (u v : ℕ) → (u ≡ v → ⊥) → Goes table u v → bitAt table (pairAt u v) ≡ true
 no-go table u v a (inl e) = absurd (a e)
 no-go table u v a (inr e) = e
 

@@ -3,7 +3,9 @@ use Prim.Native.Nat.{ℕ, _+_, _*_, _≤_, _<_}
 use mathlib.Core.Path.{_≡_}
 use mathlib.Core.List.{List}
 use mathlib.Core.Logic.{_⊎_}
+use mathlib.Core.Bool.{true}
 use lib.ListN.{getD}
+use Rattle.job.specs.Bits.{bitAt}
 use Rattle.job.specs.Lines.{pairAt}
 use Rattle.model.specs.Limits.{maxCells, maxCalls, maxSteps}
 
@@ -31,14 +33,14 @@ Ordered last calls n = (k : ℕ) → k + 1 < n → Precedes last calls k (k + 1)
 abbrev pub Listed : List ℕ → List ℕ → ℕ → ℕ → ℕ → Type 0
 Listed from to n u v = (i : ℕ) × (i < n) × (getD from i 0 ≡ u) × (getD to i 0 ≡ v)
 
--- The table has a 1 for each of the first n pairs, either way round, and for no other.
+-- The table's bit is set for each of the first n pairs, either way round, and for no other.
 pub record Marks (from to : List ℕ) (n : ℕ) (table : List ℕ) : Type 0 where
-  pub all : (u v : ℕ) → u < maxCells → v < maxCells → Listed from to n u v → getD table (pairAt u v) 0 ≡ 1
-  pub only : (u v : ℕ) → u < maxCells → v < maxCells → getD table (pairAt u v) 0 ≡ 1 → Listed from to n u v ⊎ Listed from to n v u
+  pub all : (u v : ℕ) → u < maxCells → v < maxCells → Listed from to n u v → bitAt table (pairAt u v) ≡ true
+  pub only : (u v : ℕ) → u < maxCells → v < maxCells → bitAt table (pairAt u v) ≡ true → Listed from to n u v ⊎ Listed from to n v u
 
 -- By the table, a cart may go from u to v in a step.
 abbrev pub Goes : List ℕ → ℕ → ℕ → Type 0
-Goes table u v = (u ≡ v) ⊎ (getD table (pairAt u v) 0 ≡ 1)
+Goes table u v = (u ≡ v) ⊎ (bitAt table (pairAt u v) ≡ true)
 
 -- By the table, path k walks up to the step d.
 abbrev pub Walks : List ℕ → List ℕ → ℕ → ℕ → Type 0

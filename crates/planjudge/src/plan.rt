@@ -1,11 +1,12 @@
 // Whether paths are a plan in the order of the sheet: each a walk of its cart to its call, no two sharing a cell or trading places.
+use job::bits;
 use job::state::Job;
 use job::state::pair;
 use model::Limits;
 use model::bytes::wide;
 ghost use Prim.Native.Nat.{ℕ, _+_, _*_, _<_, _≤_};
 ghost use mathlib.Core.Path.{_≡_};
-ghost use mathlib.Core.Bool.{true};
+ghost use mathlib.Core.Bool.{true, false};
 ghost use lib.ListN.{length, getD};
 ghost use Rattle.model.specs.Lists.{In};
 ghost use Rattle.model.specs.Limits.{maxCells, maxTracks, maxCalls, maxSteps};
@@ -13,6 +14,7 @@ ghost use Rattle.model.specs.Plan.{Path};
 ghost use Rattle.model.specs.Ready.{Ready};
 ghost use Rattle.model.specs.ReadSheet.{knownPath};
 ghost use Rattle.model.specs.Contracts.{RightPlan};
+ghost use Rattle.job.specs.Bits.{bitAt};
 ghost use Rattle.job.specs.Arrays.{jobOf, Sized};
 ghost use Rattle.job.specs.Held.{Room, pathsOf, Decides};
 ghost use Rattle.job.specs.Lines.{pairsBelow};
@@ -21,7 +23,7 @@ ghost use Rattle.planjudge.specs.PlanTests.{cellOf, Known, Lasts, Preced
 // In the place of a path's number: no path.
 const NONE: u8 = Limits::CALLS as u8;
 
-// Places for each two cells, a cell with itself too.
+// The table has a bit for each two cells, a cell with itself too.
 const PAIRS: usize = Limits::CELLS * (Limits::CELLS + 1) / 2;
 
 // The cell of path k at the step t.
@@ -76,38 +78,38 @@ fn in_order(calls: &[u8], last: &[u8; Limits::CALLS], n: usize) -> bool
     true
 }
 
-// Marks each track in the table, which has a place for each two cells.
+// Marks each track in the table.
 fn mark<'a>(
     from: &'a [u8; Limits::TRACKS],
     to: &'a [u8; Limits::TRACKS],
     n: usize,
-    table: &mut [u8; PAIRS],
+    table: &mut [u8; PAIRS / 8],
 )
-    requires { ⌜ (n ≤ maxTracks) × (length (now table) ≡ pairsBelow maxCells) × ((x : ℕ) → x < pairsBelow maxCells → getD (now table) x 0 ≡ 0) ⌝ }
+    requires { ⌜ (n ≤ maxTracks) × (8 * length (now table) ≡ pairsBelow maxCells) × ((x : ℕ) → bitAt (now table) x ≡ false) ⌝ }
     ensures { λ r. ⌜ Marks (now (from .entry)) (now (to .entry)) n (now (table .exit)) ⌝ }
 {
     let mut i = 0;
     while i < n {
         let u = wide(from[i]);
         let v = wide(to[i]);
-        table[pair(u, v)] = 1;
+        bits::add(table, pair(u, v));
         i += 1;
     }
 }
 
 // Whether a cart may go from u to v in a step.
-fn goes(table: &[u8; PAIRS], u: usize, v: usize) -> bool
+fn goes(table: &[u8; PAIRS / 8], u: usize, v: usize) -> bool
     requires { ⌜ (u < maxCells) × (v < maxCells) ⌝ }
     ensures { λ r. ⌜ Decides r (Goes (now (table .entry)) u v) ⌝ }
 {
     if u == v {
         return true;
     }
-    table[pair(u, v)] == 1
+    bits::has(table, pair(u, v))
 }
 
 // Whether path k is a walk up to the step d.
-fn walks(table: &[u8; PAIRS], rows: &[u8], k: usize, d: usize) -> bool
+fn walks(table: &[u8; PAIRS / 8], rows: &[u8], k: usize, d: usize) -> bool
     requires { ⌜ (length (now rows) ≡ maxCalls * maxSteps) × (k < maxCalls) × (d < maxSteps) ⌝ }
     ensures { λ r. ⌜ Decides r (Walks (now (table .entry)) (now (rows .entry)) k d) ⌝ }
 {
@@ -122,7 +124,7 @@ fn walks(table: &[u8; PAIRS], rows: &[u8], k: usize, d: usize) -> bool
 }
 
 // Whether path k is a walk from the cell a to the cell b, and there at the step d.
-fn leads(table: &[u8; PAIRS], rows: &[u8], k: usize, d: usize, a: usize, b: usize) -> bool
+fn leads(table: &[u8; PAIRS / 8], rows: &[u8], k: usize, d: usize, a: usize, b: usize) -> bool
     requires { ⌜ (length (now rows) ≡ maxCalls * maxSteps) × (k < maxCalls) × (d < maxSteps) ⌝ }
     ensures { λ r. ⌜ Decides r (Led (now (table .entry)) (now (rows .entry)) k d a b) ⌝ }
 {
@@ -137,7 +139,7 @@ fn leads(table: &[u8; PAIRS], rows: &[u8], k: usize, d: usize, a: usize, b: usiz
 
 // Whether each of the first n paths leads from its cart to its call.
 fn all_lead<'a>(
-    table: &[u8; PAIRS],
+    table: &[u8; PAIRS / 8],
     rows: &[u8],
     last: &[u8; Limits::CALLS],
     carts: &[u8],
@@ -277,7 +279,7 @@ pub fn is_plan(job: Job, carts: &[u8], calls: &[u8], rows: &[u8]) -> bool
     if !in_order(calls, &last, n) {
         return false;
     }
-    let mut table = [0u8; PAIRS];
+    let mut table = [0u8; PAIRS / 8];
     mark(&job.from, &job.to, job.tracks, &mut table);
     if !all_lead(
         &table,

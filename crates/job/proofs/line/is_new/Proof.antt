@@ -1,10 +1,7 @@
--- `is_new` asks the table, whose byte at a line's place tells whether the line is there already. Assumes nothing.
+-- `is_new` asks the table, whose bit at a line's place tells whether the line is there already. Assumes nothing.
 use mathlib.Core.Path.{ap, _∙_}
-use mathlib.Core.List.{map}
+use mathlib.Core.Bool.{not}
 use native.Mathlib.Omega.{arith}
-use lib.Dec.{eqb}
-use Rattle.model.specs.ReadJob.{member}
-use Rattle.job.proofs.Tests.{bit-not}
 use borrow.Author.Needs.{needs}
 use Rattle.job.proofs.line.is_new.Statement.{statement}
 use Rattle.job.proofs.line.is_new.Tie as tie
@@ -21,20 +18,20 @@ is-new-track-requires c κs = let s = rw (c .enum-told2 .given .1) at (c .before
 enum-told-3 : tie.Need-enum-told-3
 enum-told-3 c = search needs
 
-add-result : tie.Need-add-result
-add-result c = let s = rw (c .enum-told3 .given .1) at (c .before .before .before .pre .0) in omega arith
+add-has : tie.Need-add-has
+add-has c = let s = rw (c .enum-told3 .given .1) at (c .before .before .before .pre .0) in omega arith
 
-shared-slice-read-result : tie.Need-shared-slice-read-result
-shared-slice-read-result c = let s = rw (c .before .enum-told3 .given .1) at (c .before .before .before .before .pre .0) in omega arith
+has-requires : tie.Need-has-requires
+has-requires c κs = let s = rw (c .enum-told3 .given .1) at (c .before .before .before .pre .0) in omega arith
 
 enum-told-4 : tie.Need-enum-told-4
 enum-told-4 c = search needs
 
-add-result-2 : tie.Need-add-result-2
-add-result-2 c = let s = rw (c .enum-told4 .given .1) at (c .before .before .before .pre .0) in omega arith
+add-has-2 : tie.Need-add-has-2
+add-has-2 c = let s = rw (c .enum-told4 .given .1) at (c .before .before .before .pre .0) in omega arith
 
-shared-slice-read-result-2 : tie.Need-shared-slice-read-result-2
-shared-slice-read-result-2 c = let s = rw (c .before .enum-told4 .given .1) at (c .before .before .before .before .pre .0) in omega arith
+has-requires-2 : tie.Need-has-requires-2
+has-requires-2 c κs = let s = rw (c .enum-told4 .given .1) at (c .before .before .before .pre .0) in omega arith
 
 returns : tie.Need-returns
 returns c = λ j m. rw (c .enum-told .given .1)
@@ -47,14 +44,14 @@ returns-3 c =
     λ j m.
     let a = c .before .before .before .before .args .a in
     let s = rw (c .before .enum-told3 .given .1) at (c .before .before .before .before .pre .0) in
-    rw (c .before .enum-told3 .given .1) (ap (λ n. eqb n 0) (m .carts a s) ∙ bit-not (member a (j .carts)))
+    rw (c .before .enum-told3 .given .1) (ap not (c .has .ensures ∙ m .carts a s))
 
 returns-4 : tie.Need-returns-4
 returns-4 c =
     λ j m.
     let a = c .before .before .before .before .args .a in
     let s = rw (c .before .enum-told4 .given .1) at (c .before .before .before .before .pre .0) in
-    rw (c .before .enum-told4 .given .1) (ap (λ n. eqb n 0) (m .calls a (s .0)) ∙ bit-not (member a (map (λ q. q .cell) (j .calls))))
+    rw (c .before .enum-told4 .given .1) (ap not (c .has2 .ensures ∙ m .calls a (s .0)))
 
 pub is-new-spec : {M : Type 1} → statement M
 is-new-spec =
@@ -64,11 +61,11 @@ is-new-spec =
     enum-told-2
     is-new-track-requires
     enum-told-3
-    add-result
-    shared-slice-read-result
+    add-has
+    has-requires
     enum-told-4
-    add-result-2
-    shared-slice-read-result-2
+    add-has-2
+    has-requires-2
     returns
     returns-2
     returns-3

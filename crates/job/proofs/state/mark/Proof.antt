@@ -1,14 +1,14 @@
--- `mark` sets the byte at the line's place, which is within the table; a FLOOR line leaves at once. Assumes nothing.
+-- `mark` sets the bit at the line's place, which is within the table; a FLOOR line leaves at once. Assumes nothing.
 use native.Mathlib.Omega.{arith}
-use mathlib.Core.Path.{_≡_, refl}
+use mathlib.Core.Path.{_≡_, refl, ap, _∙_}
 use mathlib.Core.List.{List, [], _∷_}
 use mathlib.Core.Logic.{⊎-elim}
 use Prim.Native.Nat.{ℕ}
-use lib.ListN.{set}
 use types.Run.{OneOf}
 use denote.Enum.Declared.{tagOf}
 use Rattle.job.specs.declared.state.Kind.{Kind}
 use Rattle.job.specs.declared.state.Kind.the-variants.{Floor, Track, Cart, Call}
+use Rattle.job.specs.Bits.{withBit}
 use Rattle.job.specs.Lines.{placeOf, marked}
 use Rattle.job.proofs.state.Kind.{the-type}
 use Rattle.job.proofs.Marks.{place-small}
@@ -16,7 +16,7 @@ use borrow.Author.Needs.{needs}
 use Rattle.job.proofs.state.mark.Statement.{statement}
 use Rattle.job.proofs.state.mark.Tie as tie
 
-set-at-place : (seen : List ℕ) (a b : ℕ) (k : Kind) → OneOf (1 ∷ 2 ∷ 3 ∷ []) (tagOf the-type k) → set seen (placeOf k a b) 1 ≡ marked seen k a b
+set-at-place : (seen : List ℕ) (a b : ℕ) (k : Kind) → OneOf (1 ∷ 2 ∷ 3 ∷ []) (tagOf the-type k) → withBit seen (placeOf k a b) ≡ marked seen k a b
 set-at-place seen a b Floor h = absurd (⊎-elim (λ e. omega arith) (⊎-elim (λ e. omega arith) (λ e. omega arith)) h)
 set-at-place seen a b Track h = refl
 set-at-place seen a b Cart h = refl
@@ -31,19 +31,20 @@ returns c = search needs
 place-requires : tie.Need-place-requires
 place-requires c κs = search needs
 
-slice-write-seen : tie.Need-slice-write-seen
-slice-write-seen c =
-    let a = c .before .before .before .args in
-    omega (arith, place-small (a .kind) (a .a) (a .b) (c .before .before .before .pre .0))
+add-requires : tie.Need-add-requires
+add-requires c κs =
+    let s = c .before .before .before .before in
+    omega (arith, c .before .place .ensures, place-small (s .args .kind) (s .args .a) (s .args .b) (s .pre .0))
 
 same-length : tie.Need-same-length
 same-length c = search needs
 
 returns-2 : tie.Need-returns-2
 returns-2 c =
-    let a = c .before .before .before .args in
-    rw (c .place .ensures) (set-at-place (a .seen .now) (a .a) (a .b) (a .kind) (c .before .match .keys2))
+    let p = c .before .before .before .before in
+    let a = p .before .before .before .args in
+    c .before .before .add .ensures ∙ ap (withBit (a .seen .now)) (p .place .ensures) ∙ set-at-place (a .seen .now) (a .a) (a .b) (a .kind) (p .before .match .keys2)
 
 pub mark-spec : {M : Type 1} → statement M
 mark-spec =
-    tie.close (tie.spec enum-told returns place-requires slice-write-seen same-length returns-2)
+    tie.close (tie.spec enum-told returns place-requires add-requires same-length returns-2)

@@ -5,11 +5,13 @@ use Rattle.planjudge.proofs.PlanSteps.{denied, same-answer}
 use Rattle.planjudge.proofs.PlanRight.{Given, known-call, known-cart, right-ordered, plan-led, plan-clear, tests-right}
 use Rattle.job.specs.Lines.{pairsBelow}
 use Rattle.model.specs.Limits.{maxCells}
+use Rattle.job.proofs.BitLaws.{no-bits}
 use Rattle.job.proofs.Arrays.{long, whole, last-deadline}
 use borrow.Author.Tests.{not-false, not-true}
 use denote.Ref.{now}
-use lib.ListN.{getD-replicate, length-replicate}
-use Prim.Native.Nat.{ℕ, _≤_}
+use lib.ListN.{length-replicate}
+use Prim.Native.Nat.{ℕ, _*_, _/_, _≤_}
+use mathlib.Core.Path.{ap}
 use Rattle.model.specs.Job.{horizon}
 use Rattle.job.specs.Arrays.{jobOf}
 use borrow.Author.Needs.{needs}
@@ -33,7 +35,7 @@ returns : tie.Need-returns
 returns c = denied (λ r. c .before .in-order .ensures .1 (not-true _ (c .if1 .taken)) (right-ordered (given (c .before .before .before .before .before .before .before .before .before)) (c .before .before .before .lasts .result) (c .before .before .before .lasts .ensures) (r .1)))
 
 mark-requires : tie.Need-mark-requires
-mark-requires c κs = (c .before .before .before .before .before .before .before .before .before .before .before .before .before .pre .1 .tracks, length-replicate {A = ℕ} (pairsBelow maxCells) 0, λ x h. getD-replicate {A = ℕ} (pairsBelow maxCells) x 0 0 h)
+mark-requires c κs = (c .before .before .before .before .before .before .before .before .before .before .before .before .before .pre .1 .tracks, ap (λ n. 8 * n) (length-replicate {A = ℕ} (pairsBelow maxCells / 8) 0), no-bits (pairsBelow maxCells / 8))
 
 all-lead-requires : tie.Need-all-lead-requires
 all-lead-requires c κs =

@@ -1,20 +1,22 @@
--- `mark` marks the tracks. Invariant: the table has a 1 for each track below i, and for no other pair. The measure is the tracks left. Assumes nothing.
+-- `mark` marks the tracks. Invariant: the table's bit is set for each track below i, and for no other pair. The measure is the tracks left. Assumes nothing.
 use native.Mathlib.Omega.{arith}
 use Rattle.planjudge.proofs.PlanSteps.{marks-more, marks-none}
 use denote.Ref.{now}
 use Rattle.planjudge.specs.PlanTests.{Marks}
-use Prim.Native.Nat.{_-_, _≤_}
-use mathlib.Core.Path.{_≡_}
-use lib.ListN.{length, getD, length-set}
+use Prim.Native.Nat.{_-_, _*_, _≤_}
+use mathlib.Core.Path.{_≡_, ap, _∙_}
+use lib.ListN.{length, getD}
 use Rattle.model.specs.Limits.{maxCells}
 use Rattle.job.specs.Lines.{pairsBelow}
+use Rattle.job.specs.Bits.{withBit}
+use Rattle.job.proofs.BitLaws.{bits-length}
 use Rattle.job.proofs.Triangle.{pair-small}
 use borrow.Author.Needs.{needs}
 use Rattle.planjudge.proofs.plan.mark.Statement.{statement}
 use Rattle.planjudge.proofs.plan.mark.Tie as tie
 
 abbrev Inv-loop : tie.InvT-loop
-Inv-loop from to n table₀ i₀ table i = (i ≤ n) × (length table ≡ pairsBelow maxCells) × Marks from to i table
+Inv-loop from to n table₀ i₀ table i = (i ≤ n) × (8 * length table ≡ pairsBelow maxCells) × Marks from to i table
 
 abbrev μ-loop : tie.MeasureT-loop
 μ-loop from to n table₀ i₀ table i = n - i
@@ -39,10 +41,10 @@ wide-requires-2 c κs = search needs
 pair-requires : tie.Need-pair-requires Inv-loop μ-loop
 pair-requires c κs = search needs
 
-element-write-table : tie.Need-element-write-table Inv-loop μ-loop
-element-write-table c =
-    let u = c .before .before .before .wide in
-    let v = c .before .wide2 in
+add-requires : tie.Need-add-requires Inv-loop μ-loop
+add-requires c κs =
+    let u = c .before .before .before .before .wide in
+    let v = c .before .before .wide2 in
     omega (arith, c .pair .ensures, pair-small (u .result) (v .result) (u .ensures .1) (v .ensures .1))
 
 add-i : tie.Need-add-i Inv-loop μ-loop
@@ -53,13 +55,18 @@ loop-less c = search needs
 
 loop-again : tie.Need-loop-again Inv-loop μ-loop
 loop-again c =
-    let a = c .before .before .before .before .before .before .before .args in
-    let l = c .before .before .before .before .before .before .loop in
+    let p = c .before in
+    let a = p .before .before .before .before .before .before .before .before .args in
+    let l = p .before .before .before .before .before .before .before .loop in
     let from = now (a .from) in
     let to = now (a .to) in
-    let u : c .before .before .before .wide .result ≡ getD from (l .i) 0 = c .before .before .before .wide .ensures .0 in
-    let v : c .before .wide2 .result ≡ getD to (l .i) 0 = c .before .wide2 .ensures .0 in
-    (omega arith, simp length-set (l .inv .1), rw (c .pair .ensures, u, v) (marks-more from to (l .i) (l .table) (l .inv .1) (omega arith) (omega arith) (l .inv .2)))
+    let u : p .before .before .before .before .wide .result ≡ getD from (l .i) 0 = p .before .before .before .before .wide .ensures .0 in
+    let v : p .before .before .wide2 .result ≡ getD to (l .i) 0 = p .before .before .wide2 .ensures .0 in
+    let t : c .add .last .0 ≡ withBit (l .table) (p .pair .result) = c .add .ensures in (
+      omega arith,
+      ap (λ n. 8 * n) (ap length t ∙ bits-length (l .table) (p .pair .result)) ∙ l .inv .1,
+      rw (t, p .pair .ensures, u, v) (marks-more from to (l .i) (l .table) (l .inv .1) (omega arith) (omega arith) (l .inv .2)),
+    )
 
 returns : tie.Need-returns Inv-loop μ-loop
 returns c =
@@ -78,7 +85,7 @@ mark-spec =
     element-copy-out-wide-2
     wide-requires-2
     pair-requires
-    element-write-table
+    add-requires
     add-i
     loop-less
     loop-again

@@ -1,0 +1,29 @@
+-- `has` shifts the byte until bit i is the lowest, and asks for that one. Assumes nothing.
+use Prim.Native.Nat.{_/_, _%_, _^_}
+use mathlib.Core.Path.{ap}
+use denote.Ref.{now}
+use lib.Bits.{and-mask}
+use lib.Dec.{eqb}
+use lib.ListN.{getD}
+use Rattle.job.specs.Bits.{bitAt}
+use borrow.Author.Needs.{needs}
+use Rattle.job.proofs.bits.has.Statement.{statement}
+use Rattle.job.proofs.bits.has.Tie as tie
+
+shared-slice-read-result : tie.Need-shared-slice-read-result
+shared-slice-read-result c = search needs
+
+cast-result : tie.Need-cast-result
+cast-result c = search needs
+
+shr-result : tie.Need-shr-result
+shr-result c = search needs
+
+returns : tie.Need-returns
+unfolding bitAt
+returns c =
+    let a = c .before .args in
+    ap (λ n. eqb n 1) (and-mask (getD (now (a .table)) (a .i / 8) 0 / 2 ^ (a .i % 8)) 1)
+
+pub has-spec : {M : Type 1} → statement M
+has-spec = tie.close (tie.spec shared-slice-read-result cast-result shr-result returns)
