@@ -1,5 +1,7 @@
-pub mod CutBytes
 pub mod CutLaws
+pub mod CutInsert
+pub mod CutOrder
+pub mod CutLine
 pub mod PathList
 pub mod PathPlan
 pub mod PathTrail

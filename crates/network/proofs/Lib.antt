@@ -1,5 +1,6 @@
 pub mod ChokeLifts
 pub mod ChokeWalk
+pub mod ChokeLines
 pub mod ChokeFew
 pub mod Chokes
 pub mod Points

@@ -61,17 +61,13 @@ module _ {j : Job} {lifts deadlines : List ℕ} {calls : ℕ} {near start degree
       }
 
   -- One cannot be.
-  pub stuck : {m : ℕ} → answer ≡ No m → {last : ℕ} → last ≡ horizon j → Failed j due s n k last m
-  stuck {m} e ends =
+  pub stuck : {m : ℕ} → answer ≡ No m → Failed j lifts deadlines calls s n k m
+  stuck {m} e =
       let all : ServedAll j s (No m) = rw e at (served .1) in
       record {
-        ready = g .ready;
-        width = g .width;
-        size = g .size;
-        ends = ends;
-        dues = g .dues;
-        room = omega (arith, g .room);
-        flow = served .0;
+        holds = record { ready = g .ready; width = g .width; size = g .size; room = omega (arith, g .room); flow = served .0 };
+        counted = g .counted;
+        listed = g .listed;
         from = all .0;
         stuck = all .1;
       }

@@ -136,6 +136,16 @@ pub fn solve(
         );
         return Outcome::Plan;
     };
-    let points = answer::cut::list_chokes(&due, store, n, k, last, stamp, first, second);
+    let points = answer::cut::list_chokes(
+        &job.lifts,
+        &job.deadlines,
+        calls,
+        store,
+        n,
+        k,
+        stamp,
+        first,
+        second,
+    );
     Outcome::Cannot { points }
 }
