@@ -12,7 +12,7 @@ use aim::aim;
 use job::{read, Job};
 use planes::{planes, Planes};
 use search::search;
-use sheet::{uncross, write_cannot, write_plan, Writer};
+use sheet::{write_cannot, write_plan, Writer};
 
 const CELLS: usize = 256;
 const TRACKS: usize = 512;
@@ -70,7 +70,6 @@ pub fn plan_by<M: Mode>(mode: &mut M, text: &[u8], store: &mut [u8], sheet: &mut
     let (served, stamp) = solve(&j, &mut p, mode);
     let mut w = Writer { sheet, at: 0 };
     if served {
-        uncross(&j, &mut p);
         write_plan(&j, &p, &mut w);
     } else {
         write_cannot(&j, &p, stamp, &mut w);

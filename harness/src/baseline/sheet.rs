@@ -2,6 +2,7 @@
 
 use super::job::Job;
 use super::planes::Planes;
+use super::CALLS;
 
 pub struct Writer<'a> {
     pub sheet: &'a mut [u8],
@@ -30,22 +31,14 @@ impl Writer<'_> {
     }
 }
 
-/// Two carts that would trade places both stand instead.
-pub fn uncross(j: &Job, p: &mut Planes) {
-    let n = j.cells;
-    for t in 1..=j.last {
-        for b in 0..n {
-            let v = t * n + b;
-            if p.used[v] == 0 {
-                continue;
-            }
-            let a = p.prev[v] as usize;
-            let w = t * n + a;
-            if a != b && p.used[w] != 0 && p.prev[w] as usize == b {
-                p.prev[v] = b as u8;
-                p.prev[w] = a as u8;
-            }
-        }
+/// Where the cart on b at step t comes from. Two carts that would trade places both stand instead.
+fn came_from(j: &Job, p: &Planes, b: u8, t: usize) -> u8 {
+    let a = p.prev[t * j.cells + b as usize];
+    let w = t * j.cells + a as usize;
+    if p.used[w] != 0 && p.prev[w] == b {
+        b
+    } else {
+        a
     }
 }
 
@@ -58,7 +51,7 @@ pub fn write_plan(j: &Job, p: &Planes, w: &mut Writer) {
         let (c, d) = j.call[q as usize];
         path[d as usize] = c;
         for t in (1..=d as usize).rev() {
-            path[t - 1] = p.prev[t * j.cells + path[t] as usize];
+            path[t - 1] = came_from(j, p, path[t], t);
         }
         w.word(b"PATH");
         w.number(j.cart_on[path[0] as usize] as usize - 1);
@@ -70,23 +63,43 @@ pub fn write_plan(j: &Job, p: &Planes, w: &mut Writer) {
     }
 }
 
-pub fn write_cannot(j: &Job, p: &Planes, stamp: u8, w: &mut Writer) {
-    w.word(b"CANNOT");
-    w.number(j.calls - 1);
-    w.byte(b'\n');
-    for t in 0..=j.last {
-        for c in 0..j.cells {
-            let v = t * j.cells + c;
-            if p.mark[v] == stamp {
-                continue;
-            }
-            let call = j.is_call(c, t);
-            if call || p.used[v] != 0 && p.mark[(t + 1) * j.cells + p.next[v] as usize] == stamp {
-                w.word(b"CHOKE");
-                w.number(c);
-                w.number(t);
-                w.byte(b'\n');
-            }
+/// The first node without a mark on the line that ends at (c, t), going back; none where all are marked.
+fn cut(j: &Job, p: &Planes, mut c: usize, mut t: usize, stamp: u8) -> Option<(usize, usize)> {
+    loop {
+        let v = t * j.cells + c;
+        if p.mark[v] != stamp {
+            return Some((t, c));
         }
+        if t == 0 || p.used[v] == 0 {
+            return None;
+        }
+        c = p.prev[v] as usize;
+        t -= 1;
+    }
+}
+
+pub fn write_cannot(j: &Job, p: &Planes, stamp: u8, w: &mut Writer) {
+    let mut list = [(0, 0); CALLS];
+    let mut m = 0;
+    for &(c, d) in &j.call[..j.calls] {
+        let Some(point) = cut(j, p, c as usize, d as usize, stamp) else {
+            continue;
+        };
+        let mut i = m;
+        while i > 0 && list[i - 1] > point {
+            list[i] = list[i - 1];
+            i -= 1;
+        }
+        list[i] = point;
+        m += 1;
+    }
+    w.word(b"CANNOT");
+    w.number(m);
+    w.byte(b'\n');
+    for &(t, c) in &list[..m] {
+        w.word(b"CHOKE");
+        w.number(c);
+        w.number(t);
+        w.byte(b'\n');
     }
 }
