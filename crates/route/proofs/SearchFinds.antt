@@ -9,7 +9,7 @@ use native.Mathlib.Decide.{decLt}
 use lib.ListN.{getD}
 use Rattle.network.specs.Store.{at}
 use Rattle.route.specs.declared.search.Found.{Found}
-use Rattle.route.specs.Finds.{Held, By, ByRow, Down, From, Stamped, Answers}
+use Rattle.route.specs.Finds.{Held, By, ByRow, Down, From, Stamped, Answers, Guesses}
 
 pub row-before : (t n : ℕ) → 0 < t → (t - 1) * n + n ≡ t * n
 row-before t n h = let e : t ≡ suc (t - 1) = omega arith in omega (arith, ap (λ (z : ℕ). z * n) e)
@@ -30,35 +30,31 @@ module _ (n k : ℕ) (s due : List ℕ) (t x stamp : ℕ) where
   abbrev Asked : Found → Type 0
   Asked r = Answers (By n k s due t x) (Stamped n k s stamp) r
 
-  pub by-due : getD due x 0 ≡ t → Asked Found.Nothing
-  by-due e c u via b = absurd (b .1 e)
+  free′ : getD s ((t - 1) * n + x) 0 ≡ 0 → at k s 0 ((t - 1) * n + x) ≡ 0
+  free′ e = sym (place k s ((t - 1) * n + x) 0 ((t - 1) * n + x) (omega arith)) ∙ e
 
-  module _ (nd : getD due x 0 ≡ t → ⊥) where
-    free′ : getD s ((t - 1) * n + x) 0 ≡ 0 → at k s 0 ((t - 1) * n + x) ≡ 0
-    free′ e = sym (place k s ((t - 1) * n + x) 0 ((t - 1) * n + x) (omega arith)) ∙ e
+  used′ : (getD s ((t - 1) * n + x) 0 ≡ 0 → ⊥) → at k s 0 ((t - 1) * n + x) ≡ 0 → ⊥
+  used′ ne e = ne (place k s ((t - 1) * n + x) 0 ((t - 1) * n + x) (omega arith) ∙ e)
 
-    used′ : (getD s ((t - 1) * n + x) 0 ≡ 0 → ⊥) → at k s 0 ((t - 1) * n + x) ≡ 0 → ⊥
-    used′ ne e = ne (place k s ((t - 1) * n + x) 0 ((t - 1) * n + x) (omega arith) ∙ e)
+  module _ (e : getD s ((t - 1) * n + x) 0 ≡ 0) where
+    pub free-none : getD s (k + ((t - 1) * n + x)) 0 ≡ stamp → Asked Found.Nothing
+    free-none m c u via (f, g, inl (h, ec, eu)) = rw (ec, eu) (sym (place k s (k + ((t - 1) * n + x)) 1 ((t - 1) * n + x) (omega arith)) ∙ m)
+    free-none m c u via (f, g, inr (h, ec, eu)) = absurd (h (free′ e))
 
-    module _ (e : getD s ((t - 1) * n + x) 0 ≡ 0) where
-      pub free-none : getD s (k + ((t - 1) * n + x)) 0 ≡ stamp → Asked Found.Nothing
-      free-none m c u via (f, g, inl (h, ec, eu)) = rw (ec, eu) (sym (place k s (k + ((t - 1) * n + x)) 1 ((t - 1) * n + x) (omega arith)) ∙ m)
-      free-none m c u via (f, g, inr (h, ec, eu)) = absurd (h (free′ e))
+    pub free-push : (getD s (k + ((t - 1) * n + x)) 0 ≡ stamp → ⊥) → (getD due x 0 ≡ t → ⊥) → Asked (Found.Push x (t - 1) x)
+    free-push m nd = ((refl, nd, inl (free′ e, refl, refl)), λ z. m (place k s (k + ((t - 1) * n + x)) 1 ((t - 1) * n + x) (omega arith) ∙ z))
 
-      pub free-push : (getD s (k + ((t - 1) * n + x)) 0 ≡ stamp → ⊥) → Asked (Found.Push x (t - 1) x)
-      free-push m = ((refl, nd, inl (free′ e, refl, refl)), λ z. m (place k s (k + ((t - 1) * n + x)) 1 ((t - 1) * n + x) (omega arith) ∙ z))
+  module _ (ne : getD s ((t - 1) * n + x) 0 ≡ 0 → ⊥) (nd : getD due x 0 ≡ t → ⊥) (y : ℕ) (ey : y ≡ getD s (2 * k + ((t - 1) * n + x)) 0) where
+    pub used-none : getD s (k + t * n + y) 0 ≡ stamp → Asked Found.Nothing
+    used-none m c u via (f, g, inl (h, ec, eu)) = absurd (used′ ne h)
+    used-none m c u via (f, g, inr (h, ec, eu)) = rw (ec, ← ey, eu) (sym (place k s (k + t * n + y) 1 (t * n + y) (omega arith)) ∙ m)
 
-    module _ (ne : getD s ((t - 1) * n + x) 0 ≡ 0 → ⊥) (y : ℕ) (ey : y ≡ getD s (2 * k + ((t - 1) * n + x)) 0) where
-      pub used-none : getD s (k + t * n + y) 0 ≡ stamp → Asked Found.Nothing
-      used-none m c u via (f, g, inl (h, ec, eu)) = absurd (used′ ne h)
-      used-none m c u via (f, g, inr (h, ec, eu)) = rw (ec, ← ey, eu) (sym (place k s (k + t * n + y) 1 (t * n + y) (omega arith)) ∙ m)
+    pub used-push : (getD s (k + t * n + y) 0 ≡ stamp → ⊥) → Asked (Found.Push y t x)
+    used-push m = ((refl, nd, inr (used′ ne, ey, refl)), λ z. m (place k s (k + t * n + y) 1 (t * n + y) (omega arith) ∙ z))
 
-      pub used-push : (getD s (k + t * n + y) 0 ≡ stamp → ⊥) → Asked (Found.Push y t x)
-      used-push m = ((refl, nd, inr (used′ ne, ey, refl)), λ z. m (place k s (k + t * n + y) 1 (t * n + y) (omega arith) ∙ z))
-
-      pub used-below : Held n k s due → x < n → 0 < t → t * n + n ≤ k → y < n
-      used-below h hx ht hk =
-          omega (arith, ey, h .leads x (t - 1) hx (omega (arith, row-before t n ht)) (used′ ne) (λ z. nd (z ∙ (omega arith))) .0)
+    pub used-below : Held n k s due → x < n → 0 < t → t * n + n ≤ k → y < n
+    used-below h hx ht hk =
+        omega (arith, ey, h .leads x (t - 1) hx (omega (arith, row-before t n ht)) (used′ ne) (λ z. nd (z ∙ (omega arith))) .0)
 
 -- To the successor of the node of (a, t).
 module _ (n k : ℕ) (s due : List ℕ) (a t stamp : ℕ) where
@@ -111,3 +107,12 @@ pub find-rest : (n k : ℕ) (s near start degree due : List ℕ) (c t stamp : �
     → Answers (Down n k s due c t) (Stamped n k s stamp) r → Answers (From n k s near start degree due c t) (Stamped n k s stamp) r
 find-rest n k s near start degree due c t stamp Found.Nothing none b = λ x u via o. ⊎-elim (λ p. none (p .0) x u via (p .1)) (λ q. b x u via q) o
 find-rest n k s near start degree due c t stamp (Found.Push x u via) none b = (inr (b .0), b .1)
+
+-- What answers for one way of looking is a guess for a wider one.
+pub answer-guess : (P Q : ℕ → ℕ → ℕ → Type 0) (M : ℕ → ℕ → Type 0) (r : Found) → ((c t via : ℕ) → P c t via → Q c t via) → Answers P M r → Guesses Q M r
+answer-guess P Q M Found.Nothing f x = tt
+answer-guess P Q M (Found.Push a b v) f x = (f a b v (x .0), x .1)
+
+-- A guess that is a position is an answer.
+pub guess-answer : (P : ℕ → ℕ → ℕ → Type 0) (M : ℕ → ℕ → Type 0) (r : Found) (a b v : ℕ) → r ≡ Found.Push a b v → Guesses P M r → Answers P M r
+guess-answer P M r a b v e x = let y : Guesses P M (Found.Push a b v) = rw e at x in rw e y

@@ -9,9 +9,8 @@ use native.Mathlib.Omega.{arith}
 use native.Mathlib.Nat.{mul-le-mul-right}
 use native.Mathlib.Decide.{ℕ-discrete, decLt}
 use lib.Dec.{eqb, ltb}
-use lib.ListN.{length, getD}
+use lib.ListN.{getD}
 use borrow.Author.Tests.{lt-ltb, le-ltb, eq-eqb, not-true}
-use Rattle.model.specs.Limits.{maxCells}
 use Rattle.model.specs.Job.{Job, horizon}
 use Rattle.model.specs.Choke.{Point, point, Known}
 use Rattle.model.specs.ReadSheet.{knownPoint}
@@ -78,8 +77,8 @@ module _ {j : Job} {due : List ℕ} (d : Due j due) where
   not-due : (c t : ℕ) → c < j .cells → isLift j (point c t) ≡ false → getD due c 0 ≡ t + 1 → ⊥
   not-due c t h e f = nope (cc (d .lifts c t h .0 f))
 
-pub rows : {j : Job} {near start degree hint : List ℕ} → Near j near start degree → length hint ≡ maxCells → Rows (j .cells) near start degree hint
-rows n h = record { rows = n .rows; begins = n .begins; counts = n .counts; hints = h; fits = n .fits; cells = λ c i hc hi. n .only c i 0 hc hi .0 }
+pub rows : {j : Job} {near start degree : List ℕ} → Near j near start degree → Rows (j .cells) near start degree
+rows n = record { rows = n .rows; begins = n .begins; counts = n .counts; fits = n .fits; cells = λ c i hc hi. n .only c i 0 hc hi .0 }
 
 -- Two residual arcs, to the arrival at w and on to the departure from y.
 pub record HopTo (j : Job) (back on : Point → Link Point) (v w y : Point) : Type 0 where

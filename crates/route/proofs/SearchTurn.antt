@@ -2,7 +2,7 @@
 -- from it, it is done and falls off; else what is found is one hop away and not marked, and goes on top. Assumes nothing.
 use Rattle.network.proofs.Planes.{idx-below}
 use Prim.Native.Nat.{ℕ, suc, _+_, _-_, _*_, _<_, _≤_}
-use mathlib.Core.Path.{_≡_, sym, _∙_, ap, subst}
+use mathlib.Core.Path.{_≡_, sym, _∙_, subst}
 use mathlib.Core.List.{List}
 use mathlib.Core.Logic.{⊎-elim}
 use native.Mathlib.Omega.{arith}
@@ -24,24 +24,41 @@ use Rattle.route.specs.Finds.{Held, From, Stamped, Answers, Pushed}
 use Rattle.network.proofs.Points.{point-eq}
 use Rattle.network.proofs.NodeBytes.{row-in}
 use Rattle.route.proofs.SearchHops.{held, HopTo, hopVia, found-hop, hop-found}
+use Rattle.route.proofs.SearchFinds.{place}
 use Rattle.route.proofs.SearchStack.{Done}
 use Rattle.route.proofs.SearchCount.{unmarked-some}
 use Rattle.route.proofs.SearchRuns.{Running, Marked, left, run-pop, run-push, run-falls}
 
--- What is at hand once the turn has read the position (c, t) on top of the stack.
+-- The position on top of a stack of depth d.
+pub record Top (k : ℕ) (s : List ℕ) (d c t : ℕ) : Type 0 where
+  pub cell : c ≡ at k s 4 (d - 1)
+  pub step : t ≡ at k s 5 (d - 1)
+
+-- What was pushed is on top.
+pub top-pushed : {k : ℕ} {s s′ : List ℕ} {v d c t via stamp : ℕ} → Pushed k s s′ v d c t via stamp → Top k s′ (d + 1) c t
+top-pushed {k} {s} {s′} {v} {d} p =
+    let e : d + 1 - 1 ≡ d = omega arith in
+    record { cell = rw e (sym (p .cell)); step = rw e (sym (p .step)) }
+
+-- What the code reads back is on top.
+pub top-read : (k : ℕ) (s : List ℕ) (d c t : ℕ) → 0 < d → c ≡ getD s (4 * k + d - 1) 0 → t ≡ getD s (5 * k + d - 1) 0 → Top k s d c t
+top-read k s d c t h e f = record {
+  cell = e ∙ place k s (4 * k + d - 1) 4 (d - 1) (omega arith);
+  step = f ∙ place k s (5 * k + d - 1) 5 (d - 1) (omega arith);
+}
+
+-- What is at hand in a turn at the position (c, t).
 pub record Turn (j : Job) (near start degree due cart-on hint : List ℕ) (n k : ℕ) (s₁ s : List ℕ) (a b stamp d c t : ℕ) : Type 0 where
   pub for : Searching j near start degree due cart-on hint s₁ n k a b stamp
   pub room : 8 * k ≤ length s
   pub run : Running j s₁ s stamp (point a b) d
   pub some : 0 < d
-  pub cell : c ≡ getD s (4 * k + d - 1) 0
-  pub step : t ≡ getD s (5 * k + d - 1) 0
+  pub top : Top k s d c t
 
 module _ {j : Job} {near start degree due cart-on hint : List ℕ} {n k : ℕ} {s₁ s : List ℕ} {a b stamp d c t : ℕ}
     (w : Turn j near start degree due cart-on hint n k s₁ s a b stamp d c t) where
-  -- The position on top.
   top : posAt j s (d - 1) ≡ point c t
-  top = point-eq (ap (λ (z : ℕ). getD s z 0) (omega (arith, w .for .size, w .some)) ∙ sym (w .cell)) (ap (λ (z : ℕ). getD s z 0) (omega (arith, w .for .size, w .some)) ∙ sym (w .step))
+  top = rw (w .for .size) at (point-eq (sym (w .top .cell)) (sym (w .top .step)))
 
   pub top-known : Known j (point c t)
   top-known = subst (λ (z : Point). Known j z) top (w .run .dfs .marked (d - 1) (omega (arith, w .some)) .0)

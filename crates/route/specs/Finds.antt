@@ -20,11 +20,10 @@ pub record Held (n k : ℕ) (s due : List ℕ) : Type 0 where
       → (at k s 2 (t * n + c) < n) × ((t + 1) * n + n ≤ k)
 
 -- The rows of the table of cells that one step leads from.
-pub record Rows (n : ℕ) (near start degree hint : List ℕ) : Type 0 where
+pub record Rows (n : ℕ) (near start degree : List ℕ) : Type 0 where
   pub rows : length near ≡ nearSize
   pub begins : length start ≡ maxCells
   pub counts : length degree ≡ maxCells
-  pub hints : length hint ≡ maxCells
   pub fits : (c : ℕ) → c < n → getD start c 0 + getD degree c 0 ≤ nearSize
   pub cells : (c i : ℕ) → c < n → i < getD degree c 0 → getD near (getD start c 0 + i) 0 < n
 
@@ -55,6 +54,11 @@ Stamped n k s stamp c t = at k s 1 (t * n + c) ≡ stamp
 abbrev pub Answers : (ℕ → ℕ → ℕ → Type 0) → (ℕ → ℕ → Type 0) → Found → Type 0
 Answers P M Found.Nothing = (c t via : ℕ) → P c t via → M c t
 Answers P M (Found.Push c t via) = P c t via × (M c t → ⊥)
+
+-- The answer, if it is a position, is one that P allows and that is not marked.
+abbrev pub Guesses : (ℕ → ℕ → ℕ → Type 0) → (ℕ → ℕ → Type 0) → Found → Type 0
+Guesses P M Found.Nothing = Unit {0}
+Guesses P M (Found.Push c t via) = P c t via × (M c t → ⊥)
 
 -- The node v is marked, and the entries d of the stack's planes are set.
 pub record Pushed (k : ℕ) (s s′ : List ℕ) (v d c t via stamp : ℕ) : Type 0 where

@@ -8,7 +8,7 @@ ghost use Rattle.model.specs.Job as model;
 ghost use Rattle.model.specs.Choke.{point};
 ghost use Rattle.network.specs.Tables.{nearSize};
 ghost use Rattle.route.specs.Search.{Searching, Searched};
-ghost use Rattle.route.specs.Finds.{Held, Rows, By, ByRow, Down, From, Stamped, Answers, Pushed};
+ghost use Rattle.route.specs.Finds.{Held, Rows, By, ByRow, Down, From, Stamped, Answers, Guesses, Pushed};
 
 // Where a position leads: nowhere new, or to another position, by way of a cell.
 pub enum Found {
@@ -21,17 +21,17 @@ pub enum Found {
 }
 
 // From a position at step t by way of the cell x one step earlier: to that node where it is free, to its successor where it is used,
-// whose place in the flow is then taken over. Nothing comes from a call's node.
+// whose place in the flow is then taken over. Nothing comes from a call's node; that is asked after a free node's mark, since most are marked.
 fn look(store: &[u8], due: &[u16], n: usize, k: usize, t: usize, x: usize, stamp: u8) -> Found
     requires { ⌜ Held n k (now store) (now due) × (x < n) × (0 < t) × (t * n + n ≤ k) ⌝ }
     ensures { λ r. ⌜ Answers (By n k (now (store .entry)) (now (due .entry)) t x) (Stamped n k (now (store .entry)) stamp) r ⌝ }
 {
-    if due[x] as usize == t {
-        return Found::Nothing;
-    }
     let u = (t - 1) * n + x;
     if store[u] == 0 {
         if store[k + u] == stamp {
+            return Found::Nothing;
+        }
+        if due[x] as usize == t {
             return Found::Nothing;
         }
         return Found::Push {
@@ -39,6 +39,9 @@ fn look(store: &[u8], due: &[u16], n: usize, k: usize, t: usize, x: usize, stamp
             step: t - 1,
             via: x,
         };
+    }
+    if due[x] as usize == t {
+        return Found::Nothing;
     }
     let y = wide(store[2 * k + u]);
     if store[k + t * n + y] == stamp {
@@ -105,8 +108,9 @@ fn drop_out(store: &[u8], due: &[u16], n: usize, k: usize, c: usize, t: usize, s
     }
 }
 
-// Where the position (c, t) leads: first as the hint says, which is a guess that only saves time.
-fn find(
+// From the position (c, t) by way of the cell that the hint names: a guess, which only saves time. It is small, so that the compiler puts it into
+// the loop of the search.
+fn guess(
     store: &[u8],
     near: &[u8],
     start: &[u16],
@@ -119,24 +123,40 @@ fn find(
     t: usize,
     stamp: u8,
 ) -> Found
-    requires { ⌜ Held n k (now store) (now due) × Rows n (now near) (now start) (now degree) (now hint) × (c < n) × (t * n + n ≤ k) ⌝ }
+    requires { ⌜ Held n k (now store) (now due) × Rows n (now near) (now start) (now degree) × (length (now hint) ≡ maxCells) × (c < n) × (t * n + n ≤ k) ⌝ }
+    ensures { λ r. ⌜ Guesses (From n k (now (store .entry)) (now (near .entry)) (now (start .entry)) (now (degree .entry)) (now (due .entry)) c t) (Stamped n k (now (store .entry)) stamp) r ⌝ }
+{
+    if t == 0 {
+        return Found::Nothing;
+    }
+    let h = wide(hint[c]);
+    if degree[c] as usize <= h {
+        return Found::Nothing;
+    }
+    let base = start[c] as usize;
+    let x = wide(near[base + h]);
+    look(store, due, n, k, t, x, stamp)
+}
+
+// Where the position (c, t) leads: by way of a cell of its row, else to its successor.
+fn find(
+    store: &[u8],
+    near: &[u8],
+    start: &[u16],
+    degree: &[u16],
+    due: &[u16],
+    n: usize,
+    k: usize,
+    c: usize,
+    t: usize,
+    stamp: u8,
+) -> Found
+    requires { ⌜ Held n k (now store) (now due) × Rows n (now near) (now start) (now degree) × (c < n) × (t * n + n ≤ k) ⌝ }
     ensures { λ r. ⌜ Answers (From n k (now (store .entry)) (now (near .entry)) (now (start .entry)) (now (degree .entry)) (now (due .entry)) c t) (Stamped n k (now (store .entry)) stamp) r ⌝ }
 {
     if 0 < t {
         let base = start[c] as usize;
         let m = degree[c] as usize;
-        let h = wide(hint[c]);
-        if h < m {
-            let x = wide(near[base + h]);
-            let found = look(store, due, n, k, t, x, stamp);
-            if let Found::Push {
-                cell: _,
-                step: _,
-                via: _,
-            } = found {
-                return found;
-            }
-        }
         let found = scan(store, near, due, n, k, base, m, t, stamp);
         if let Found::Push {
             cell: _,
@@ -188,29 +208,28 @@ pub fn search(
 {
     push(store, n, k, 0, cell, step, 0, stamp);
     let mut depth = 1;
+    // The position on top of the stack.
+    let mut c = cell;
+    let mut t = step;
     while 0 < depth {
-        let c = wide(store[4 * k + depth - 1]);
-        let t = wide(store[5 * k + depth - 1]);
         if t == 0 && cart_on[c] != 0 {
             return depth;
         }
-        let Found::Push { cell, step, via } = find(
-            store,
-            near,
-            start,
-            degree,
-            due,
-            hint,
-            n,
-            k,
-            c,
-            t,
-            stamp,
-        ) else {
+        let mut found = guess(store, near, start, degree, due, hint, n, k, c, t, stamp);
+        if let Found::Nothing = found {
+            found = find(store, near, start, degree, due, n, k, c, t, stamp);
+        }
+        let Found::Push { cell, step, via } = found else {
             depth -= 1;
+            if 0 < depth {
+                c = wide(store[4 * k + depth - 1]);
+                t = wide(store[5 * k + depth - 1]);
+            }
             continue;
         };
         push(store, n, k, depth, cell, step, via, stamp);
+        c = cell;
+        t = step;
         depth += 1;
     }
     0

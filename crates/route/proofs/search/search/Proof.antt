@@ -1,6 +1,6 @@
--- `search` is a depth-first search over the residual arcs of the flow. Invariant: `Running` (SearchRuns) for every job that the search may be for, and bounds
--- for the indices. The measure is twice the unmarked nodes and the depth: a push takes one node and adds one to the depth, a pop takes one of the depth. Assumes nothing.
-use Rattle.network.proofs.Planes.{idx-below}
+-- `search` is a depth-first search over the residual arcs of the flow. Invariant: `Running` (SearchRuns) for every job that the search may be for, (c, t) is the
+-- position on top of the stack, and bounds for the indices. The measure is twice the unmarked nodes and the depth: a push takes one node and adds one to the
+-- depth, a pop takes one of the depth. Assumes nothing.
 use Prim.Native.Nat.{_+_, _-_, _*_, _<_, _≤_}
 use mathlib.Core.Path.{_≡_, refl, _∙_}
 use mathlib.Core.Logic.{⊎-elim}
@@ -11,25 +11,28 @@ use lib.ListN.{length}
 use Rattle.model.specs.Limits.{maxCells, maxSteps}
 use Rattle.model.specs.Job.{Job}
 use Rattle.model.specs.Choke.{point}
+use Rattle.model.proofs.Agree.{within}
 use Rattle.network.specs.Graph.{graph}
 use Rattle.network.specs.Links.{posAt}
-use Rattle.route.specs.Search.{Searching}
+use Rattle.network.proofs.Planes.{idx-below}
 use Rattle.network.proofs.NodeBytes.{few-nodes}
+use Rattle.route.specs.Search.{Searching}
+use Rattle.route.specs.Finds.{From, Stamped, Answers}
 use Rattle.route.proofs.SearchHops.{rows}
 use Rattle.route.proofs.SearchRuns.{Running, left}
 use Rattle.route.proofs.SearchEnds.{under-way, begun, ends-none, ends-some}
-use Rattle.route.proofs.SearchTurn.{Turn, top-known, top-held, is-goal, no-goal, turn-pop, push-needs, turn-falls, turn-push}
-use Rattle.model.proofs.Agree.{within}
+use Rattle.route.proofs.SearchFinds.{guess-answer}
+use Rattle.route.proofs.SearchTurn.{Top, top-pushed, top-read, Turn, top-known, top-held, is-goal, no-goal, turn-pop, push-needs, turn-falls, turn-push}
 use Rattle.route.proofs.search.search.Statement.{statement}
 use Rattle.route.proofs.search.search.Tie as tie
 
 abbrev Inv-loop : tie.InvT-loop
-Inv-loop near start degree due cart-on hint store₀ n k cell step stamp depth₀ store depth =
-    (k ≤ maxSteps * maxCells) × (depth ≤ k) × (8 * k ≤ length store) × (length store ≡ length store₀)
+Inv-loop near start degree due cart-on hint store₀ n k cell step stamp depth₀ c₀ t₀ store depth c t =
+    (k ≤ maxSteps * maxCells) × (depth ≤ k) × (8 * k ≤ length store) × (length store ≡ length store₀) × (0 < depth → Top k store depth c t)
     × ((j : Job) → Searching j near start degree due cart-on hint store₀ n k cell step stamp → Running j store₀ store stamp (point cell step) depth)
 
 abbrev μ-loop : tie.MeasureT-loop
-μ-loop near start degree due cart-on hint store₀ n k cell step stamp depth₀ store depth = 2 * left k store stamp + depth
+μ-loop near start degree due cart-on hint store₀ n k cell step stamp depth₀ c₀ t₀ store depth c t = 2 * left k store stamp + depth
 
 -- A job that the search may be for, told from the store after the first push.
 abbrev For : tie.After-push Inv-loop μ-loop → Job → Type 0
@@ -40,23 +43,42 @@ For c j =
 one : (c : tie.After-push Inv-loop μ-loop) → (j : Job) × For c j
 one c = (c .before .before .before .before .before .before .before .before .before .pre .0, begun (c .push .ensures) (c .before .before .before .before .before .before .before .before .before .pre .1))
 
--- What is at hand once c and t are read.
-turn : (c : tie.After-wide2 Inv-loop μ-loop) (j : Job) → For (c .before .before .before .before .before .before .before .before) j →
-    (let a = c .before .before .before .before .before .before .before .before .before .before .before .before .before .before .before .before .before .args in
-    Turn j (now (a .near)) (now (a .start)) (now (a .degree)) (now (a .due)) (now (a .cart-on)) (now (a .hint)) (a .n) (a .k) (c .before .before .before .before .before .before .before .before .push .last .0) (c .before .before .before .before .before .loop .store) (a .cell) (a .step) (a .stamp)
-    (c .before .before .before .before .before .loop .depth) (c .before .before .wide .result) (c .wide2 .result))
+-- What is at hand in a turn.
+turn : (c : tie.In-loop Inv-loop μ-loop) (j : Job) → For (c .before .before .before .before) j →
+    (let a = c .before .before .before .before .before .before .before .before .before .before .before .before .before .args in let l = c .before .loop in
+    Turn j (now (a .near)) (now (a .start)) (now (a .degree)) (now (a .due)) (now (a .cart-on)) (now (a .hint)) (a .n) (a .k) (c .before .before .before .before .push .last .0) (l .store) (a .cell) (a .step) (a .stamp) (l .depth) (l .c) (l .t))
 turn c j h = record {
   for = h;
-  room = c .before .before .before .before .before .loop .inv .2;
-  run = c .before .before .before .before .before .loop .inv .4 j h;
-  some = c .before .before .before .before .loop-test .taken;
-  cell = c .before .before .wide .ensures .0;
-  step = c .wide2 .ensures .0;
+  room = c .before .loop .inv .2;
+  run = c .before .loop .inv .5 j h;
+  some = c .loop-test .taken;
+  top = c .before .loop .inv .4 (c .loop-test .taken);
 }
 
 -- Past the test the position on top is no goal.
-dull : (c : tie.Joined1 Inv-loop μ-loop) (j : Job) → For (c .before .before .before .before .before .before .before .before .before) j → (graph j) .Goal (posAt j (c .before .before .before .before .before .before .loop .store) (c .before .before .before .before .before .before .loop .depth - 1)) → ⊥
+dull : (c : tie.Joined1 Inv-loop μ-loop) (j : Job) → For (c .before .before .before .before .before) j → (graph j) .Goal (posAt j (c .before .before .loop .store) (c .before .before .loop .depth - 1)) → ⊥
 dull c j h = no-goal (turn (c .before) j h) (λ z. ⊎-elim (λ w. w .2 .left) (λ w. absurd (w .left z)) (c .if1 .came))
+
+-- What is found answers for the position on top: what `find` answers, or a guess that is a position.
+answers : (c : tie.At-match-came Inv-loop μ-loop) →
+    (let a = c .before .before .before .before .before .before .before .before .before .before .before .before .before .before .before .before .before .args in let l = c .before .before .before .before .before .loop in
+    Answers (From (a .n) (a .k) (l .store) (now (a .near)) (now (a .start)) (now (a .degree)) (now (a .due)) (l .c) (l .t)) (Stamped (a .n) (a .k) (l .store) (a .stamp)) (c .match .found))
+answers c =
+    ⊎-elim (λ w. rw (w .4) (w .3 .ensures)) (λ w. rw (w .2) (guess-answer _ _ _ _ _ _ (w .1 .given .1) (c .before .guess .ensures))) (c .match .came)
+
+-- Where nothing is found the position falls off.
+popped : (c : tie.After-enum-told3 Inv-loop μ-loop) (j : Job) → For (c .before .before .before .before .before .before .before .before .before .before) j →
+    (let a = c .before .before .before .before .before .before .before .before .before .before .before .before .before .before .before .before .before .before .before .args in let l = c .before .before .before .before .before .before .before .loop in Running j (c .before .before .before .before .before .before .before .before .before .before .push .last .0) (l .store) (a .stamp) (point (a .cell) (a .step)) (l .depth - 1))
+popped c j h = turn-pop (turn (c .before .before .before .before .before .before) j h) (c .before .before .match .found) (answers (c .before .before)) (dull (c .before .before .before .before .before) j h) (c .enum-told3 .given .1)
+
+-- What the push of a position found needs.
+room : (c : tie.After-found Inv-loop μ-loop) →
+    (let a = c .before .before .before .before .before .before .before .before .before .before .before .before .before .before .before .before .before .before .before .args in let l = c .before .before .before .before .before .before .before .loop in let e = c .found .given .0 in
+    (e .1 .0 * a .n + e .0 < a .k) × (l .depth < a .k) × (e .0 < maxCells) × (e .1 .0 < maxSteps) × (e .1 .1 .0 < maxCells))
+room c =
+    let (j, h) = one (c .before .before .before .before .before .before .before .before .before .before) in
+    let e = c .found .given in
+    push-needs (turn (c .before .before .before .before .before .before) j h) (c .before .before .match .found) (answers (c .before .before)) (dull (c .before .before .before .before .before) j h) (e .0 .0) (e .0 .1 .0) (e .0 .1 .1 .0) (e .1)
 
 push-requires : tie.Need-push-requires Inv-loop μ-loop
 push-requires c κs =
@@ -73,7 +95,48 @@ loop-holds c =
     let a = c .before .before .before .before .before .before .before .before .before .before .before .args in
     let j = c .before .before .before .before .before .before .before .before .before .before .before .pre .0 in
     let h = c .before .before .before .before .before .before .before .before .before .before .before .pre .1 in
-    (omega (arith, few-nodes j (h .ready), h .size), omega (arith, idx-below j {x = point (a .cell) (a .step)} (h .known), h .size), omega (arith, h .room, h .size, c .before .before .push .ensures .long), refl, λ j g. under-way (c .before .before .push .ensures) g)
+    (omega (arith, few-nodes j (h .ready), h .size), omega (arith, idx-below j {x = point (a .cell) (a .step)} (h .known), h .size), omega (arith, h .room, h .size, c .before .before .push .ensures .long), refl, λ z. top-pushed (c .before .before .push .ensures), λ j g. under-way (c .before .before .push .ensures) g)
+
+shared-slice-read-if2 : tie.Need-shared-slice-read-if2 Inv-loop μ-loop
+shared-slice-read-if2 c =
+    let (j, h) = one (c .before .before .before .before .before .before) in
+    omega (arith, top-known (turn (c .before .before) j h) .0, h .carts .size, h .ready .fit .few-cells)
+
+same-length : tie.Need-same-length Inv-loop μ-loop
+same-length c = c .before .before .before .before .loop .inv .3 ∙ c .before .before .before .before .before .before .before .push .ensures .long
+
+returns : tie.Need-returns Inv-loop μ-loop
+returns c = λ j h.
+    let l = c .before .before .before .before .loop in
+    let p = c .before .before .before .before .before .before .before .push .ensures in
+    ends-some p h (l .store) (l .depth) (l .inv .5 j (begun p h)) (l .depth - 1) (omega arith) (is-goal (turn (c .before .before .before) j (begun p h)) (c .before .before .if1 .taken) (c .if2 .taken))
+
+guess-requires : tie.Need-guess-requires Inv-loop μ-loop
+guess-requires c κs =
+    let (j, h) = one (c .before .before .before .before .before .before) in
+    let g = top-held (turn (c .before .before) j h) in
+    (g .0, rw (h .cells) (rows (h .rows)), h .hints, g .1, g .2)
+
+enum-told : tie.Need-enum-told Inv-loop μ-loop
+enum-told c = search needs
+
+find-requires : tie.Need-find-requires Inv-loop μ-loop
+find-requires c κs =
+    let (j, h) = one (c .before .before .before .before .before .before .before .before .before .before) in
+    let g = top-held (turn (c .before .before .before .before .before .before) j h) in
+    (g .0, rw (h .cells) (rows (h .rows)), g .1, g .2)
+
+enum-told-2 : tie.Need-enum-told-2 Inv-loop μ-loop
+enum-told-2 c = search needs
+
+enum-known-found : tie.Need-enum-known-found Inv-loop μ-loop
+enum-known-found c = search needs
+
+enum-told-3 : tie.Need-enum-told-3 Inv-loop μ-loop
+enum-told-3 c = search needs
+
+sub-depth : tie.Need-sub-depth Inv-loop μ-loop
+sub-depth c = omega arith
 
 mul-wide : tie.Need-mul-wide Inv-loop μ-loop
 mul-wide c = omega arith
@@ -105,68 +168,43 @@ slice-read-wide-2 c = omega arith
 wide-requires-2 : tie.Need-wide-requires-2 Inv-loop μ-loop
 wide-requires-2 c κs = search needs
 
-shared-slice-read-if2 : tie.Need-shared-slice-read-if2 Inv-loop μ-loop
-shared-slice-read-if2 c =
-    let (j, h) = one (c .before .before .before .before .before .before .before .before .before .before) in
-    omega (arith, top-known (turn (c .before .before) j h) .0, h .carts .size, h .ready .fit .few-cells)
-
-same-length : tie.Need-same-length Inv-loop μ-loop
-same-length c = c .before .before .before .before .before .before .before .before .loop .inv .3 ∙ c .before .before .before .before .before .before .before .before .before .before .before .push .ensures .long
-
-returns : tie.Need-returns Inv-loop μ-loop
-returns c = λ j h.
-    let l = c .before .before .before .before .before .before .before .before .loop in
-    let p = c .before .before .before .before .before .before .before .before .before .before .before .push .ensures in
-    ends-some p h (l .store) (l .depth) (l .inv .4 j (begun p h)) (l .depth - 1) (omega arith) (is-goal (turn (c .before .before .before) j (begun p h)) (c .before .before .if1 .taken) (c .if2 .taken))
-
-find-requires : tie.Need-find-requires Inv-loop μ-loop
-find-requires c κs =
-    let (j, h) = one (c .before .before .before .before .before .before .before .before .before .before) in
-    let g = top-held (turn (c .before .before) j h) in
-    (g .0, rw (h .cells) (rows (h .rows) (h .hints)), g .1, g .2)
-
-enum-known-cell : tie.Need-enum-known-cell Inv-loop μ-loop
-enum-known-cell c = search needs
-
-enum-told : tie.Need-enum-told Inv-loop μ-loop
-enum-told c = search needs
-
-sub-depth : tie.Need-sub-depth Inv-loop μ-loop
-sub-depth c = omega arith
-
 loop-less : tie.Need-loop-less Inv-loop μ-loop
 loop-less c = omega arith
 
 loop-again : tie.Need-loop-again Inv-loop μ-loop
 loop-again c =
-    let l = c .before .before .before .before .before .before .before .before .before .before .loop .inv in
-    (l .0, omega arith, l .2, l .3, λ j g. turn-pop (turn (c .before .before .before .before .before) j g) (c .before .before .find .result) (c .before .before .find .ensures) (dull (c .before .before .before .before) j g) (c .enum-told .given .1))
+    let l = c .before .before .before .before .before .before .before .before .before .before .before .before .loop .inv in
+    (l .0, omega arith, l .2, l .3, λ z. top-read _ _ _ _ _ z (c .before .before .wide .ensures .0) (c .wide2 .ensures .0), popped (c .before .before .before .before .before))
+
+loop-less-2 : tie.Need-loop-less-2 Inv-loop μ-loop
+loop-less-2 c = omega arith
+
+loop-again-2 : tie.Need-loop-again-2 Inv-loop μ-loop
+loop-again-2 c =
+    let l = c .before .before .before .before .before .before .before .before .loop .inv in
+    (l .0, omega arith, l .2, l .3, λ z. absurd (omega (arith, c .if3 .left)), popped (c .before))
 
 push-requires-2 : tie.Need-push-requires-2 Inv-loop μ-loop
 push-requires-2 c κs =
-    let l = c .before .before .before .before .before .before .before .before .before .before .before .before .loop .inv in
-    let (j, h) = one (c .before .before .before .before .before .before .before .before .before .before .before .before .before .before .before) in
-    let e = c .before .before .cell .given in
-    let b = push-needs (turn (c .before .before .before .before .before .before .before) j h) (c .before .before .before .before .find .result) (c .before .before .before .before .find .ensures) (dull (c .before .before .before .before .before .before) j h) (e .0 .0) (e .0 .1 .0) (e .0 .1 .1 .0) (e .1) in
+    let l = c .before .before .before .before .before .before .before .before .before .loop .inv in
+    let b = room (c .before .before) in
     (l .2, l .0, b .0, b .1, b .2, b .3, b .4)
 
 add-depth : tie.Need-add-depth Inv-loop μ-loop
 add-depth c = omega arith
 
-loop-less-2 : tie.Need-loop-less-2 Inv-loop μ-loop
-loop-less-2 c =
-    let (j, h) = one (c .before .before .before .before .before .before .before .before .before .before .before .before .before .before .before .before .before .before) in
-    let e = c .before .before .before .before .before .cell .given in
-    omega (arith, turn-falls (turn (c .before .before .before .before .before .before .before .before .before .before) j h) (c .before .before .before .before .before .before .before .find .result) (c .before .before .before .before .before .before .before .find .ensures) (dull (c .before .before .before .before .before .before .before .before .before) j h) (e .0 .0) (e .0 .1 .0) (e .0 .1 .1 .0) (e .1) (c .before .before .push2 .last .0) (c .before .before .push2 .ensures))
+loop-less-3 : tie.Need-loop-less-3 Inv-loop μ-loop
+loop-less-3 c =
+    let (j, h) = one (c .before .before .before .before .before .before .before .before .before .before .before .before .before .before .before) in
+    let e = c .before .before .before .before .before .found .given in
+    omega (arith, turn-falls (turn (c .before .before .before .before .before .before .before .before .before .before .before) j h) (c .before .before .before .before .before .before .before .match .found) (answers (c .before .before .before .before .before .before .before)) (dull (c .before .before .before .before .before .before .before .before .before .before) j h) (e .0 .0) (e .0 .1 .0) (e .0 .1 .1 .0) (e .1) (c .before .before .push2 .last .0) (c .before .before .push2 .ensures))
 
-loop-again-2 : tie.Need-loop-again-2 Inv-loop μ-loop
-loop-again-2 c =
-    let l = c .before .before .before .before .before .before .before .before .before .before .before .before .before .before .before .loop .inv in
+loop-again-3 : tie.Need-loop-again-3 Inv-loop μ-loop
+loop-again-3 c =
+    let l = c .before .before .before .before .before .before .before .before .before .before .before .before .loop .inv in
     let p = c .before .before .push2 .ensures in
-    let (j, h) = one (c .before .before .before .before .before .before .before .before .before .before .before .before .before .before .before .before .before .before) in
-    let e = c .before .before .before .before .before .cell .given in
-    let b = push-needs (turn (c .before .before .before .before .before .before .before .before .before .before) j h) (c .before .before .before .before .before .before .before .find .result) (c .before .before .before .before .before .before .before .find .ensures) (dull (c .before .before .before .before .before .before .before .before .before) j h) (e .0 .0) (e .0 .1 .0) (e .0 .1 .1 .0) (e .1) in
-    (l .0, omega (arith, b .1), omega (arith, l .2, p .long), p .long ∙ l .3, λ j g. turn-push (turn (c .before .before .before .before .before .before .before .before .before .before) j g) (c .before .before .before .before .before .before .before .find .result) (c .before .before .before .before .before .before .before .find .ensures) (dull (c .before .before .before .before .before .before .before .before .before) j g) (e .0 .0) (e .0 .1 .0) (e .0 .1 .1 .0) (e .1) (c .before .before .push2 .last .0) p)
+    let e = c .before .before .before .before .before .found .given in
+    (l .0, omega (arith, room (c .before .before .before .before .before) .1), omega (arith, l .2, p .long), p .long ∙ l .3, λ z. top-pushed p, λ j h. turn-push (turn (c .before .before .before .before .before .before .before .before .before .before .before) j h) (c .before .before .before .before .before .before .before .match .found) (answers (c .before .before .before .before .before .before .before)) (dull (c .before .before .before .before .before .before .before .before .before .before) j h) (e .0 .0) (e .0 .1 .0) (e .0 .1 .1 .0) (e .1) (c .before .before .push2 .last .0) p)
 
 same-length-2 : tie.Need-same-length-2 Inv-loop μ-loop
 same-length-2 c = c .before .loop .inv .3 ∙ c .before .before .before .before .push .ensures .long
@@ -175,7 +213,7 @@ returns-2 : tie.Need-returns-2 Inv-loop μ-loop
 returns-2 c = λ j h.
     let l = c .before .loop in
     let p = c .before .before .before .before .push .ensures in
-    ends-none p h (l .store) (l .depth) (l .inv .4 j (begun p h)) (omega arith)
+    ends-none p h (l .store) (l .depth) (l .inv .5 j (begun p h)) (omega arith)
 
 pub search-spec : {M : Type 1} → statement M
 search-spec =
@@ -185,6 +223,16 @@ search-spec =
     μ-loop
     push-requires
     loop-holds
+    shared-slice-read-if2
+    same-length
+    returns
+    guess-requires
+    enum-told
+    find-requires
+    enum-told-2
+    enum-known-found
+    enum-told-3
+    sub-depth
     mul-wide
     add-wide
     sub-wide
@@ -195,18 +243,13 @@ search-spec =
     sub-wide-2
     slice-read-wide-2
     wide-requires-2
-    shared-slice-read-if2
-    same-length
-    returns
-    find-requires
-    enum-known-cell
-    enum-told
-    sub-depth
     loop-less
     loop-again
-    push-requires-2
-    add-depth
     loop-less-2
     loop-again-2
+    push-requires-2
+    add-depth
+    loop-less-3
+    loop-again-3
     same-length-2
     returns-2)
