@@ -1,3 +1,11 @@
-pub mod ChokeLaws
 pub mod ChokeWalks
+pub mod Numbers
+pub mod Ranges
+pub mod OrderLaws
+pub mod MemberLaws
+pub mod GrownLaws
+pub mod ClearedLaws
+pub mod ChainLaws
+pub mod LayerLaws
+pub mod StepLaws
 pub mod ChokeLayers

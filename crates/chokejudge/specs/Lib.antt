@@ -1,1 +1,3 @@
 pub mod ChokeLayers
+pub mod Grown
+pub mod Chains

@@ -1,20 +1,25 @@
 // Whether choke points are a true choke list in the order of the sheet: no walk reaches a call without standing on one of them.
+use crate::calls::chain;
+use crate::calls::meets;
+use crate::layer::choke;
+use crate::layer::grow;
+use crate::layer::place;
 use job::state::Job;
 use model::Limits;
-use model::bytes::wide;
 ghost use mathlib.Core.Path.{_≡_};
 ghost use mathlib.Core.Bool.{true};
 ghost use Prim.Native.Nat.{ℕ, _<_, _≤_};
 ghost use lib.ListN.{length, getD};
 ghost use Rattle.model.specs.Lists.{In};
-ghost use Rattle.model.specs.Limits.{maxCells, maxTracks, maxCarts, maxCalls};
+ghost use Rattle.model.specs.Limits.{maxCarts, maxCalls, maxSteps};
 ghost use Rattle.model.specs.Choke.{Point, point, Rises, ChokesInOrder};
 ghost use Rattle.model.specs.Ready.{Ready};
 ghost use Rattle.model.specs.ReadSheet.{knownPoint};
 ghost use Rattle.model.specs.Contracts.{RightChokes};
 ghost use Rattle.job.specs.Arrays.{jobOf, Sized};
 ghost use Rattle.job.specs.Held.{pointsOf, Decides};
-ghost use Rattle.chokejudge.specs.ChokeLayers.{Marks, Placed, Choked, Spread, Met};
+ghost use Rattle.chokejudge.specs.ChokeLayers.{Placed, Choked, Row, Layer, Met, Floor};
+ghost use Rattle.chokejudge.specs.Grown.{Climbs};
 
 // Whether a point stands before the next: by step, then by cell.
 fn rises(cell: u8, step: u8, next: u8, later: u8) -> bool
@@ -40,107 +45,59 @@ fn in_order(cells: &[u8], steps: &[u8], n: usize) -> bool
     true
 }
 
-// The cells of the carts at step 0.
-fn placed(starts: &[u8; Limits::CARTS], n: usize) -> [u8; Limits::CELLS]
-    requires { ⌜ n ≤ maxCarts ⌝ }
-    ensures { λ r. ⌜ Marks r (Placed (now (starts .entry)) n) ⌝ }
-{
-    let mut layer = [0u8; Limits::CELLS];
-    let mut i = 0;
-    while i < n {
-        let v = wide(starts[i]);
-        layer[v] = 1;
-        i += 1;
-    }
-    layer
-}
-
-// The cells of a layer that are no choke points at step t.
-fn cleared(
+// Whether a cart reaches a call at its deadline without having stood on a choke point.
+fn reaches<'a>(
+    near: &[u8],
+    start: &[u16],
+    degree: &[u16],
+    starts: &'a [u8; Limits::CARTS],
+    carts: usize,
+    lifts: &'a [u8; Limits::CALLS],
+    deadlines: &'a [u8; Limits::CALLS],
+    calls: usize,
+    last: usize,
     cells: &[u8],
     steps: &[u8],
     n: usize,
-    t: usize,
-    layer: [u8; Limits::CELLS],
-) -> [u8; Limits::CELLS]
-    requires { ⌜ (n ≤ length (now cells)) × (n ≤ length (now steps)) ⌝ }
-    ensures { λ r. ⌜ Marks r (λ v. (getD layer v 0 ≡ 1) × (Choked (now (cells .entry)) (now (steps .entry)) n t v → ⊥)) ⌝ }
-{
-    let mut left = layer;
-    let mut i = 0;
-    while i < n {
-        if wide(steps[i]) == t {
-            let v = wide(cells[i]);
-            left[v] = 0;
-        }
-        i += 1;
-    }
-    left
-}
-
-// The cells that a cart on a cell of the layer can be on one step later. Only the old layer is read, so that no cart goes along two tracks.
-fn spread<'a>(
-    from: &'a [u8; Limits::TRACKS],
-    to: &'a [u8; Limits::TRACKS],
-    n: usize,
-    layer: [u8; Limits::CELLS],
-) -> [u8; Limits::CELLS]
-    requires { ⌜ n ≤ maxTracks ⌝ }
-    ensures { λ r. ⌜ Marks r (Spread (now (from .entry)) (now (to .entry)) n layer) ⌝ }
-{
-    let mut next = layer;
-    let mut i = 0;
-    while i < n {
-        let a = wide(from[i]);
-        let b = wide(to[i]);
-        if layer[a] == 1 {
-            next[b] = 1;
-        }
-        if layer[b] == 1 {
-            next[a] = 1;
-        }
-        i += 1;
-    }
-    next
-}
-
-// Whether a call of deadline t is met by a cart that stood on no choke point.
-fn meets<'a>(
-    lifts: &'a [u8; Limits::CALLS],
-    deadlines: &'a [u8; Limits::CALLS],
-    n: usize,
-    t: usize,
-    layer: [u8; Limits::CELLS],
 ) -> bool
-    requires { ⌜ n ≤ maxCalls ⌝ }
-    ensures { λ r. ⌜ Decides r (Met (now (lifts .entry)) (now (deadlines .entry)) n t layer) ⌝ }
+    requires { ⌜ (carts ≤ maxCarts) × (calls ≤ maxCalls) × (last < maxSteps) × (n ≤ maxCalls) × (n ≤ length (now cells)) × (n ≤ length (now steps)) × Climbs (now steps) n × ((k : ℕ) → k < calls → getD (now deadlines) k 0 ≤ last) × ((floor : ℕ) × Floor floor (now near) (now start) (now degree) × ((k : ℕ) → k < carts → getD (now starts) k 0 < floor) × ((k : ℕ) → k < n → getD (now cells) k 0 < floor)) ⌝ }
+    ensures { λ r. ⌜ Decides r (Met (now (lifts .entry)) (now (deadlines .entry)) calls (Layer (Placed (now (starts .entry)) carts) (Row (now (near .entry)) (now (start .entry)) (now (degree .entry))) (Choked (now (cells .entry)) (now (steps .entry)) n))) ⌝ }
 {
-    let mut i = 0;
-    while i < n {
-        if wide(deadlines[i]) == t {
-            let v = wide(lifts[i]);
-            if layer[v] == 1 {
-                return true;
-            }
+    let mut latest = [0u8; Limits::STEPS];
+    let mut before = [0u8; Limits::CALLS];
+    chain(deadlines, calls, &mut latest, &mut before);
+    let mut since = [0u16; Limits::CELLS];
+    let mut queue = [0u8; Limits::CELLS + Limits::CALLS];
+    let mut head = 0;
+    let mut tail = place(starts, carts, &mut since, &mut queue);
+    let mut first = 0;
+    let mut end = choke(cells, steps, n, 0, 0, &mut since);
+    let mut t = 0;
+    while t <= last {
+        if meets(lifts, &latest, &before, t, &since) {
+            return true;
         }
-        i += 1;
+        t += 1;
+        let stamp = (t + 1) as u16;
+        let old = tail;
+        tail = grow(
+            near,
+            start,
+            degree,
+            cells,
+            first,
+            end,
+            &mut since,
+            &mut queue,
+            head,
+            tail,
+            stamp,
+        );
+        head = old;
+        first = end;
+        end = choke(cells, steps, n, t, first, &mut since);
     }
     false
-}
-
-// Whether two layers have the same cells. All are compared, since a loop that never leaves early is compiled to wide comparisons.
-fn same(a: [u8; Limits::CELLS], b: [u8; Limits::CELLS]) -> bool
-    ensures { λ r. ⌜ Decides r (a ≡ b) ⌝ }
-{
-    let mut apart = false;
-    let mut i = 0;
-    while i < Limits::CELLS {
-        if a[i] != b[i] {
-            apart = true;
-        }
-        i += 1;
-    }
-    !apart
 }
 
 pub fn is_choke_list(job: Job, cells: &[u8], steps: &[u8], n: usize) -> bool
@@ -151,22 +108,30 @@ pub fn is_choke_list(job: Job, cells: &[u8], steps: &[u8], n: usize) -> bool
         return false;
     }
     let last = job::size::horizon(&job.deadlines, job.calls);
-    let starts = placed(&job.starts, job.carts);
-    let mut layer = cleared(cells, steps, n, 0, starts);
-    // On most floors the layer soon stays the same, and what it spreads to with it.
-    let mut base = layer;
-    let mut ahead = spread(&job.from, &job.to, job.tracks, base);
-    let mut t = 0;
-    while t <= last {
-        if meets(&job.lifts, &job.deadlines, job.calls, t, layer) {
-            return false;
-        }
-        t += 1;
-        if !same(layer, base) {
-            ahead = spread(&job.from, &job.to, job.tracks, layer);
-            base = layer;
-        }
-        layer = cleared(cells, steps, n, t, ahead);
-    }
-    true
+    let mut near = [0u8; Limits::CELLS + 2 * Limits::TRACKS];
+    let mut start = [0u16; Limits::CELLS];
+    let mut degree = [0u16; Limits::CELLS];
+    network::tables::neighbours(
+        &job.from,
+        &job.to,
+        job.tracks,
+        job.cells,
+        &mut near,
+        &mut start,
+        &mut degree,
+    );
+    !reaches(
+        &near,
+        &start,
+        &degree,
+        &job.starts,
+        job.carts,
+        &job.lifts,
+        &job.deadlines,
+        job.calls,
+        last,
+        cells,
+        steps,
+        n,
+    )
 }

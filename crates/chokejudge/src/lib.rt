@@ -1,2 +1,4 @@
 // Whether choke points are a true choke list.
+pub mod calls;
 pub mod choke;
+pub mod layer;

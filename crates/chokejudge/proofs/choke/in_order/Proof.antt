@@ -3,7 +3,7 @@ use Rattle.model.specs.Choke.{Rises}
 use Prim.Native.Nat.{_-_, _<_, _≤_, ℕ}
 use native.Mathlib.Omega.{arith}
 use borrow.Author.Count.{below-more}
-use Rattle.chokejudge.proofs.ChokeLaws.{in-order, pointAt}
+use Rattle.chokejudge.proofs.OrderLaws.{in-order, pointAt}
 use Rattle.model.proofs.Basics.{nope}
 use borrow.Author.Tests.{not-false, not-true}
 use denote.Ref.{now}

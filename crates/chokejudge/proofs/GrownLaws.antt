@@ -1,0 +1,144 @@
+-- A table and its queue that grew: by nothing, by one cell, by two sets of cells one after the other. What was in the table before a stamp stays so while cells of that stamp
+-- are added. Assumes nothing.
+use Prim.Native.Nat.{ℕ, _+_, _≤_, _<_}
+use mathlib.Core.Path.{_≡_, refl, sym, _∙_, ap, subst}
+use mathlib.Core.List.{List}
+use mathlib.Core.Logic.{⊎-elim, _⊎_, _↔_, inl, inr}
+use native.Mathlib.Omega.{arith}
+use lib.ListN.{length, getD, set, length-set}
+use lib.Seq.{getD-set-same, getD-set-other}
+use Rattle.model.specs.Limits.{maxCells}
+use Rattle.job.specs.Held.{Some}
+use Rattle.network.proofs.TableLaws.{Entry, new, old, entry}
+use Rattle.chokejudge.specs.Grown.{Between, Older, Roomy, Grown}
+use Rattle.chokejudge.proofs.Numbers.{zero-or}
+use Rattle.chokejudge.proofs.Ranges.{some-more, between-more}
+use Rattle.chokejudge.proofs.MemberLaws.{members-le, members-room, members-add}
+
+pub in-queue : {l queue : List ℕ} {n : ℕ} → Roomy l queue n → n ≤ length queue
+in-queue {l} r = omega (arith, r .places, r .ends, r .cells, members-le l)
+
+pub grown-none : (s : ℕ) {P : ℕ → Type 0} (l queue : List ℕ) (n : ℕ) → ((v : ℕ) → P v → 0 < getD l v 0) → Grown s P l queue n l queue n
+grown-none s l queue n h = record {
+  cells = refl;
+  places = refl;
+  more = omega arith;
+  count = refl;
+  kept = λ v p. refl;
+  only = λ v e p. absurd (omega arith);
+  all = h;
+  front = λ k p. refl;
+}
+
+grown-one : (s : ℕ) (l queue : List ℕ) (n v : ℕ) → 0 < s → v < length l → n < length queue → getD l v 0 ≡ 0 → Grown s (λ x. x ≡ v) l queue n (set l v s) (set queue n v) (n + 1)
+grown-one s l queue n v p h g z = record {
+  cells = length-set l v s;
+  places = length-set queue n v;
+  more = omega arith;
+  count = omega (arith, members-add l v s h z p);
+  kept = λ x q. kept x q (entry l v s x h);
+  only = λ x e q. only x e q (entry l v s x h);
+  all = λ x e. rw e (omega (arith, getD-set-same l v s 0 h));
+  front = λ k q. getD-set-other queue n k v 0 (λ e. omega arith);
+}
+  where
+    kept : (x : ℕ) → 0 < getD l x 0 → Entry l v s x → getD (set l v s) x 0 ≡ getD l x 0
+    kept x q (new e f) = absurd (omega (arith, ap (λ y. getD l y 0) e))
+    kept x q (old e f) = f
+
+    only : (x : ℕ) → getD l x 0 ≡ 0 → 0 < getD (set l v s) x 0 → Entry l v s x → (getD (set l v s) x 0 ≡ s) × (x ≡ v) × Between (set queue n v) n (n + 1) x
+    only x e q (new d f) = (f, d, (n, omega arith, omega arith, getD-set-same queue n v 0 g ∙ sym d))
+    only x e q (old d f) = absurd (omega arith)
+
+-- One cell: it was in the table, or there is room for it.
+module _ (s : ℕ) (l queue : List ℕ) (n v c : ℕ) (same : c ≡ v) where
+  pub grown-had : (getD l c 0 ≡ 0 → ⊥) → Grown s (λ x. x ≡ v) l queue n l queue n
+  grown-had h = grown-none s l queue n (λ x e. ⊎-elim (λ z. absurd (h (ap (λ y. getD l y 0) (same ∙ sym e) ∙ z))) (λ p. p) (zero-or (getD l x 0)))
+
+  module _ (r : Roomy l queue n) (h : c < maxCells) (z : getD l c 0 ≡ 0) where
+    pub has-room : n < length queue
+    has-room = omega (arith, r .places, r .ends, r .cells, members-room l c (omega (arith, r .cells)) z)
+
+    pub grown-new : 0 < s → Grown s (λ x. x ≡ v) l queue n (set l c s) (set queue n v) (n + 1)
+    grown-new p = rw same (grown-one s l queue n v p (omega (arith, r .cells)) has-room (rw same at z))
+
+pub grown-as : {s : ℕ} {P Q : ℕ → Type 0} {l queue l′ queue′ : List ℕ} {n n′ : ℕ} → ((v : ℕ) → P v ↔ Q v) → Grown s P l queue n l′ queue′ n′ → Grown s Q l queue n l′ queue′ n′
+grown-as e g = record {
+  cells = g .cells;
+  places = g .places;
+  more = g .more;
+  count = g .count;
+  kept = g .kept;
+  only = λ v z p. let (a, b, d) = g .only v z p in (a, e v .0 b, d);
+  all = λ v q. g .all v (e v .1 q);
+  front = g .front;
+}
+
+module _ {s : ℕ} {P Q : ℕ → Type 0} {l queue l′ queue′ l″ queue″ : List ℕ} {n n′ n″ : ℕ} (g : Grown s P l queue n l′ queue′ n′) (h : Grown s Q l′ queue′ n′ l″ queue″ n″) where
+  then-only : (v : ℕ) → getD l v 0 ≡ 0 → 0 < getD l″ v 0 → (getD l′ v 0 ≡ 0) ⊎ (0 < getD l′ v 0) → (getD l″ v 0 ≡ s) × (P v ⊎ Q v) × Between queue″ n n″ v
+  then-only v z p (inl e) = let (a, b, (k, lo, hi, f)) = h .only v e p in (a, inr b, (k, omega (arith, g .more), hi, f))
+  then-only v z p (inr q) =
+      let (a, b, (k, lo, hi, f)) = g .only v z q in
+      (h .kept v q ∙ a, inl b, (k, lo, omega (arith, h .more), h .front k hi ∙ f))
+
+  pub grown-then : Grown s (λ v. P v ⊎ Q v) l queue n l″ queue″ n″
+  grown-then = record {
+    cells = h .cells ∙ g .cells;
+    places = h .places ∙ g .places;
+    more = omega (arith, g .more, h .more);
+    count = omega (arith, g .count, h .count);
+    kept = λ v p. h .kept v (omega (arith, g .kept v p)) ∙ g .kept v p;
+    only = λ v z p. then-only v z p (zero-or (getD l′ v 0));
+    all = λ v. ⊎-elim (λ p. let q = g .all v p in omega (arith, h .kept v q)) (λ q. h .all v q);
+    front = λ k p. h .front k (omega (arith, g .more)) ∙ g .front k p;
+  }
+
+module _ {s : ℕ} {P : ℕ → Type 0} {l queue l′ queue′ : List ℕ} {n n′ : ℕ} (g : Grown s P l queue n l′ queue′ n′) where
+  pub still-roomy : Roomy l queue n → Roomy l′ queue′ n′
+  still-roomy r = record { cells = g .cells ∙ r .cells; places = g .places ∙ r .places; ends = omega (arith, r .ends, g .count) }
+
+  pub older-same : (v : ℕ) → Older l′ s v ↔ Older l s v
+  older-same v = (λ o. there o (zero-or (getD l v 0)), λ o. (omega (arith, g .kept v (o .0), o .0), omega (arith, g .kept v (o .0), o .1)))
+    where
+      there : Older l′ s v → (getD l v 0 ≡ 0) ⊎ (0 < getD l v 0) → Older l s v
+      there (p, q) (inl e) = absurd (omega (arith, g .only v e p .0))
+      there (p, q) (inr h) = (h, omega (arith, g .kept v h))
+
+  pub older-some : (R : ℕ → Type 0) → ((x : ℕ) × R x × Older l′ s x) ↔ ((x : ℕ) × R x × Older l s x)
+  older-some R = (λ p. (p .0, p .1, older-same (p .0) .0 (p .2)), λ p. (p .0, p .1, older-same (p .0) .1 (p .2)))
+
+-- One entry more of a list.
+pub listed-more : (f : ℕ → ℕ) (i : ℕ) {s : ℕ} {l queue l′ queue′ l″ queue″ : List ℕ} {n n′ n″ : ℕ} → Grown s (λ v. Some i (λ k. f k ≡ v)) l queue n l′ queue′ n′
+    → Grown s (λ v. v ≡ f i) l′ queue′ n′ l″ queue″ n″ → Grown s (λ v. Some (i + 1) (λ k. f k ≡ v)) l queue n l″ queue″ n″
+listed-more f i g h = grown-as (λ v. (λ p. some-more (λ k. f k ≡ v) i .0 (⊎-elim (λ q. inl q) (λ e. inr (sym e)) p), λ p. ⊎-elim (λ q. inl q) (λ e. inr (sym e)) (some-more (λ k. f k ≡ v) i .1 p))) (grown-then g h)
+
+-- The cells that the entries of a list lead to, one entry more.
+pub each-more : (list : List ℕ) (S : ℕ → ℕ → Type 0) (a i : ℕ) → a ≤ i → {s : ℕ} {l queue l′ queue′ l″ queue″ : List ℕ} {n n′ n″ : ℕ}
+    → Grown s (λ v. (u : ℕ) × Between list a i u × S u v) l queue n l′ queue′ n′ → Grown s (S (getD list i 0)) l′ queue′ n′ l″ queue″ n″
+    → Grown s (λ v. (u : ℕ) × Between list a (i + 1) u × S u v) l queue n l″ queue″ n″
+each-more list S a i h g g′ = grown-as (λ v. (there v, back v)) (grown-then g g′)
+  where
+    there : (v : ℕ) → ((u : ℕ) × Between list a i u × S u v) ⊎ S (getD list i 0) v → (u : ℕ) × Between list a (i + 1) u × S u v
+    there v (inl (u, b, p)) = (u, between-more list a i u h .1 (inl b), p)
+    there v (inr p) = (getD list i 0, between-more list a i (getD list i 0) h .1 (inr refl), p)
+
+    back : (v : ℕ) → (u : ℕ) × Between list a (i + 1) u × S u v → ((u : ℕ) × Between list a i u × S u v) ⊎ S (getD list i 0) v
+    back v (u, b, p) = ⊎-elim (λ q. inl (u, q, p)) (λ e. inr (rw e p)) (between-more list a i u h .0 b)
+
+-- Entries that lead to themselves.
+pub themselves : (B R : ℕ → Type 0) {s : ℕ} {l queue l′ queue′ : List ℕ} {n n′ : ℕ} → Grown s (λ v. (u : ℕ) × B u × (R u × (v ≡ u))) l queue n l′ queue′ n′ → Grown s (λ v. B v × R v) l queue n l′ queue′ n′
+themselves B R g = grown-as (λ v. (λ p. let e = sym (p .2 .1) in (subst B e (p .1), subst R e (p .2 .0)), λ p. (v, p .0, (p .1, refl)))) g
+
+-- Some cells, and then what the older cells of the queue lead to: the queue has its old cells still, and those that are older are the same.
+pub both : (P : ℕ → Type 0) (S : ℕ → ℕ → Type 0) (head : ℕ) {s : ℕ} {l queue l′ queue′ l″ queue″ : List ℕ} {tail n′ n″ : ℕ} → Grown s P l queue tail l′ queue′ n′
+    → Grown s (λ v. (u : ℕ) × Between queue′ head tail u × (Older l′ s u × S u v)) l′ queue′ n′ l″ queue″ n″
+    → Grown s (λ v. P v ⊎ ((u : ℕ) × Between queue head tail u × (Older l s u × S u v))) l queue tail l″ queue″ n″
+both P S head {queue = queue} {queue′ = queue′} {tail = tail} g h = grown-as
+    (λ v. (⊎-elim (λ p. inl p) (λ p. inr (p .0, there (p .0) (p .1), (older-same g (p .0) .0 (p .2 .0), p .2 .1))), ⊎-elim (λ p. inl p) (λ p. inr (p .0, back (p .0) (p .1), (older-same g (p .0) .1 (p .2 .0), p .2 .1)))))
+    (grown-then g h)
+  where
+    there : (u : ℕ) → Between queue′ head tail u → Between queue head tail u
+    there u (k, lo, hi, e) = (k, lo, hi, sym (g .front k hi) ∙ e)
+
+    back : (u : ℕ) → Between queue head tail u → Between queue′ head tail u
+    back u (k, lo, hi, e) = (k, lo, hi, g .front k hi ∙ e)

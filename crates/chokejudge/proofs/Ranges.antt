@@ -1,0 +1,31 @@
+-- One entry more of a list, from its start or from a place in it. Assumes nothing.
+use Prim.Native.Nat.{ℕ, _+_, _≤_}
+use mathlib.Core.Path.{_≡_, subst}
+use mathlib.Core.List.{List}
+use mathlib.Core.Logic.{⊎-elim, _⊎_, _↔_, inl, inr}
+use native.Mathlib.Omega.{arith}
+use native.Mathlib.Nat.{eq-or-lt-of-le}
+use lib.ListN.{getD}
+use Rattle.job.specs.Held.{Some}
+use Rattle.chokejudge.specs.Grown.{Between}
+
+module _ (P : ℕ → Type 0) where
+  pub some-more : (n : ℕ) → (Some n P ⊎ P n) ↔ Some (n + 1) P
+  some-more n = (back, there)
+    where
+      there : Some (n + 1) P → Some n P ⊎ P n
+      there (k, h, p) = ⊎-elim (λ e. inr (subst P e p)) (λ l. inl (k, l, p)) (eq-or-lt-of-le {n = k} {m = n} (omega arith))
+
+      back : Some n P ⊎ P n → Some (n + 1) P
+      back (inl (k, h, p)) = (k, omega arith, p)
+      back (inr p) = (n, omega arith, p)
+
+pub between-more : (l : List ℕ) (a i v : ℕ) → a ≤ i → Between l a (i + 1) v ↔ (Between l a i v ⊎ (getD l i 0 ≡ v))
+between-more l a i v h = (there, back)
+  where
+    there : Between l a (i + 1) v → Between l a i v ⊎ (getD l i 0 ≡ v)
+    there (k, lo, hi, e) = ⊎-elim (λ f. inr (rw f at e)) (λ m. inl (k, lo, m, e)) (eq-or-lt-of-le {n = k} {m = i} (omega arith))
+
+    back : Between l a i v ⊎ (getD l i 0 ≡ v) → Between l a (i + 1) v
+    back (inl (k, lo, hi, e)) = (k, lo, omega arith, e)
+    back (inr e) = (i, h, omega arith, e)

@@ -1,0 +1,109 @@
+-- `rejoin` adds each of the points whose row has an older cell. Invariant: those from `first` to before k were looked at. What is older stays so, since only cells of this stamp
+-- are added. The measure is what is left of the points. Assumes nothing.
+use Rattle.chokejudge.specs.Grown.{Between, Grown, Older, Roomy}
+use mathlib.Core.List.{List}
+use Rattle.chokejudge.specs.ChokeLayers.{Row}
+use Prim.Native.Nat.{_-_, _≤_, ℕ}
+use mathlib.Core.Path.{_≡_}
+use native.Mathlib.Omega.{arith}
+use Rattle.chokejudge.proofs.GrownLaws.{each-more, grown-as, grown-none, older-some, still-roomy, themselves}
+use lib.ListN.{getD}
+use denote.Ref.{now}
+use mathlib.Core.Logic.{⊎-elim}
+use borrow.Author.Needs.{needs}
+use Rattle.chokejudge.proofs.layer.rejoin.Statement.{statement}
+use Rattle.chokejudge.proofs.layer.rejoin.Tie as tie
+
+-- u itself, where its row has an older cell
+abbrev Back : List ℕ → List ℕ → List ℕ → List ℕ → ℕ → ℕ → ℕ → Type 0
+Back near start degree l s u v = ((x : ℕ) × Row near start degree u x × Older l s x) × (v ≡ u)
+
+abbrev Inv-loop : tie.InvT-loop
+Inv-loop near start degree cells first end since₀ queue₀ tail stamp at₀ k₀ since queue at k = (first ≤ k) × (k ≤ end) × Grown stamp (λ v. (u : ℕ) × Between cells first k u × Back near start degree since₀ stamp u v) since₀ queue₀ tail since queue at × Roomy since queue at
+
+abbrev μ-loop : tie.MeasureT-loop
+μ-loop near start degree cells first end since₀ queue₀ tail stamp at₀ k₀ since queue at k = end - k
+
+loop-holds : tie.Need-loop-holds Inv-loop μ-loop
+loop-holds c =
+    let a = c .before .before .before .before .before .before .args in
+    (omega arith, c .before .before .before .before .before .before .pre .2, grown-none (a .stamp) (now (a .since)) (now (a .queue)) (a .tail) (λ v p. absurd (omega (arith, p .1 .1, p .1 .2))), c .before .before .before .before .before .before .pre .1)
+
+shared-slice-read-wide : tie.Need-shared-slice-read-wide Inv-loop μ-loop
+shared-slice-read-wide c = search needs
+
+wide-requires : tie.Need-wide-requires Inv-loop μ-loop
+wide-requires c κs = search needs
+
+borders-requires : tie.Need-borders-requires Inv-loop μ-loop
+borders-requires c κs = (c .before .before .before .before .loop .inv .3 .cells, rw (c .before .wide .ensures .0) (c .before .before .before .before .before .before .before .before .before .before .before .pre .4 (c .before .before .before .before .loop .k) (c .before .before .before .loop-test .taken)))
+
+shared-slice-read-add : tie.Need-shared-slice-read-add Inv-loop μ-loop
+shared-slice-read-add c = search needs
+
+add-requires : tie.Need-add-requires Inv-loop μ-loop
+add-requires c κs = (c .before .before .before .before .before .before .before .before .before .before .before .before .before .before .before .before .pre .0, c .before .before .before .before .before .before .before .before .before .loop .inv .3)
+
+add-k : tie.Need-add-k Inv-loop μ-loop
+add-k c = search needs
+
+loop-less : tie.Need-loop-less Inv-loop μ-loop
+loop-less c = search needs
+
+loop-again : tie.Need-loop-again Inv-loop μ-loop
+loop-again c =
+    let a = c .before .before .before .before .before .before .before .before .before .before .before .before .before .args in
+    let l = c .before .before .before .before .before .before .loop in
+    let g = l .inv .2 in
+    let e = c .before .before .before .wide .ensures .0 in
+    let b = rw e at (c .before .borders .ensures) in
+    let same = older-some g (Row (now (a .near)) (now (a .start)) (now (a .degree)) (getD (now (a .cells)) (l .k) 0)) in
+    ⊎-elim
+    (λ w. (
+      omega arith,
+      omega arith,
+      rw (w .9, w .10, w .11)
+          (each-more (now (a .cells)) (Back (now (a .near)) (now (a .start)) (now (a .degree)) (now (a .since)) (a .stamp)) (a .first) (l .k) (l .inv .0) g
+          (grown-as (λ v. (λ q. (same .0 (b .0 (w .0 .taken)), q), λ q. q .1)) (w .4 .ensures))),
+      rw (w .9, w .10, w .11) (still-roomy (w .4 .ensures) (l .inv .3)),
+    ))
+    (λ w. (
+      omega arith,
+      omega arith,
+      rw (w .1, w .2, w .3)
+          (each-more (now (a .cells)) (Back (now (a .near)) (now (a .start)) (now (a .degree)) (now (a .since)) (a .stamp)) (a .first) (l .k) (l .inv .0) g
+          (grown-none (a .stamp) (l .since) (l .queue) (l .at) (λ v q. absurd (b .1 (w .0 .left) (same .1 (q .0)))))),
+      rw (w .1, w .2, w .3) (l .inv .3),
+    ))
+    (c .if1 .came)
+
+same-length : tie.Need-same-length Inv-loop μ-loop
+same-length c = search needs
+
+same-length-2 : tie.Need-same-length-2 Inv-loop μ-loop
+same-length-2 c = search needs
+
+returns : tie.Need-returns Inv-loop μ-loop
+returns c =
+    let a = c .before .before .before .before .before .before .before .before .args in
+    let e : c .before .loop .k ≡ a .end = omega arith in
+    themselves (Between (now (a .cells)) (a .first) (a .end)) (λ u. (x : ℕ) × Row (now (a .near)) (now (a .start)) (now (a .degree)) u x × Older (now (a .since)) (a .stamp) x) (rw e at (c .before .loop .inv .2))
+
+pub rejoin-spec : {M : Type 1} → statement M
+rejoin-spec =
+    tie.close
+    (tie.spec
+    Inv-loop
+    μ-loop
+    loop-holds
+    shared-slice-read-wide
+    wide-requires
+    borders-requires
+    shared-slice-read-add
+    add-requires
+    add-k
+    loop-less
+    loop-again
+    same-length
+    same-length-2
+    returns)

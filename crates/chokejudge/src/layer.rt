@@ -1,0 +1,200 @@
+// The cells that a cart can be on at a step without having stood on a choke point: since[v] is one more than the step at which v was added, or 0. The cells that were
+// added stand in a queue, so that each is spread from once, at the next step.
+use model::Limits;
+use model::bytes::wide;
+ghost use mathlib.Core.Path.{_≡_};
+ghost use mathlib.Core.Logic.{_⊎_};
+ghost use Prim.Native.Nat.{ℕ, _+_, _<_, _≤_};
+ghost use lib.ListN.{length, getD};
+ghost use Rattle.model.specs.Limits.{maxCells, maxCarts};
+ghost use Rattle.job.specs.Held.{Decides};
+ghost use Rattle.chokejudge.specs.ChokeLayers.{Placed, Row, RowAt};
+ghost use Rattle.chokejudge.specs.Grown.{Between, Older, Again, Onward, Roomy, Grown, Climbs, Cursor, Cleared, members};
+
+// Adds v where it is not in the layer. Answers where the queue ends then.
+fn add(since: &mut [u16], queue: &mut [u8], tail: usize, v: u8, stamp: u16) -> usize
+    requires { ⌜ (0 < stamp) × Roomy (now since) (now queue) tail ⌝ }
+    ensures { λ r. ⌜ Grown stamp (λ x. x ≡ v) (now (since .entry)) (now (queue .entry)) tail (now (since .exit)) (now (queue .exit)) r ⌝ }
+{
+    let c = wide(v);
+    if since[c] != 0 {
+        return tail;
+    }
+    since[c] = stamp;
+    queue[tail] = v;
+    tail + 1
+}
+
+// Adds the cells of the carts to an empty layer.
+pub fn place(
+    starts: &[u8; Limits::CARTS],
+    carts: usize,
+    since: &mut [u16],
+    queue: &mut [u8],
+) -> usize
+    requires { ⌜ (carts ≤ maxCarts) × Roomy (now since) (now queue) 0 ⌝ }
+    ensures { λ r. ⌜ Grown 1 (Placed (now (starts .entry)) carts) (now (since .entry)) (now (queue .entry)) 0 (now (since .exit)) (now (queue .exit)) r ⌝ }
+{
+    let mut tail = 0;
+    for i in 0..carts {
+        tail = add(since, queue, tail, starts[i], 1);
+    }
+    tail
+}
+
+// Adds the cells of row c.
+fn spread(
+    near: &[u8],
+    start: &[u16],
+    degree: &[u16],
+    c: usize,
+    since: &mut [u16],
+    queue: &mut [u8],
+    tail: usize,
+    stamp: u16,
+) -> usize
+    requires { ⌜ (0 < stamp) × Roomy (now since) (now queue) tail × RowAt (now near) (now start) (now degree) c ⌝ }
+    ensures { λ r. ⌜ Grown stamp (Row (now (near .entry)) (now (start .entry)) (now (degree .entry)) c) (now (since .entry)) (now (queue .entry)) tail (now (since .exit)) (now (queue .exit)) r ⌝ }
+{
+    let first = start[c] as usize;
+    let n = degree[c] as usize;
+    let mut end = tail;
+    for i in 0..n {
+        end = add(since, queue, end, near[first + i], stamp);
+    }
+    end
+}
+
+// Whether an entry is that of a cell which was in the layer before this stamp.
+fn is_older(entry: u16, stamp: u16) -> bool
+    ensures { λ r. ⌜ Decides r ((0 < entry) × (entry < stamp)) ⌝ }
+{
+    if entry == 0 {
+        return false;
+    }
+    entry < stamp
+}
+
+// Whether row c has a cell that is older in the layer than this stamp.
+fn borders(near: &[u8], start: &[u16], degree: &[u16], c: usize, since: &[u16], stamp: u16) -> bool
+    requires { ⌜ (length (now since) ≡ maxCells) × RowAt (now near) (now start) (now degree) c ⌝ }
+    ensures { λ r. ⌜ Decides r ((x : ℕ) × Row (now (near .entry)) (now (start .entry)) (now (degree .entry)) c x × Older (now (since .entry)) stamp x) ⌝ }
+{
+    let first = start[c] as usize;
+    let n = degree[c] as usize;
+    for i in 0..n {
+        let x = wide(near[first + i]);
+        if is_older(since[x], stamp) {
+            return true;
+        }
+    }
+    false
+}
+
+// Adds the cells of the points from `first` to before `end` that an older cell leads to: they were choke points when it was spread from.
+fn rejoin(
+    near: &[u8],
+    start: &[u16],
+    degree: &[u16],
+    cells: &[u8],
+    first: usize,
+    end: usize,
+    since: &mut [u16],
+    queue: &mut [u8],
+    tail: usize,
+    stamp: u16,
+) -> usize
+    requires { ⌜ (0 < stamp) × Roomy (now since) (now queue) tail × (first ≤ end) × (end ≤ length (now cells)) × ((k : ℕ) → k < end → RowAt (now near) (now start) (now degree) (getD (now cells) k 0)) ⌝ }
+    ensures { λ r. ⌜ Grown stamp (Again (now (near .entry)) (now (start .entry)) (now (degree .entry)) (now (cells .entry)) first end (now (since .entry)) stamp) (now (since .entry)) (now (queue .entry)) tail (now (since .exit)) (now (queue .exit)) r ⌝ }
+{
+    let mut at = tail;
+    for k in first..end {
+        let c = wide(cells[k]);
+        if borders(near, start, degree, c, since, stamp) {
+            at = add(since, queue, at, cells[k], stamp);
+        }
+    }
+    at
+}
+
+// Adds what the older cells of the queue from `head` to before `end` lead to.
+fn advance(
+    near: &[u8],
+    start: &[u16],
+    degree: &[u16],
+    since: &mut [u16],
+    queue: &mut [u8],
+    head: usize,
+    end: usize,
+    tail: usize,
+    stamp: u16,
+) -> usize
+    requires { ⌜ (0 < stamp) × Roomy (now since) (now queue) tail × (head ≤ end) × (end ≤ tail) × ((v : ℕ) → Older (now since) stamp v → RowAt (now near) (now start) (now degree) v) ⌝ }
+    ensures { λ r. ⌜ Grown stamp (Onward (now (near .entry)) (now (start .entry)) (now (degree .entry)) (now (queue .entry)) head end (now (since .entry)) stamp) (now (since .entry)) (now (queue .entry)) tail (now (since .exit)) (now (queue .exit)) r ⌝ }
+{
+    let mut at = tail;
+    for i in head..end {
+        let u = wide(queue[i]);
+        if is_older(since[u], stamp) {
+            at = spread(near, start, degree, u, since, queue, at, stamp);
+        }
+    }
+    at
+}
+
+// The next layer but for its choke points. A cart may stand, so the cells of the layer stay, and only two kinds of cells can add to it: those added at the last step,
+// which stand in the queue from `head` on, and the choke points of the last step, from `first` to before `end`.
+pub fn grow(
+    near: &[u8],
+    start: &[u16],
+    degree: &[u16],
+    cells: &[u8],
+    first: usize,
+    end: usize,
+    since: &mut [u16],
+    queue: &mut [u8],
+    head: usize,
+    tail: usize,
+    stamp: u16,
+) -> usize
+    requires { ⌜ (0 < stamp) × Roomy (now since) (now queue) tail × (first ≤ end) × (end ≤ length (now cells)) × (head ≤ tail) × ((k : ℕ) → k < end → RowAt (now near) (now start) (now degree) (getD (now cells) k 0)) × ((v : ℕ) → Older (now since) stamp v → RowAt (now near) (now start) (now degree) v) ⌝ }
+    ensures { λ r. ⌜ Grown stamp (λ v. Again (now (near .entry)) (now (start .entry)) (now (degree .entry)) (now (cells .entry)) first end (now (since .entry)) stamp v ⊎ Onward (now (near .entry)) (now (start .entry)) (now (degree .entry)) (now (queue .entry)) head tail (now (since .entry)) stamp v) (now (since .entry)) (now (queue .entry)) tail (now (since .exit)) (now (queue .exit)) r ⌝ }
+{
+    let at = rejoin(
+        near,
+        start,
+        degree,
+        cells,
+        first,
+        end,
+        since,
+        queue,
+        tail,
+        stamp,
+    );
+    advance(near, start, degree, since, queue, head, tail, at, stamp)
+}
+
+// Takes the choke points of step t out, which begin at `first`. Answers where those of later steps begin.
+pub fn choke(
+    cells: &[u8],
+    steps: &[u8],
+    n: usize,
+    t: usize,
+    first: usize,
+    since: &mut [u16],
+) -> usize
+    requires { ⌜ (n ≤ length (now cells)) × (n ≤ length (now steps)) × (length (now since) ≡ maxCells) × Climbs (now steps) n × Cursor (now steps) n t first ⌝ }
+    ensures { λ r. ⌜ (first ≤ r) × Cursor (now (steps .entry)) n (t + 1) r × Cleared (Between (now (cells .entry)) first r) (now (since .entry)) (now (since .exit)) × (members (now (since .entry)) + first ≤ members (now (since .exit)) + r) ⌝ }
+{
+    let mut i = first;
+    while i < n {
+        if wide(steps[i]) != t {
+            return i;
+        }
+        let v = wide(cells[i]);
+        since[v] = 0;
+        i += 1;
+    }
+    i
+}
