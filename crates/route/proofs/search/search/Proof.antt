@@ -51,8 +51,8 @@ turn c j h = record {
   for = h;
   room = c .before .loop .inv .2;
   run = c .before .loop .inv .5 j h;
-  some = c .loop-test .taken;
-  top = c .before .loop .inv .4 (c .loop-test .taken);
+  some = omega (arith, c .loop-test .taken);
+  top = c .before .loop .inv .4 (omega (arith, c .loop-test .taken));
 }
 
 -- Past the test the position on top is no goal.
