@@ -57,7 +57,7 @@ module _ (k n : ℕ) (s : List ℕ) where
     trail-linked zero g ne = absurd (ne refl)
     trail-linked (suc t) g ne = record { known = g .inside .0; from-known = g .inside .1; fits = g .fits; room = g .room }
 
-    pub trailed-on : (t p : ℕ) → p ≡ cameFrom k n s c t → Trailed k n s row c t → (t ≡ 0 → ⊥) → Trailed k n s (set row t c) p (t - 1)
+    trailed-on : (t p : ℕ) → p ≡ cameFrom k n s c t → Trailed k n s row c t → (t ≡ 0 → ⊥) → Trailed k n s (set row t c) p (t - 1)
     trailed-on zero p e g ne = absurd (ne refl)
     trailed-on (suc t) p e g ne =
         let a : suc t - 1 ≡ t = omega arith in

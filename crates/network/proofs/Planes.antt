@@ -1,13 +1,10 @@
 -- Bytes of the store by plane and node: what a write changes, and that each known point has a place of its own below the number of nodes.
 -- Quotient and rest by the width of a plane (of a row of cells) say which it is. Assumes nothing.
 use Prim.Native.Nat.{ℕ, suc, _+_, _*_, _<_, _≤_}
-use mathlib.Core.Path.{_≡_, ap, refl}
-use mathlib.Core.Bool.{Bool, true, false, cond, _&&_}
+use mathlib.Core.Path.{_≡_, ap}
 use mathlib.Core.List.{List}
 use native.Mathlib.Nat.{mul-le-mul-right, suc-mul}
 use native.Mathlib.Omega.{arith}
-use borrow.Author.Tests.{eqb-true, eqb-false}
-use lib.Dec.{eqb}
 use lib.ListN.{length, set}
 use lib.Seq.{getD-set-same, getD-set-other}
 use Rattle.model.specs.Job.{Job, horizon}
@@ -41,15 +38,6 @@ module _ (k : ℕ) where
 
     pub at-other : (p v : ℕ) → i < k → v < k → (p ≡ q → v ≡ i → ⊥) → at k (set s (q * k + i) b) p v ≡ at k s p v
     at-other p v h l ne = getD-set-other s (q * k + i) (p * k + v) b 0 (λ e. let r = row-one p q v i l h e in ne (r .0) (r .1))
-
-    pub at-set : (p v : ℕ) → i < k → v < k → q * k + i < length s
-        → at k (set s (q * k + i) b) p v ≡ cond (eqb p q && eqb v i) b (at k s p v)
-    at-set p v h l r = go (eqb p q) refl (eqb v i) refl
-      where
-        go : (x : Bool) → eqb p q ≡ x → (y : Bool) → eqb v i ≡ y → at k (set s (q * k + i) b) p v ≡ cond (x && y) b (at k s p v)
-        go true e true f = let e′ = eqb-true p q e in let f′ = eqb-true v i f in rw (e′, f′) (at-same r)
-        go true e false f = at-other p v h l (λ _ g. eqb-false v i f g)
-        go false e y f = at-other p v h l (λ g _. eqb-false p q e g)
 
 module _ (j : Job) where
   pub idx-below : {x : Point} → Known j x → idx j x < nodes j

@@ -1,5 +1,4 @@
 -- Equations of points: `cc` does not look into a record, so these take one apart and put one together. Assumes nothing.
-use Prim.Native.Nat.{ℕ}
 use mathlib.Core.Path.{_≡_, ap}
 use native.Mathlib.Decide.{ℕ-discrete}
 use Rattle.model.specs.Choke.{Point, point}
@@ -10,9 +9,6 @@ point-cell e = ap (λ (x : Point). x .cell) e
 
 pub point-step : {x y : Point} → x ≡ y → x .step ≡ y .step
 point-step e = ap (λ (x : Point). x .step) e
-
-pub point-parts : {c c′ t t′ : ℕ} → point c t ≡ point c′ t′ → (c ≡ c′) × (t ≡ t′)
-point-parts e = (point-cell e, point-step e)
 
 pub point-eq : {x y : Point} → x .cell ≡ y .cell → x .step ≡ y .step → x ≡ y
 point-eq e f = λ i. point (e i) (f i)

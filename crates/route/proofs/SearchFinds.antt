@@ -64,9 +64,6 @@ module _ (n k : ℕ) (s due : List ℕ) (a t stamp : ℕ) where
   pub drop-free : getD s (t * n + a) 0 ≡ 0 → Dropped Found.Nothing
   drop-free e c u via b = absurd (b .1 (sym (place k s (t * n + a) 0 (t * n + a) (omega arith)) ∙ e))
 
-  pub drop-due : getD due a 0 ≡ t + 1 → Dropped Found.Nothing
-  drop-due e c u via b = absurd (b .2 e)
-
   module _ (ne : getD s (t * n + a) 0 ≡ 0 → ⊥) (nd : getD due a 0 ≡ t + 1 → ⊥) (y : ℕ) (ey : y ≡ getD s (2 * k + (t * n + a)) 0) where
     used : at k s 0 (t * n + a) ≡ 0 → ⊥
     used z = ne (place k s (t * n + a) 0 (t * n + a) (omega arith) ∙ z)

@@ -66,9 +66,6 @@ numeral-long n = go (ltb n 10) (ltb n 100)
     go false true = (omega arith, omega arith)
     go false false = (omega arith, omega arith)
 
-pub numeral-some : (n : ℕ) → 1 ≤ length (numeral n)
-numeral-some n = numeral-long n .0
-
 pub numeral-short : (n : ℕ) → length (numeral n) ≤ 3
 numeral-short n = numeral-long n .1
 
