@@ -16,7 +16,7 @@ use Rattle.network.specs.Graph.{graph}
 use Rattle.network.specs.Store.{nodes}
 use Rattle.network.specs.Links.{FlowIn, backLink, onLink}
 use Rattle.network.specs.Stand.{stoodBack, stoodOn}
-use Rattle.answer.specs.Trail.{linked, cameFrom, Linked, trail, Inside, Trailed, Gone}
+use Rattle.answer.specs.Trail.{linked, cameFrom, Linked, trail, Inside, Trailed}
 use Rattle.network.proofs.Points.{point-eq}
 use Rattle.network.proofs.Plans.{began, came}
 use Rattle.network.proofs.Calm.{stood-flow}
@@ -47,7 +47,7 @@ module _ (k n : ℕ) (s : List ℕ) where
   inside-known zero c h = h
   inside-known (suc t) c h = h .0
 
-  -- What `follow` writes at step 0, and what `stretch` needs later.
+  -- What `follow` needs and writes, at step 0 and later.
   module _ (row : List ℕ) (c : ℕ) where
     pub trail-zero : (t : ℕ) → t ≡ 0 → t < length row → (set row t c ≡ trail k n s c t ++ drop (t + 1) row) × (c ≡ getD (trail k n s c t) 0 0)
     trail-zero zero e h = (rw (add-one) (seam row 0 c h), refl)
@@ -57,7 +57,7 @@ module _ (k n : ℕ) (s : List ℕ) where
     trail-linked zero g ne = absurd (ne refl)
     trail-linked (suc t) g ne = record { known = g .inside .0; from-known = g .inside .1; fits = g .fits; room = g .room }
 
-    trailed-on : (t p : ℕ) → p ≡ cameFrom k n s c t → Trailed k n s row c t → (t ≡ 0 → ⊥) → Trailed k n s (set row t c) p (t - 1)
+    pub trailed-on : (t p : ℕ) → p ≡ cameFrom k n s c t → Trailed k n s row c t → (t ≡ 0 → ⊥) → Trailed k n s (set row t c) p (t - 1)
     trailed-on zero p e g ne = absurd (ne refl)
     trailed-on (suc t) p e g ne =
         let a : suc t - 1 ≡ t = omega arith in
@@ -69,32 +69,18 @@ module _ (k n : ℕ) (s : List ℕ) where
           long = simp length-set (omega (arith, g .long));
         })
 
-  -- What `stretch` keeps: one step further back, one cell more stands in the row.
-  module _ (row₀ : List ℕ) (c t : ℕ) where
-    pub gone-none : Trailed k n s row₀ c t → Gone k n s row₀ c t row₀ c t
-    gone-none g = record { rest = refl; first = refl; ahead = g }
-
-    pub gone-more : (row : List ℕ) (d m p : ℕ) → p ≡ cameFrom k n s d m → (m ≡ 0 → ⊥) → Gone k n s row₀ c t row d m → Gone k n s row₀ c t (set row m d) p (m - 1)
-    gone-more row d zero p e ne g = absurd (ne refl)
-    gone-more row d (suc m) p e ne g =
-        let a : suc m - 1 ≡ m = omega arith in
-        let b : m + 1 ≡ suc m = add-one m in
-        let f : suc m + 1 ≡ suc (suc m) = add-one (suc m) in
-        let q = cameFrom k n s d (suc m) in
-        let rest : trail k n s p (suc m - 1) ++ drop (suc m - 1 + 1) (set row (suc m) d) ≡ trail k n s d (suc m) ++ drop (suc m + 1) row =
-        rw (e, a, b, f, seam row (suc m) d (g .ahead .long)) (sym (append-snoc (trail k n s q m) d (drop (suc (suc m)) row))) in
-        let first : getD (trail k n s p (suc m - 1)) 0 0 ≡ getD (trail k n s d (suc m)) 0 0 = rw (e, a) (sym (earlier m d 0 (omega arith))) in
-        record {
-          rest = rest ∙ g .rest;
-          first = first ∙ g .first;
-          ahead = trailed-on row d (suc m) p e (g .ahead) ne;
-        }
-
-    -- What `follow` then has to do is the rest.
-    pub gone-all : (row row′ : List ℕ) (d low r : ℕ) → Gone k n s row₀ c t row d low
-        → (row′ ≡ trail k n s d low ++ drop (low + 1) row) × (r ≡ getD (trail k n s d low) 0 0)
-        → (row′ ≡ trail k n s c t ++ drop (t + 1) row₀) × (r ≡ getD (trail k n s c t) 0 0)
-    gone-all row row′ d low r g (e, f) = (e ∙ g .rest, f ∙ g .first)
+    pub trail-more : (t p r : ℕ) (row′ : List ℕ) → p ≡ cameFrom k n s c t → (t ≡ 0 → ⊥) → t < length row
+        → (row′ ≡ trail k n s p (t - 1) ++ drop (t - 1 + 1) (set row t c)) × (r ≡ getD (trail k n s p (t - 1)) 0 0)
+        → (row′ ≡ trail k n s c t ++ drop (t + 1) row) × (r ≡ getD (trail k n s c t) 0 0)
+    trail-more zero p r row′ e ne h g = absurd (ne refl)
+    trail-more (suc t) p r row′ e ne h (f, g) =
+        let a : suc t - 1 ≡ t = omega arith in
+        let b : t + 1 ≡ suc t = add-one t in
+        let d : suc t + 1 ≡ suc (suc t) = add-one (suc t) in
+        let q = cameFrom k n s c (suc t) in (
+          f ∙ rw (e, a, b, d, seam row (suc t) c h) (sym (append-snoc (trail k n s q t) c (drop (suc (suc t)) row))),
+          g ∙ rw (e, a) (sym (earlier t c 0 (omega arith))),
+        )
 
 module _ (j : Job) (s : List ℕ) (ok : FlowIn j s) where
   abbrev back : Point → Link Point

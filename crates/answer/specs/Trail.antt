@@ -1,10 +1,9 @@
 -- The way of a cart back from a cell at a step, as the store tells it. n is the number of cells, k that of nodes.
 use Prim.Native.Nat.{ℕ, zero, suc, _+_, _*_, _<_, _≤_}
-use mathlib.Core.Path.{_≡_}
 use mathlib.Core.List.{List, [], _∷_, _++_}
 use mathlib.Core.Bool.{cond}
 use lib.Dec.{eqb}
-use lib.ListN.{length, getD, drop}
+use lib.ListN.{length, getD}
 use Rattle.model.specs.Limits.{maxCells}
 
 -- where the flow has the cart on c at step t come from
@@ -40,9 +39,3 @@ pub record Trailed (k n : ℕ) (s row : List ℕ) (c t : ℕ) : Type 0 where
   pub fits : t * n + n ≤ k
   pub room : 4 * k ≤ length s
   pub long : t < length row
-
--- The cart on c at step t was followed back to the step `low`, where it is on d: the row came from row₀ and has its cells after that step.
-pub record Gone (k n : ℕ) (s row₀ : List ℕ) (c t : ℕ) (row : List ℕ) (d low : ℕ) : Type 0 where
-  pub rest : trail k n s d low ++ drop (low + 1) row ≡ trail k n s c t ++ drop (t + 1) row₀
-  pub first : getD (trail k n s d low) 0 0 ≡ getD (trail k n s c t) 0 0
-  pub ahead : Trailed k n s row d low

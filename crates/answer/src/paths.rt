@@ -2,14 +2,14 @@
 use model::Limits;
 use model::bytes::wide;
 ghost use mathlib.Core.Path.{_≡_};
-ghost use Prim.Native.Nat.{_+_, _<_, _≤_};
+ghost use Prim.Native.Nat.{_+_, _<_};
 ghost use mathlib.Core.List.{_++_};
 ghost use lib.ListN.{drop, getD};
 ghost use Rattle.model.specs.Job as model;
 ghost use Rattle.model.specs.Contracts.{RightPlan};
 ghost use Rattle.job.specs.Held.{Room, pathsOf};
 ghost use Rattle.answer.specs.Full.{FullFlow};
-ghost use Rattle.answer.specs.Trail.{cameFrom, Linked, trail, Trailed, Gone};
+ghost use Rattle.answer.specs.Trail.{cameFrom, Linked, trail, Trailed};
 
 // Where the cart on b at step t > 0 comes from. Two carts that would trade places both stand instead.
 fn came_from(store: &[u8], n: usize, k: usize, b: usize, t: usize) -> usize
@@ -28,47 +28,16 @@ fn came_from(store: &[u8], n: usize, k: usize, b: usize, t: usize) -> usize
     b
 }
 
-// How many steps a call of `follow` goes back at most: with a call for each, most returns would be deeper than those that a processor foresees.
-const STRETCH: usize = 16;
-
-// Follows the cart on c at step t back to the step `low`. Its cells at the steps after that go into the row; the cell at `low` is the answer.
-fn stretch(
-    store: &[u8],
-    n: usize,
-    k: usize,
-    row: &mut [u8],
-    c: usize,
-    t: usize,
-    low: usize,
-) -> usize
-    requires { ⌜ Trailed k n (now store) (now row) c t × (low ≤ t) ⌝ }
-    ensures { λ r. ⌜ Gone k n (now (store .entry)) (now (row .entry)) c t (now (row .exit)) r low ⌝ }
-{
-    let mut d = c;
-    let mut s = t;
-    while low < s {
-        row[s] = d as u8;
-        d = came_from(store, n, k, d, s);
-        s -= 1;
-    }
-    d
-}
-
 // Follows the cart on c at step t back to step 0. Its cells go into the row, and the first of them is the answer.
 fn follow(store: &[u8], n: usize, k: usize, row: &mut [u8], c: usize, t: usize) -> usize
     requires { ⌜ Trailed k n (now store) (now row) c t ⌝ }
     ensures { λ r. ⌜ (now (row .exit) ≡ trail k n (now (store .entry)) c t ++ drop (t + 1) (now (row .entry))) × (r ≡ getD (trail k n (now (store .entry)) c t) 0 0) ⌝ }
 {
+    row[t] = c as u8;
     if t == 0 {
-        row[t] = c as u8;
         return c;
     }
-    let mut low = 0;
-    if STRETCH < t {
-        low = t - STRETCH;
-    }
-    let d = stretch(store, n, k, row, c, t, low);
-    follow(store, n, k, row, d, low)
+    follow(store, n, k, row, came_from(store, n, k, c, t), t - 1)
 }
 
 // The job has n cells and k nodes. The carts' numbers go into first, the calls' into second, the cells of the i-th path into row i.
