@@ -1,43 +1,40 @@
--- A plan is a sharing out: every call has its path. Its paths are as many as the calls and no two have one call, so none is missed.
+-- A plan is a sharing out: every call has its path, and every cart too, where carts and calls are equal in number. The paths are as many and no two have one call or one
+-- cart, so none is missed.
 use Prim.Native.Nat.{ℕ, _≤_, _<_}
 use mathlib.Core.Path.{_≡_, refl, sym, _∙_}
 use mathlib.Core.List.{List, [], _∷_, map}
 use mathlib.Core.Logic.{inl, inr}
 use native.Mathlib.Omega.{arith}
 use lib.ListN.{length, getD}
-use Rattle.model.specs.Lists.{In}
+use Rattle.model.specs.Lists.{In, NoDup}
 use Rattle.model.specs.Job.{Job}
 use Rattle.model.specs.Plan.{Path, Plan}
-use Rattle.model.proofs.Lists.{in-getD, pigeon, place-of}
+use Rattle.model.proofs.Lists.{in-getD, in-unmap, pigeon, place-of}
 use Rattle.model.proofs.Decide.{dec-in, dec-eq}
 use Rattle.model.proofs.Listed.{below, length-below, in-below}
 
-in-unmap : (k : ℕ) (ps : List Path) → In k (map (λ p. p .call) ps) → (p : Path) × In p ps × (p .call ≡ k)
-in-unmap k [] h = absurd h
-in-unmap k (p ∷ ps) (inl e) = (p, inl refl, sym e)
-in-unmap k (p ∷ ps) (inr h) = let (q, m, e) = in-unmap k ps h in (q, inr m, e)
+-- n members whose numbers are below n, no two the same: a number below n, that of x, is the number of a member.
+every : {A : Type 0} (f : A → ℕ) (n : ℕ) (l : List A) → length l ≡ n → NoDup (map f l) → ((a : A) → In a l → f a < n)
+    → (x : A) → f x < n → (a : A) × In a l × (f a ≡ f x)
+every {A} f n l size own known x h = go (dec-in dec-eq (f x) (map f l))
+  where
+    go : Dec (In (f x) (map f l)) → (a : A) × In a l × (f a ≡ f x)
+    go (yes m) = in-unmap f (f x) l m
+    go (no out) = absurd (omega (arith, fits, length-below n))
+      where
+        small : (a : A) → In a (x ∷ l) → f a < n
+        small a (inl e) = rw e h
+        small a (inr m) = known a m
 
-all-cons : (x : Path) (ps : List Path) (P : Path → Type 0) → P x → ((p : Path) → In p ps → P p) → (p : Path) → In p (x ∷ ps) → P p
-all-cons x ps P h g p (inl e) = rw e h
-all-cons x ps P h g p (inr m) = g p m
+        fits : length (x ∷ l) ≤ length (below n)
+        fits = pigeon (λ i y. f (getD (x ∷ l) i x) ≡ y) (length (x ∷ l)) (below n)
+            (λ i k. (f (getD (x ∷ l) i x), in-below n (f (getD (x ∷ l) i x)) (small (getD (x ∷ l) i x) (in-getD (x ∷ l) i x k)), refl))
+            (λ a b y k m e g. place-of f (x ∷ l) (out, own) a b x k m (e ∙ sym g))
 
 pub every-call : (j : Job) (ps : List Path) → Plan j ps → (k : ℕ) → k < length (j .calls) → (p : Path) × In p ps × (p .call ≡ k)
-every-call j ps pl k h = go (dec-in dec-eq k (map (λ p. p .call) ps))
-  where
-    x : Path
-    x = record { cart = 0; call = k; cells = [] }
+every-call j ps pl k h =
+    every (λ p. p .call) (length (j .calls)) ps (pl .size) (pl .own-call) (λ p m. pl .leads p m .known-call) (record { cart = 0; call = k; cells = [] }) h
 
-    n : ℕ
-    n = length (j .calls)
-
-    go : Dec (In k (map (λ p. p .call) ps)) → (p : Path) × In p ps × (p .call ≡ k)
-    go (yes m) = in-unmap k ps m
-    go (no out) = absurd (omega (arith, fits, pl .size, length-below n))
-      where
-        small : (p : Path) → In p (x ∷ ps) → p .call < n
-        small = all-cons x ps (λ p. p .call < n) h (λ p m. pl .leads p m .known-call)
-
-        fits : length (x ∷ ps) ≤ length (below n)
-        fits = pigeon (λ i y. getD (x ∷ ps) i x .call ≡ y) (length (x ∷ ps)) (below n)
-            (λ i l. (getD (x ∷ ps) i x .call, in-below n (getD (x ∷ ps) i x .call) (small (getD (x ∷ ps) i x) (in-getD (x ∷ ps) i x l)), refl))
-            (λ a b y l m e f. place-of (λ p. p .call) (x ∷ ps) (out, pl .own-call) a b x l m (e ∙ sym f))
+pub every-cart : (j : Job) (ps : List Path) → length (j .carts) ≡ length (j .calls) → Plan j ps → (k : ℕ) → k < length (j .carts) → (p : Path) × In p ps × (p .cart ≡ k)
+every-cart j ps even pl k h =
+    every (λ p. p .cart) (length (j .carts)) ps (pl .size ∙ sym even) (pl .own-cart) (λ p m. pl .leads p m .known-cart) (record { cart = k; call = 0; cells = [] }) h

@@ -13,7 +13,7 @@ use Rattle.model.specs.Plan.{Path, Leads, Share, Trade, Plan}
 use Rattle.model.specs.Choke.{Point, point}
 use Rattle.model.specs.Ready.{Ready}
 use Rattle.model.proofs.Basics.{nope}
-use Rattle.model.proofs.Lists.{in-getD, in-map, place-of}
+use Rattle.model.proofs.Lists.{in-getD, in-map, in-unmap, one-of, place-of}
 use Rattle.flow.specs.Flow.{Link, off, end, to, Flow}
 use Rattle.flow.specs.Line.{Ranked, place, line}
 use Rattle.flow.proofs.Line.{line-apart}
@@ -51,19 +51,6 @@ module _ {j : Job} {back on : Point → Link Point} (ok : Flow (graph j) back on
       go (to u) e =
           let d = ok .edge v u e in
           (u, e, omega (arith, d .falls), d .known-before, λ f. nope (cc (ok .forth v u e, ok .off-prev u f)))
-
--- Members of one number are one.
-one-of : {A : Type 0} (f : A → ℕ) (l : List A) → NoDup (map f l) → (a b : A) → In a l → In b l → f a ≡ f b → a ≡ b
-one-of f [] nd a b h k e = absurd h
-one-of f (c ∷ l) nd a b (inl h) (inl k) e = h ∙ sym k
-one-of f (c ∷ l) nd a b (inl h) (inr k) e = absurd (nd .0 (rw (sym (ap f h) ∙ e) (in-map f b l k)))
-one-of f (c ∷ l) nd a b (inr h) (inl k) e = absurd (nd .0 (rw (sym (ap f k) ∙ sym e) (in-map f a l h)))
-one-of f (c ∷ l) nd a b (inr h) (inr k) e = one-of f l (nd .1) a b h k e
-
-in-unmap : {A : Type 0} (f : A → ℕ) (n : ℕ) (l : List A) → In n (map f l) → (a : A) × In a l × (f a ≡ n)
-in-unmap f n [] h = absurd h
-in-unmap f n (a ∷ l) (inl e) = (a, inl refl, sym e)
-in-unmap f n (a ∷ l) (inr h) = let (b, m, e) = in-unmap f n l h in (b, inr m, e)
 
 -- No number by g is twice, where members of one g have one f too.
 own-by : {A : Type 0} (f g : A → ℕ) (l : List A) → ((a b : A) → In a l → In b l → g a ≡ g b → f a ≡ f b) → NoDup (map f l) → NoDup (map g l)
