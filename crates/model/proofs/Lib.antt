@@ -11,6 +11,7 @@ pub mod Read
 pub mod Ready
 pub mod Agree
 pub mod Decisions
+pub mod OnFloor
 pub mod Every
 pub mod Filed
 pub mod Readings
