@@ -1,8 +1,10 @@
 //! How fast the library is. `./bench` at the top of the repository builds and runs it.
 //!
 //! For every job of every family, by turns in one process and in processor time of the thread: the planner's call, the
-//! baseline's, the wiping of the store alone, the check of the planner's sheet, and the max-flow libraries that are there.
+//! baseline's, the wiping of the store alone, the check of the planner's sheet, the max-flow libraries that are there, and
+//! with `--before OBJECT` both calls of a former library.
 
+mod before;
 mod clock;
 mod counts;
 mod families;
@@ -10,9 +12,11 @@ mod floors;
 mod measure;
 mod peers;
 mod report;
+mod shared;
 mod table;
 mod tight;
 
+use before::Before;
 use families::{renumbered, Size, FAMILIES, LIMITS, OPEN_GRID};
 use harness::gen::Rng;
 use harness::model::job::Job;
@@ -31,6 +35,7 @@ const WORDS: &str = "\
 - Peers: max flow on the network of cells and steps, from numbers instead of a text, building included, in the better direction:
   LEMON Preflow, igraph_maxflow_value, Boost push_relabel_max_flow, as their manuals have it. The best peer is that of each job.
   `lemon_static` is LEMON tuned by hand: a static graph, capacities that take no memory, only the cut where there is no plan.
+- before: a former library's calls, where `./bench --before ARCHIVE` names one.
 - Times are processor time of the thread, by turns in one process; the best of many runs counts.
 - A node is a cell at a step. A visit puts a position on the search's stack; a look is at one of its neighbours. Place kept: the
   looks, if each position on the stack kept its place in the neighbour list.
@@ -42,17 +47,22 @@ fn main() {
     let is_quick = words.iter().any(|w| w == "--quick");
     let effort = if is_quick { QUICK } else { FULL };
     let peers = peers::load(after("--peers").map_or("target/peers", |folder| folder));
+    let before = after("--before").map(|file| Before::load(file).expect("a shared object with the two calls"));
+    let measured = |name: &str, jobs: &[Job], peers: &[Peer]| Family {
+        name: name.into(),
+        jobs: jobs.iter().map(|job| measure(job, peers, before, effort)).collect(),
+    };
 
     let mut families = Vec::new();
     for family in FAMILIES.iter().filter(|f| after("--only").is_none_or(|name| f.name == name)) {
         eprintln!("{}", family.name);
         let plain = family.jobs(is_quick);
         let other: Vec<Job> = plain.iter().zip(1..).map(|(job, seed)| renumbered(job, &mut Rng::new(seed))).collect();
-        families.push(measured(family.name, &plain, &peers, effort));
-        families.push(measured(&format!("{}, renumbered", family.name), &other, &peers, effort));
+        families.push(measured(family.name, &plain, &peers));
+        families.push(measured(&format!("{}, renumbered", family.name), &other, &peers));
     }
     let at_limits: Vec<Job> = (0..6).map(|i| OPEN_GRID.job(LIMITS, i)).collect();
-    let open_grid = measured("open grid at the limits", &at_limits, &[], effort);
+    let open_grid = measured("open grid at the limits", &at_limits, &[]);
     let sizes: Vec<(Size, Family)> = SIDES.into_iter().map(of_side).collect();
 
     report::ratios(&families, &open_grid);
@@ -68,15 +78,12 @@ fn main() {
     report::growth(&sizes);
 }
 
-fn measured(name: &str, jobs: &[Job], peers: &[Peer], effort: Effort) -> Family {
-    Family { name: name.into(), jobs: jobs.iter().map(|job| measure(job, peers, effort)).collect() }
-}
-
 /// An open grid with a cart for each four cells, and as many steps as cells.
 fn of_side(side: usize) -> (Size, Family) {
     let size = Size { side, carts: side * side / 4, last: side * side - 1 };
     let jobs: Vec<Job> = (0..20).map(|i| OPEN_GRID.job(size, i)).collect();
-    (size, measured("", &jobs, &[], QUICK))
+    let jobs = jobs.iter().map(|job| measure(job, &[], None, QUICK)).collect();
+    (size, Family { name: String::new(), jobs })
 }
 
 fn listed(names: &[&str]) -> String {

@@ -8,6 +8,7 @@ use harness::model::answer::{unpack, PLAN};
 use harness::model::job::Job;
 use harness::model::limits::{sheet_least, store_least};
 
+use crate::before::Before;
 use crate::clock::timed;
 use crate::counts::{counts, Counts};
 use crate::peers::{Columns, Peer};
@@ -28,6 +29,9 @@ pub struct Figures {
     pub baseline: f64,
     pub memset: f64,
     pub check: f64,
+    /// Those of the library before: no number where there is none.
+    pub plan_before: f64,
+    pub check_before: f64,
     /// Each peer's, in its better direction.
     pub peers: Vec<f64>,
     /// The best of all peers, and the best of those used as their manuals have it: no number where there is none.
@@ -40,15 +44,15 @@ pub struct Figures {
 /// Runs this short are timed several at once.
 const SHORTEST: f64 = 200.0;
 
-pub fn measure(job: &Job, peers: &[Peer], effort: Effort) -> Figures {
+pub fn measure(job: &Job, peers: &[Peer], before: Option<Before>, effort: Effort) -> Figures {
     let text = job.text();
     let (mut store, mut sheet) = (vec![1u8; store_least(job)], vec![1u8; sheet_least(job)]);
     let answer = plan_into(&text, &mut store, &mut sheet);
     let (kind, len) = unpack(answer);
-    let written = sheet[..len].to_vec();
+    let mut written = sheet[..len].to_vec();
     let (library, keeping) = counts(&text, &mut store, &mut sheet, &written);
 
-    let mut best = [f64::MAX; 4];
+    let mut best = [f64::NAN; 6];
     let mut times = 1;
     for _ in 0..effort.rounds + 1 {
         let round = [
@@ -56,13 +60,17 @@ pub fn measure(job: &Job, peers: &[Peer], effort: Effort) -> Figures {
             timed(times, || assert_eq!(baseline::plan(&text, &mut store, &mut sheet) % 256, kind)),
             timed(times, || black_box(&mut store).fill(0)),
             timed(times, || assert_eq!(check(&text, &mut store, &written), kind)),
+            before.map_or(f64::NAN, |b| timed(times, || assert_eq!(b.plan(&text, &mut store, &mut sheet) % 256, kind))),
+            before.map_or(f64::NAN, |b| {
+                timed(times, || assert_eq!(b.check(&text, &mut store, &mut written) % 256, kind))
+            }),
         ];
         for (best, time) in best.iter_mut().zip(round) {
             *best = best.min(time);
         }
         times = (SHORTEST / best[0]).ceil() as usize;
     }
-    let [plan, baseline, memset, check] = best;
+    let [plan, baseline, memset, check, plan_before, check_before] = best;
     let served = |flow: usize| assert_eq!(flow == job.calls.len(), kind == PLAN, "a peer answers otherwise");
     let by_peer = by_peers(&Columns::of(job), peers, effort.peer_rounds, served);
     let plain = peers.iter().zip(&by_peer).filter(|(peer, _)| !peer.is_tuned).map(|(_, &time)| time);
@@ -73,6 +81,8 @@ pub fn measure(job: &Job, peers: &[Peer], effort: Effort) -> Figures {
         baseline,
         memset,
         check,
+        plan_before,
+        check_before,
         best: least(by_peer.iter().copied()),
         best_plain: least(plain),
         peers: by_peer,

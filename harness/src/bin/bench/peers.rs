@@ -1,15 +1,16 @@
 //! Max-flow libraries on the job's network: shared objects that `./bench` builds where the packages are installed.
 
-use std::ffi::{c_char, c_int, c_void, CString};
+use std::ffi::{c_int, c_void};
 
 use harness::model::job::Job;
+
+use crate::shared::function;
 
 pub const NAMES: [&str; 4] = ["lemon", "igraph", "boost", TUNED];
 
 /// Tuned by hand; the others are used as their manuals have it.
 const TUNED: &str = "lemon_static";
 
-const RTLD_NOW: c_int = 2;
 const M_TRIM_THRESHOLD: c_int = -1;
 const M_MMAP_THRESHOLD: c_int = -3;
 
@@ -29,8 +30,6 @@ struct Handed {
 type MaxFlow = unsafe extern "C" fn(*const Handed, c_int) -> c_int;
 
 extern "C" {
-    fn dlopen(file: *const c_char, flags: c_int) -> *mut c_void;
-    fn dlsym(library: *mut c_void, name: *const c_char) -> *mut c_void;
     fn mallopt(what: c_int, value: c_int) -> c_int;
 }
 
@@ -52,14 +51,10 @@ pub fn load(folder: &str) -> Vec<Peer> {
 }
 
 fn open(folder: &str, name: &'static str) -> Option<Peer> {
-    let file = std::fs::canonicalize(format!("{folder}/{name}.so")).ok()?;
-    let file = CString::new(file.to_str()?).ok()?;
+    let symbol = function(&format!("{folder}/{name}.so"), c"max_flow")?;
     // Safety: the object is one of harness/peers, where the symbol is such a function.
-    unsafe {
-        let library = dlopen(file.as_ptr(), RTLD_NOW);
-        let symbol = if library.is_null() { library } else { dlsym(library, c"max_flow".as_ptr()) };
-        (!symbol.is_null()).then(|| Peer { name, is_tuned: name == TUNED, max_flow: std::mem::transmute::<*mut c_void, MaxFlow>(symbol) })
-    }
+    let max_flow = unsafe { std::mem::transmute::<*mut c_void, MaxFlow>(symbol) };
+    Some(Peer { name, is_tuned: name == TUNED, max_flow })
 }
 
 /// The numbers of a job, one array a column.

@@ -39,6 +39,14 @@ fn of_tuned(f: &Figures) -> f64 {
     f.best / f.plan
 }
 
+fn of_before(f: &Figures) -> f64 {
+    f.plan / f.plan_before
+}
+
+fn of_check_before(f: &Figures) -> f64 {
+    f.check / f.check_before
+}
+
 fn visits(f: &Figures) -> f64 {
     f.library.visits as f64 / f.nodes as f64
 }
@@ -49,15 +57,18 @@ pub fn ratios(families: &[Family], open_grid: &Family) {
     let medians = |of: fn(&Figures) -> f64| families.iter().map(move |family| family.median(of));
     let mut table = Table::new(&["ratio", "asked", "measured"]);
     let mut row = |name: &str, asked: &str, value: f64| table.row([name.into(), asked.into(), shown(value, 2)]);
-    row("plan / baseline, geometric mean of the families", "at most 1.5", geometric_mean(medians(to_baseline)));
+    row("plan / baseline, geometric mean of the families", "at most 1.1", geometric_mean(medians(to_baseline)));
     row("plan / baseline, worst family", "at most 2", most(medians(to_baseline)));
     row("best peer / plan, geometric mean of the families", "at least 25", geometric_mean(medians(of_peer)));
     row("best peer / plan, worst job", "at least 2", least(all().map(of_peer)));
     row("best peer / plan with LEMON tuned, geometric mean", "", geometric_mean(medians(of_tuned)));
     row("best peer / plan with LEMON tuned, worst job", "", least(all().map(of_tuned)));
-    row("plan / memset, open grid at the limits", "at most 3", open_grid.median(to_memset));
+    row("plan / memset, open grid at the limits", "at most 1.7", open_grid.median(to_memset));
     row("check / plan, worst family", "at most 1", most(medians(of_check)));
     row("check / plan, worst job", "", most(all().map(of_check)));
+    row("plan / plan before, geometric mean of the families", "", geometric_mean(medians(of_before)));
+    row("plan / plan before, worst family", "", most(medians(of_before)));
+    row("check / check before, geometric mean of the families", "", geometric_mean(medians(of_check_before)));
     table.print();
 }
 
@@ -67,6 +78,7 @@ pub fn family_ratios(families: &[Family]) {
         "family",
         "plans",
         "plan / baseline",
+        "plan / before",
         "best peer / plan",
         "plan / memset",
         "check / plan",
@@ -76,13 +88,14 @@ pub fn family_ratios(families: &[Family]) {
     ];
     let mut table = Table::new(&head);
     for family in families {
-        let pair = |of: fn(&Figures) -> f64| format!("{:.2} {:.2}", family.median(of), family.most(of));
+        let pair = |of: fn(&Figures) -> f64| format!("{} {}", shown(family.median(of), 2), shown(family.most(of), 2));
         let plans = family.jobs.iter().filter(|f| f.is_plan).count();
         let per_visit = |looks: usize, f: &Figures| looks as f64 / f.library.visits as f64;
         table.row([
             family.name.clone(),
             format!("{plans} of {}", family.jobs.len()),
             pair(to_baseline),
+            pair(of_before),
             format!("{} {}", shown(family.median(of_peer), 1), shown(least(family.jobs.iter().map(of_peer)), 1)),
             pair(to_memset),
             pair(of_check),
