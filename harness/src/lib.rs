@@ -2,8 +2,9 @@
 //!
 //! `model` says what document 01 asks for; `ffi` calls the library between guard bytes; `gen` makes jobs and sheets;
 //! `compare` holds one call against the model. `faulty` is a second check, into which faults can be put to see that the
-//! comparison finds them; `painted` measures stacks. `child` runs programs, and `program` is where floorplan is. The
-//! tests themselves are in `tests/`, and `soak`, a program, tries as much as one has time for.
+//! comparison finds them; `painted` measures stacks. `child` runs programs: `program` is where floorplan is, `header` has
+//! one in C that uses the header. The tests themselves are in `tests/`, and `soak`, a program, tries as much as one has
+//! time for.
 
 pub mod child;
 pub mod compare;
@@ -11,6 +12,7 @@ pub mod examples;
 pub mod faulty;
 pub mod ffi;
 pub mod gen;
+pub mod header;
 pub mod model;
 pub mod painted;
 pub mod program;

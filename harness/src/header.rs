@@ -1,0 +1,95 @@
+//! The C header: the names in it, and a C program that says what they are and what the library answers to them.
+
+use std::collections::BTreeSet;
+use std::fs;
+use std::path::Path;
+use std::process::Command;
+
+use crate::child::{finish, piped, Ended};
+
+const ROOT: &str = concat!(env!("CARGO_MANIFEST_DIR"), "/..");
+
+/// The header without its comments.
+fn text() -> String {
+    let whole = fs::read_to_string(format!("{ROOT}/include/cartfloor.h")).expect("a header");
+    let mut parts = whole.split("/*");
+    let first = parts.next().unwrap_or_default().to_string();
+    let behind = |comment: &str| comment.split_once("*/").expect("the end of a comment").1.to_string();
+    parts.map(behind).fold(first, |all, part| all + " " + &part)
+}
+
+/// Words as C has them.
+pub fn words(text: &str) -> impl Iterator<Item = &str> {
+    text.split(|c: char| !c.is_ascii_alphanumeric() && c != '_').filter(|word| !word.is_empty())
+}
+
+/// Whether a word is a name of this library's.
+pub fn is_ours(word: &str) -> bool {
+    word.to_ascii_lowercase().starts_with("cartfloor_")
+}
+
+/// Every name that the header brings: what it defines, its enum constants, and whatever else is ours.
+pub fn names() -> BTreeSet<String> {
+    let text = text();
+    let all: Vec<&str> = words(&text).collect();
+    let defined = all.windows(2).filter(|pair| pair[0] == "define").map(|pair| pair[1]);
+    let enums = text.split("enum").skip(1).filter_map(|behind| behind.split(['{', '}']).nth(1));
+    let constants = enums.flat_map(words).filter(|word| !word.starts_with(|c: char| c.is_ascii_digit()));
+    let ours = all.iter().copied().filter(|word| is_ours(word));
+    defined.chain(constants).chain(ours).map(str::to_string).collect()
+}
+
+/// The names of a call's parameters, in the order of its prototype.
+pub fn parameters(call: &str) -> Vec<String> {
+    let text = text();
+    let (_, behind) = text.split_once(&format!("{call}(")).expect("a prototype");
+    let (list, _) = behind.split_once(')').expect("the end of a prototype");
+    list.split(',').map(|one| words(one).last().expect("a name").to_string()).collect()
+}
+
+/// A statement for `harness/header/rows.c`, and the line that it is to print.
+pub struct Row {
+    pub statement: String,
+    pub expected: String,
+}
+
+pub fn row(statement: impl Into<String>, expected: impl ToString) -> Row {
+    Row { statement: statement.into(), expected: expected.to_string() }
+}
+
+/// Builds the C program with these rows in a folder, runs it, and tells all that differs.
+pub fn assert_rows(folder: &str, name: &str, rows: &[Row]) {
+    let (file, program) = (format!("{folder}/{name}.rows"), format!("{folder}/{name}"));
+    let statements: String = rows.iter().map(|row| format!("{};\n", row.statement)).collect();
+    fs::write(&file, statements).expect("a file of rows");
+    build(&file, &program);
+    let printed = String::from_utf8(output(Command::new(&program))).expect("text");
+    assert_eq!(printed.lines().count(), rows.len(), "lines printed");
+    let differs = |(row, found): (&Row, &str)| {
+        let start: String = row.statement.chars().take(150).collect();
+        (found != row.expected).then(|| format!("{start}: {found}; expected {}", row.expected))
+    };
+    let faults: Vec<String> = rows.iter().zip(printed.lines()).filter_map(differs).collect();
+    assert!(faults.is_empty(), "\n{}", faults.join("\n"));
+}
+
+fn build(rows: &str, program: &str) {
+    let library = format!("{ROOT}/target/staticlib/libcartfloor.a");
+    assert!(Path::new(&library).is_file(), "there is no {library}: `rt staticlib cartfloor` builds it");
+    let mut gcc = Command::new("gcc");
+    gcc.args(["-std=c11", "-Wall", "-Wextra", "-Werror", "-O1", "-I", &format!("{ROOT}/include"), "-o", program]);
+    gcc.arg(format!("-DROWS=\"{rows}\""));
+    gcc.arg(format!("-DPLAN_ORDER={}", parameters("cartfloor_plan").join(",")));
+    gcc.arg(format!("-DCHECK_ORDER={}", parameters("cartfloor_check").join(",")));
+    gcc.args([&format!("{ROOT}/harness/header/rows.c"), &library]);
+    output(gcc);
+}
+
+/// What a command prints that must succeed.
+fn output(command: Command) -> Vec<u8> {
+    let name = format!("{:?}", command.get_program());
+    let child = piped(command).spawn().unwrap_or_else(|fault| panic!("{name}: {fault}"));
+    let Ended { status, out, err } = finish(child, Vec::new()).unwrap_or_else(|fault| panic!("{name}: {fault}"));
+    assert!(status.success(), "{name}: {status}\n{}", String::from_utf8_lossy(&err));
+    out
+}

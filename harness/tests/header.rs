@@ -1,0 +1,132 @@
+//! The numbers of the C header as a compiler sees them, and those of the definitions: both have to be document 01's.
+#![cfg(feature = "plan")]
+
+use std::collections::BTreeSet;
+use std::fs;
+
+use harness::header::{assert_rows, is_ours, names, row, words};
+
+const SPECS: &str = concat!(env!("CARGO_MANIFEST_DIR"), "/../crates/model/specs");
+
+/// What the header has for a C program to write down, and its number.
+const NUMBERS: [(&str, u64); 49] = [
+    ("CARTFLOOR_PLAN", 0),
+    ("CARTFLOOR_CANNOT", 1),
+    ("CARTFLOOR_TEXT_TOO_LONG", 2),
+    ("CARTFLOOR_BAD_LINE", 3),
+    ("CARTFLOOR_NO_NUMBER", 4),
+    ("CARTFLOOR_OUT_OF_RANGE", 5),
+    ("CARTFLOOR_TOO_MANY", 6),
+    ("CARTFLOOR_DOUBLED", 7),
+    ("CARTFLOOR_UNEVEN", 8),
+    ("CARTFLOOR_STORE_TOO_SHORT", 9),
+    ("CARTFLOOR_SHEET_TOO_SHORT", 10),
+    ("CARTFLOOR_BAD_SHEET", 11),
+    ("CARTFLOOR_WRONG_SHEET", 12),
+    ("CARTFLOOR_CELLS_MAX", 256),
+    ("CARTFLOOR_TRACKS_MAX", 512),
+    ("CARTFLOOR_CARTS_MAX", 64),
+    ("CARTFLOOR_CALLS_MAX", 64),
+    ("CARTFLOOR_DEADLINE_MAX", 255),
+    ("CARTFLOOR_TEXT_MAX", 16_384),
+    // (H + 1) × 32 × (cells + 2 × tracks) + 4,096.
+    ("CARTFLOOR_STORE_LEAST(0, 1, 0)", 4128),
+    ("CARTFLOOR_STORE_LEAST(1, 3, 2)", 4544),
+    ("CARTFLOOR_STORE_LEAST(0 + 1, 1 + 2, 1 + 1)", 4544),
+    ("CARTFLOOR_STORE_LEAST(9, 192, 0)", 65_536),
+    ("CARTFLOOR_STORE_LEAST(127, 13, 1)", 65_536),
+    ("CARTFLOOR_STORE_LEAST(16, 113, 0)", 65_568),
+    ("CARTFLOOR_STORE_LEAST(255, 256, 512)", 10_489_856),
+    ("CARTFLOOR_STORE_MOST", 10_489_856),
+    ("2 * CARTFLOOR_STORE_MOST", 20_979_712),
+    // carts × (4 × (H + 1) + 16) + 64.
+    ("CARTFLOOR_SHEET_LEAST(0, 0)", 64),
+    ("CARTFLOOR_SHEET_LEAST(255, 0)", 64),
+    ("CARTFLOOR_SHEET_LEAST(0, 1)", 84),
+    ("CARTFLOOR_SHEET_LEAST(1, 2)", 112),
+    ("CARTFLOOR_SHEET_LEAST(0 + 1, 1 + 1)", 112),
+    ("CARTFLOOR_SHEET_LEAST(29, 64)", 8768),
+    ("CARTFLOOR_SHEET_LEAST(255, 64)", 66_624),
+    ("CARTFLOOR_SHEET_MOST", 66_624),
+    ("2 * CARTFLOOR_SHEET_MOST", 133_248),
+    // The lowest byte, and the rest.
+    ("CARTFLOOR_ANSWER(0)", 0),
+    ("CARTFLOOR_ANSWER(256 * 514 + 6)", 6),
+    ("CARTFLOOR_ANSWER(0x100 | 0x0b)", 11),
+    ("CARTFLOOR_ANSWER(UINT64_C(0x0123456789abcdef))", 0xef),
+    ("CARTFLOOR_ANSWER(UINT64_MAX)", 255),
+    ("CARTFLOOR_VALUE(0)", 0),
+    ("CARTFLOOR_VALUE(255)", 0),
+    ("CARTFLOOR_VALUE(256 * 514 + 6)", 514),
+    ("CARTFLOOR_VALUE(0x100 | 0x0b)", 1),
+    ("CARTFLOOR_VALUE(UINT64_C(0x0123456789abcdef))", 0x0001_2345_6789_abcd),
+    ("CARTFLOOR_VALUE(UINT64_MAX)", 0x00ff_ffff_ffff_ffff),
+    ("sizeof CARTFLOOR_VALUE(0)", 8),
+];
+
+/// The guard of the header, and the calls, which `header_calls.rs` holds.
+const NO_NUMBERS: [&str; 3] = ["CARTFLOOR_H", "cartfloor_plan", "cartfloor_check"];
+
+#[test]
+fn every_name_of_the_header_has_a_row() {
+    let in_rows = NUMBERS.iter().flat_map(|(expression, _)| words(expression)).filter(|word| is_ours(word));
+    let held: BTreeSet<String> = in_rows.chain(NO_NUMBERS).map(str::to_string).collect();
+    let found = names();
+    let unheld: Vec<_> = found.difference(&held).collect();
+    let missing: Vec<_> = held.difference(&found).collect();
+    assert!(unheld.is_empty() && missing.is_empty(), "no row for {unheld:?}, not in the header: {missing:?}");
+}
+
+#[test]
+fn every_number_as_a_compiler_sees_it() {
+    let rows = NUMBERS.map(|(expression, number)| row(format!("number({expression})"), number));
+    assert_rows(env!("CARGO_TARGET_TMPDIR"), "numbers", &rows);
+}
+
+/// The lines of the definitions that give these numbers. Here they stand once more as they are there, so that a changed
+/// one is looked at together with the header.
+const LINES: [(&str, &str); 24] = [
+    ("Limits", "maxCells = 256"),
+    ("Limits", "maxTracks = 512"),
+    ("Limits", "maxCarts = 64"),
+    ("Limits", "maxCalls = 64"),
+    // A deadline is below this.
+    ("Limits", "maxSteps = 256"),
+    ("Limits", "maxText = 16384"),
+    ("Job", "storeLeast j = (horizon j + 1) * 32 * (j .cells + 2 * length (j .tracks)) + 4096"),
+    ("Job", "sheetLeast j = length (j .carts) * (4 * (horizon j + 1) + 16) + 64"),
+    ("ReadJob", "readJob s = cond (ltb maxText (length s)) (refused 2 0) (linesSay noJob 1 (linesOf s))"),
+    ("ReadJob", FIELDS_SAY),
+    ("ReadJob", "(wrong 3))))"),
+    ("ReadJob", "linesSay j n cut = refused 3 n"),
+    ("ReadJob", "numbersSay j k none = wrong 4"),
+    ("ReadJob", NUMBERS_SAY),
+    ("ReadJob", WHOLE_JOB),
+    ("Contracts", "withStore n (accepted j) = cond (ltb n (storeLeast j)) (refused 9 0) (accepted j)"),
+    ("Contracts", "withRoom n (accepted j) = cond (ltb n (sheetLeast j)) (refused 10 0) (accepted j)"),
+    ("Contracts", "((ps : List Path) × RightPlan j ps × (b ≡ planText ps) × (r ≡ 0 + 256 * length b))"),
+    ("Contracts", WRITTEN_CANNOT),
+    ("Contracts", "Told (refused k l) r b = (r ≡ k + 256 * l) × (b ≡ [])"),
+    ("Contracts", "Decided (refused k l) sheet r = r ≡ k + 256 * l"),
+    ("Contracts", "Judged j (bad l) r = r ≡ 11 + 256 * l"),
+    ("Contracts", "Judged j (plan ps) r = (RightPlan j ps × (r ≡ 0)) ⊎ ((RightPlan j ps → ⊥) × (r ≡ 12))"),
+    ("Contracts", "Judged j (cannot xs) r = (RightChokes j xs × (r ≡ 1)) ⊎ ((RightChokes j xs → ⊥) × (r ≡ 12))"),
+];
+
+const FIELDS_SAY: &str = "fieldsSay j k fs = \
+    cond (mayFollow j k && eqb (length fs) (fieldCount k)) (numbersSay j k (numbersOf fs)) (wrong 3)";
+const NUMBERS_SAY: &str = "cond (inRange j k a b) \
+    (cond (hasRoom j k) (cond (isNew j k a b) (right (add j k a b)) (wrong 7)) (wrong 6)) (wrong 5)";
+const WHOLE_JOB: &str = "wholeJob j n = cond (eqb (j .cells) 0) (refused 3 n) \
+    (cond (eqb (length (j .carts)) (length (j .calls))) (accepted j) (refused 8 0))";
+const WRITTEN_CANNOT: &str = "⊎ ((xs : List Point) × RightChokes j xs × (b ≡ cannotText xs) × \
+    (r ≡ 1 + 256 * length b) × ((ps : List Path) → Plan j ps → ⊥))";
+
+#[test]
+fn the_definitions_have_these_numbers() {
+    for (name, line) in LINES {
+        let file = format!("{SPECS}/{name}.antt");
+        let text = fs::read_to_string(&file).expect("a file of definitions");
+        assert!(text.lines().any(|found| found.trim() == line), "no line {line:?} in {file}");
+    }
+}
