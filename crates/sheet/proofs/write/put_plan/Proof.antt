@@ -23,7 +23,7 @@ use Rattle.sheet.proofs.write.put_plan.Tie as tie
 
 abbrev Inv-loop : tie.InvT-loop
 Inv-loop carts calls rows out₀ job n p₀ k₀ out p k =
-    (k ≤ n) × (p + (n - k) * share (jobOf job) ≤ length out) × (length out ≡ length out₀) × Wrote out₀ p₀ (linesText pathWord pathNumbers (pathsTo (jobOf job) carts calls rows k)) out p
+    (k ≤ n) × (p + (job .calls - k) * share (jobOf job) ≤ length out) × (length out ≡ length out₀) × Wrote out₀ p₀ (linesText pathWord pathNumbers (pathsTo (jobOf job) carts calls rows k)) out p
 
 abbrev μ-loop : tie.MeasureT-loop
 μ-loop carts calls rows out₀ job n p₀ k₀ out p k = n - k
@@ -126,14 +126,15 @@ loop-again c =
     let last = c .before .before .before .before .before .before .before .wide2 in
     let cart = c .before .before .before .before .wide3 in
     let w = c .before .before .put-path in
-    let h : l .k < j .calls = c .before .before .before .before .before .before .before .before .before .before .before .loop-test .taken in
+    let t = c .before .before .before .before .before .before .before .before .before .before .before .loop-test .taken in
+    let h : l .k < j .calls = omega (arith, t) in
     let g = long j (s .good .0 .0) (s .good .0 .1 .1) in
     let a = l .k * maxSteps in
     let e = a + last .result + 1 in
     let d = call-deadline j (s .pre .1) g carts calls rows (s .pre .3) (l .k) (call .result) h (call .ensures .0) ∙ sym (last .ensures .0) in
     let x = wrote-path (jobOf j) carts calls rows (l .k) (cart .result) (call .result) (last .result) a e (cart .ensures .0) (call .ensures .0) d refl refl (w .ensures) in
     let b = path-room (jobOf j) carts calls rows (l .k) (cart .result) (call .result) (last .result) a e (cart .ensures .0) (call .ensures .0) d refl refl in (
-      omega arith,
+      omega (arith, t),
       rw (w .kept .0) (room-rest (share (jobOf j)) (l .k) (j .calls) (l .p) (length (l .out)) h (l .inv .1) (w .result) (omega (arith, w .ensures .next))),
       w .kept .0 ∙ l .inv .2,
       rw add-one (wrote-lines pathWord pathNumbers (pathsTo (jobOf j) carts calls rows (l .k)) (pathAt (jobOf j) carts calls rows (l .k)) (l .inv .3) x),
