@@ -1,9 +1,10 @@
 -- `borders` looks at each cell of row c. Invariant: none of the first i is older than the stamp. The measure is what is left of the row. Assumes nothing.
+use mathlib.Core.Bool.{cond}
 use borrow.Author.Count.{below-more}
 use Rattle.model.proofs.Basics.{nope}
 use Rattle.chokejudge.specs.Grown.{Older}
 use Prim.Native.Nat.{_+_, _-_, _<_, _≤_, ℕ}
-use mathlib.Core.Path.{sym}
+use mathlib.Core.Path.{sym, ap}
 use native.Mathlib.Omega.{arith}
 use lib.ListN.{getD}
 use borrow.Author.Needs.{needs}
@@ -58,7 +59,7 @@ is-older-requires c κs = search needs
 returns : tie.Need-returns Inv-loop μ-loop
 returns c =
     let e = c .before .before .before .wide .ensures .0 in
-    (λ z. (c .before .before .before .wide .result, (c .before .before .before .before .before .before .loop .i, omega arith, sym e), c .before .is-older .ensures .0 (c .if1 .taken)), λ z. nope (cc))
+    (λ z. (c .before .before .before .wide .result, (c .before .before .before .before .before .before .loop .i, omega arith, sym e), c .before .is-older .ensures .0 (c .if1 .taken)), λ z. nope (ap (λ b. cond b 0 1) z))
 
 add-i : tie.Need-add-i Inv-loop μ-loop
 add-i c = search needs

@@ -4,6 +4,7 @@ use mathlib.Core.Path.{_∙_, ap, sym}
 use borrow.Author.Tests.{not-false, not-true}
 use denote.Ref.{now}
 use mathlib.Core.List.{[], _∷_}
+use native.Mathlib.Omega.{arith}
 use Rattle.model.proofs.Words.{opens-long}
 use Rattle.sheet.proofs.FormNumbers.{to-end}
 use Rattle.sheet.specs.FormParts.{onlyRead}
@@ -47,13 +48,13 @@ returns-3 : tie.Need-returns-3
 returns-3 c =
     let b = sym (c .before .before .before .before .before .before .before .opens-with .ensures) ∙ not-false (c .before .before .before .before .before .before .before .opens-with .result) (c .before .before .before .before .before .before .if1 .left) in
     let v = c .before .before .value .given in
-    cannot-high (c .before .before .before .before .before .before .before .before .before .before .args .calls) (now (c .before .before .before .before .before .before .before .before .before .before .args .line)) b _ (to-end 7 (now (c .before .before .before .before .before .before .before .before .before .before .args .line))) (v .0 .0) (sym (c .before .before .before .before .only-number .ensures) ∙ ap onlyRead (v .1)) (c .if2 .taken)
+    cannot-high (c .before .before .before .before .before .before .before .before .before .before .args .calls) (now (c .before .before .before .before .before .before .before .before .before .before .args .line)) b _ (to-end 7 (now (c .before .before .before .before .before .before .before .before .before .before .args .line))) (v .0 .0) (sym (c .before .before .before .before .only-number .ensures) ∙ ap onlyRead (v .1)) (omega (arith, c .if2 .taken))
 
 returns-4 : tie.Need-returns-4
 returns-4 c =
     let b = sym (c .before .before .before .before .before .before .before .opens-with .ensures) ∙ not-false (c .before .before .before .before .before .before .before .opens-with .result) (c .before .before .before .before .before .before .if1 .left) in
     let v = c .before .before .value .given in
-    cannot-good (c .before .before .before .before .before .before .before .before .before .before .args .calls) (now (c .before .before .before .before .before .before .before .before .before .before .args .line)) b _ (to-end 7 (now (c .before .before .before .before .before .before .before .before .before .before .args .line))) (v .0 .0) (sym (c .before .before .before .before .only-number .ensures) ∙ ap onlyRead (v .1)) (c .if2 .left)
+    cannot-good (c .before .before .before .before .before .before .before .before .before .before .args .calls) (now (c .before .before .before .before .before .before .before .before .before .before .args .line)) b _ (to-end 7 (now (c .before .before .before .before .before .before .before .before .before .before .args .line))) (v .0 .0) (sym (c .before .before .before .before .only-number .ensures) ∙ ap onlyRead (v .1)) (omega (arith, c .if2 .left))
 
 pub cannot-line-spec : {M : Type 1} → statement M
 cannot-line-spec =
