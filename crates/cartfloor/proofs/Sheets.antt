@@ -18,7 +18,7 @@ use Rattle.model.specs.Choke.{Point, point, TrueChokes}
 use Rattle.model.specs.SheetText.{linesText, pathNumbers, chokeNumbers, planText, cannotText}
 use Rattle.model.specs.Contracts.{RightPlan, RightChokes}
 use Rattle.model.proofs.Lists.{in-getD}
-use Rattle.model.proofs.Weak.{weak}
+use Rattle.model.proofs.Contrary.{weak}
 use Rattle.job.specs.Held.{pointsOf}
 use Rattle.job.proofs.Pairs.{pairs-count}
 use Rattle.text.specs.Wrote.{Wrote}

@@ -16,7 +16,7 @@ use Rattle.model.specs.ReadSheet.{Sheet, bad, plan, cannot, readSheet}
 use Rattle.model.specs.Bytes.{bytes}
 use Rattle.model.specs.Contracts.{Told, Decided, Judged, Answers, RightPlan, RightChokes, planVerdict, checkVerdict, storeAfter, zeros, Planned, Checked}
 use Rattle.model.specs.Filed.{Row, Outcome, wrote, refuses, plans, checks, Holds, packed, written, leaves, filed}
-use Rattle.model.proofs.Weak.{weak}
+use Rattle.model.proofs.Contrary.{weak}
 use Rattle.model.proofs.Decide.{decided, dec-and, dec-or, dec-eq, dec-list, dec-not, all-in, any-in}
 use Rattle.model.proofs.Every.{allPlans, allChokes, plan-listed, chokes-listed}
 use Rattle.model.proofs.Decisions.{dec-right-plan, dec-right-chokes}

@@ -1,7 +1,7 @@
 pub mod Basics
 pub mod Lists
 pub mod Words
-pub mod Weak
+pub mod Contrary
 pub mod Decide
 pub mod Listed
 pub mod Sharing
