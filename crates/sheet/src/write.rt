@@ -23,7 +23,7 @@ ghost use Rattle.job.specs.Held.{Room, pathsOf, pointsOf};
 // The first line: a word and a count.
 fn put_head(out: &mut [u8], at: usize, word: &[u8], n: usize) -> usize
     requires { ⌜ (n < 1000) × (at + length (now word) + 5 ≤ length (now out)) ⌝ }
-    ensures { λ r. ⌜ Wrote (now (out .entry)) at (line (now (word .entry)) (n ∷ [])) (now (out .exit)) r ⌝ }
+    ensures { λ r. ⌜ Wrote (now (out .entry)) at (line (now (word .entry)) (n ∷ [])) (now (out .exit)) r × (r ≤ at + length (now (word .entry)) + 5) ⌝ }
 {
     let p = put::word(out, at, word);
     let q = put::field(out, p, n);

@@ -7,7 +7,7 @@ use mathlib.Core.Path.{_∙_, _≡_, refl}
 use native.Mathlib.Omega.{arith}
 use Rattle.job.proofs.Pairs.{pairs-count, pairs-suc}
 use Rattle.job.proofs.Arrays.{calls-count, long, whole}
-use Rattle.model.specs.Text.{cannotWord, chokeWord}
+use Rattle.model.specs.Text.{chokeWord}
 use Rattle.model.specs.SheetText.{chokeNumbers, linesText}
 use Rattle.sheet.proofs.WriteLaws.{chokes-room, wrote-lines}
 use Rattle.job.specs.Arrays.{jobOf}
@@ -40,8 +40,7 @@ loop-holds c =
     let g = long j (s .good .0 .0) (s .good .0 .1 .1) in
     let n : s .args .n < length (jobOf j .calls) = omega (arith, calls-count j (whole j (s .pre .1) g)) in
     let w = c .before .before .put-head .ensures in
-    let b = line-room cannotWord (s .args .n ∷ []) in
-    (search needs, omega (arith, chokes-room (jobOf j) (s .pre .0) (s .args .n) n, w .next), refl, wrote-none (omega (arith, w .next, w .fits)))
+    (search needs, omega (arith, chokes-room (jobOf j) (s .pre .0) (s .args .n) n, w .1), refl, wrote-none (omega (arith, w .0 .next, w .0 .fits)))
 
 shared-slice-read-wide : tie.Need-shared-slice-read-wide Inv-loop μ-loop
 shared-slice-read-wide c = search needs
@@ -88,7 +87,7 @@ returns c =
     let s = c .before .before .before .before .before .before .before .before .before .before .args in
     let l = c .before .loop in
     let e : l .k ≡ s .n = omega arith in
-    rw (pairs-count point (now (s .cells)) (now (s .steps)) (s .n) (omega arith) (omega arith)) (wrote-more (c .before .before .before .before .put-head .ensures) (rw e at (l .inv .3)))
+    rw (pairs-count point (now (s .cells)) (now (s .steps)) (s .n) (omega arith) (omega arith)) (wrote-more (c .before .before .before .before .put-head .ensures .0) (rw e at (l .inv .3)))
 
 pub put-cannot-spec : {M : Type 1} → statement M
 put-cannot-spec =

@@ -2,7 +2,8 @@
 -- Assumes nothing.
 use mathlib.Core.List.{[], _∷_}
 use native.Mathlib.Omega.{arith}
-use Rattle.text.proofs.Wrote.{fields-one, numeral-short, wrote-line}
+use Rattle.text.proofs.Wrote.{fields-one, line-room, numeral-short, wrote-line}
+use denote.Ref.{now}
 use borrow.Author.Needs.{needs}
 use Rattle.sheet.proofs.write.put_head.Statement.{statement}
 use Rattle.sheet.proofs.write.put_head.Tie as tie
@@ -25,8 +26,9 @@ same-length c = search needs
 
 returns : tie.Need-returns
 returns c =
-    let n = c .before .before .before .before .before .before .before .before .before .before .before .before .before .before .args .n in
-    wrote-line (n ∷ []) (c .before .before .before .before .before .before .before .before .before .before .word .ensures) (rw (fields-one n) (c .before .before .before .before .before .before .field .ensures)) (c .before .before .byte .ensures)
+    let s = c .before .before .before .before .before .before .before .before .before .before .before .before .before .before .args in
+    let w = wrote-line (s .n ∷ []) (c .before .before .before .before .before .before .before .before .before .before .word .ensures) (rw (fields-one (s .n)) (c .before .before .before .before .before .before .field .ensures)) (c .before .before .byte .ensures) in
+    (w, omega (arith, w .next, line-room (now (s .word)) (s .n ∷ [])))
 
 pub put-head-spec : {M : Type 1} → statement M
 put-head-spec = tie.close (tie.spec word-requires field-requires byte-requires same-length returns)

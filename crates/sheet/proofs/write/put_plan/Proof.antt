@@ -3,7 +3,6 @@
 use native.Mathlib.Numerals.{add-one}
 use denote.Ref.{now}
 use Rattle.text.specs.Wrote.{Wrote}
-use mathlib.Core.List.{[], _∷_}
 use Prim.Native.Nat.{_*_, _+_, _-_, _≤_, _<_}
 use mathlib.Core.Path.{_≡_, refl, _∙_, sym}
 use native.Mathlib.Omega.{arith}
@@ -11,9 +10,9 @@ use Rattle.model.specs.Limits.{maxSteps}
 use Rattle.job.proofs.Arrays.{calls-count, long, whole}
 use Rattle.job.specs.Arrays.{jobOf}
 use lib.ListN.{length, drop, length-take}
-use Rattle.text.proofs.Wrote.{line-room, wrote-none, wrote-more}
+use Rattle.text.proofs.Wrote.{wrote-none, wrote-more}
 use Rattle.model.specs.SheetText.{linesText, pathNumbers}
-use Rattle.model.specs.Text.{pathWord, planWord}
+use Rattle.model.specs.Text.{pathWord}
 use Rattle.job.proofs.Rows.{paths-length}
 use Rattle.sheet.proofs.WriteLaws.{paths-room, share, call-below, call-deadline, latest-most, wrote-path, path-room, room-one, room-rest, wrote-lines}
 use Rattle.job.specs.Held.{pathsTo, pathAt}
@@ -39,12 +38,11 @@ loop-holds c =
     let s = c .before .before .before .before .before .before .before .before .before in
     let j = s .args .t1 in
     let g = long j (s .good .0 .0) (s .good .0 .1 .1) in
-    let w = c .before .before .put-head in
-    let b = line-room planWord (j .calls ∷ []) in (
+    let w = c .before .before .put-head in (
       search needs,
-      paths-room (jobOf j) (s .pre .0) (j .calls) (calls-count j (whole j (s .pre .1) g)) (w .result) (length (w .last .0)) (omega (arith, w .ensures .next)) (omega arith),
+      paths-room (jobOf j) (s .pre .0) (j .calls) (calls-count j (whole j (s .pre .1) g)) (w .result) (length (w .last .0)) (omega (arith, w .ensures .1)) (omega arith),
       refl,
-      wrote-none (omega (arith, w .ensures .next, w .ensures .fits)),
+      wrote-none (omega (arith, w .ensures .0 .next, w .ensures .0 .fits)),
     )
 
 shared-slice-read-wide : tie.Need-shared-slice-read-wide Inv-loop μ-loop
@@ -151,7 +149,7 @@ returns c =
     let g = long j (s .good .0 .0) (s .good .0 .1 .1) in
     let n = calls-count j (whole j (s .pre .1) g) in
     let e : l .k ≡ j .calls = omega arith in
-    rw (n, paths-length (jobOf j) (now (s .args .carts)) (now (s .args .calls)) (now (s .args .rows)) (j .calls)) (wrote-more (c .before .before .before .before .put-head .ensures) (rw e at (l .inv .3)))
+    rw (n, paths-length (jobOf j) (now (s .args .carts)) (now (s .args .calls)) (now (s .args .rows)) (j .calls)) (wrote-more (c .before .before .before .before .put-head .ensures .0) (rw e at (l .inv .3)))
 
 pub put-plan-spec : {M : Type 1} → statement M
 put-plan-spec =
