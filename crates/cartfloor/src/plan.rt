@@ -25,11 +25,11 @@ fn plan_job(job: Job, store: &mut [u8], sheet: &mut [u8]) -> u64
     let outcome = solve::solve(job, store, &mut first, &mut second, &mut rows);
     match outcome {
         Outcome::Plan => {
-            let n = sheet::write::put_plan(job, &first, &second, &rows, sheet);
+            let n = sheetwriter::put_plan(job, &first, &second, &rows, sheet);
             return 256 * n as u64;
         }
         Outcome::Cannot { points } => {
-            let n = sheet::write::put_cannot(job, &first, &second, points, sheet);
+            let n = sheetwriter::put_cannot(job, &first, &second, points, sheet);
             return 1 + 256 * n as u64;
         }
     }

@@ -4,4 +4,3 @@ pub mod FormLines
 pub mod FormHeld
 pub mod FormWhole
 pub mod FormTold
-pub mod WriteLaws

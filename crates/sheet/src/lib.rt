@@ -1,3 +1,2 @@
-// Sheets: read and written.
+// Sheets, read: in the form, or the first bad line.
 pub mod form;
-pub mod write;

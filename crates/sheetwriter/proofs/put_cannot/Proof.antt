@@ -1,4 +1,4 @@
--- `write::put_cannot` meets its contract. The loop's invariant: the lines of the first k points stand behind the head, and 14 bytes are left for each of the
+-- `put_cannot` meets its contract. The loop's invariant: the lines of the first k points stand behind the head, and 14 bytes are left for each of the
 -- others. The measure is the number of points that are left. Assumes nothing.
 use Rattle.text.specs.Wrote.{Wrote}
 use mathlib.Core.List.{[], _∷_}
@@ -9,7 +9,7 @@ use Rattle.job.proofs.Pairs.{pairs-count, pairs-suc}
 use Rattle.job.proofs.Arrays.{calls-count, long, whole}
 use Rattle.model.specs.Text.{chokeWord}
 use Rattle.model.specs.SheetText.{chokeNumbers, linesText}
-use Rattle.sheet.proofs.WriteLaws.{chokes-room, wrote-lines}
+use Rattle.sheetwriter.proofs.Laws.{chokes-room, wrote-lines}
 use Rattle.job.specs.Arrays.{jobOf}
 use lib.ListN.{length}
 use Rattle.text.proofs.Wrote.{line-room, wrote-more, wrote-none}
@@ -17,8 +17,8 @@ use denote.Ref.{now}
 use Rattle.model.specs.Choke.{point}
 use Rattle.job.specs.Held.{pointsOf}
 use borrow.Author.Needs.{needs}
-use Rattle.sheet.proofs.write.put_cannot.Statement.{statement}
-use Rattle.sheet.proofs.write.put_cannot.Tie as tie
+use Rattle.sheetwriter.proofs.put_cannot.Statement.{statement}
+use Rattle.sheetwriter.proofs.put_cannot.Tie as tie
 
 abbrev Inv-loop : tie.InvT-loop
 Inv-loop cells steps n out₀ p₀ k₀ out p k =

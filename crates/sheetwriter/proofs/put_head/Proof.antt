@@ -1,12 +1,12 @@
--- `write::put_head` meets its contract: its three pieces are a line. A numeral has at most three digits, so that 5 bytes are enough beside the word.
+-- `put_head` meets its contract: its three pieces are a line. A numeral has at most three digits, so that 5 bytes are enough beside the word.
 -- Assumes nothing.
 use mathlib.Core.List.{[], _∷_}
 use native.Mathlib.Omega.{arith}
 use Rattle.text.proofs.Wrote.{fields-one, line-room, numeral-short, wrote-line}
 use denote.Ref.{now}
 use borrow.Author.Needs.{needs}
-use Rattle.sheet.proofs.write.put_head.Statement.{statement}
-use Rattle.sheet.proofs.write.put_head.Tie as tie
+use Rattle.sheetwriter.proofs.put_head.Statement.{statement}
+use Rattle.sheetwriter.proofs.put_head.Tie as tie
 
 word-requires : tie.Need-word-requires
 word-requires c κs = search needs

@@ -1,4 +1,4 @@
-// Writing a sheet into a lent buffer.
+// Sheets, written into a lent buffer.
 use job::state::Job;
 use model::Limits;
 use model::bytes::wide;

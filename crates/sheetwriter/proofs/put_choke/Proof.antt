@@ -1,12 +1,12 @@
--- `write::put_choke` meets its contract: the word with two fields and the line feed are a line. Assumes nothing.
+-- `put_choke` meets its contract: the word with two fields and the line feed are a line. Assumes nothing.
 use mathlib.Core.List.{[], _∷_}
 use native.Mathlib.Omega.{arith}
 use Rattle.model.specs.Text.{chokeWord}
-use Rattle.sheet.proofs.WriteLaws.{line-of, pair-room}
+use Rattle.sheetwriter.proofs.Laws.{line-of, pair-room}
 use Rattle.text.proofs.Wrote.{wrote-more}
 use borrow.Author.Needs.{needs}
-use Rattle.sheet.proofs.write.put_choke.Statement.{statement}
-use Rattle.sheet.proofs.write.put_choke.Tie as tie
+use Rattle.sheetwriter.proofs.put_choke.Statement.{statement}
+use Rattle.sheetwriter.proofs.put_choke.Tie as tie
 
 slice-aggregate-put-pair : tie.Need-slice-aggregate-put-pair
 slice-aggregate-put-pair c = search needs

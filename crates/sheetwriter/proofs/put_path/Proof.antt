@@ -1,16 +1,16 @@
--- `write::put_path` meets its contract: the word with two fields, the fields of the cells and the line feed are a line. Assumes nothing.
+-- `put_path` meets its contract: the word with two fields, the fields of the cells and the line feed are a line. Assumes nothing.
 use mathlib.Core.Path.{ap}
 use lib.ListN.{length, take}
 use mathlib.Core.List.{[], _∷_}
 use native.Mathlib.Omega.{arith}
 use Rattle.text.proofs.Wrote.{fields-room, wrote-more}
-use Rattle.sheet.proofs.WriteLaws.{line-of, pair-room}
+use Rattle.sheetwriter.proofs.Laws.{line-of, pair-room}
 use denote.Ref.{now}
 use Rattle.model.specs.Text.{pathWord, fields}
 use lib.Seq.{take-length}
 use borrow.Author.Needs.{needs}
-use Rattle.sheet.proofs.write.put_path.Statement.{statement}
-use Rattle.sheet.proofs.write.put_path.Tie as tie
+use Rattle.sheetwriter.proofs.put_path.Statement.{statement}
+use Rattle.sheetwriter.proofs.put_path.Tie as tie
 
 slice-aggregate-put-pair : tie.Need-slice-aggregate-put-pair
 slice-aggregate-put-pair c = search needs

@@ -1,4 +1,4 @@
--- `write::put_plan` meets its contract. The loop's invariant: the lines of the first k paths stand behind the head, and a share is left for each of the
+-- `put_plan` meets its contract. The loop's invariant: the lines of the first k paths stand behind the head, and a share is left for each of the
 -- others, which no line exceeds since no deadline is later than the last step. The measure is the number of paths that are left. Assumes nothing.
 use native.Mathlib.Numerals.{add-one}
 use denote.Ref.{now}
@@ -14,11 +14,11 @@ use Rattle.text.proofs.Wrote.{wrote-none, wrote-more}
 use Rattle.model.specs.SheetText.{linesText, pathNumbers}
 use Rattle.model.specs.Text.{pathWord}
 use Rattle.job.proofs.Rows.{paths-length}
-use Rattle.sheet.proofs.WriteLaws.{paths-room, share, call-below, call-deadline, latest-most, wrote-path, path-room, room-one, room-rest, wrote-lines}
+use Rattle.sheetwriter.proofs.Laws.{paths-room, share, call-below, call-deadline, latest-most, wrote-path, path-room, room-one, room-rest, wrote-lines}
 use Rattle.job.specs.Held.{pathsTo, pathAt}
 use borrow.Author.Needs.{needs}
-use Rattle.sheet.proofs.write.put_plan.Statement.{statement}
-use Rattle.sheet.proofs.write.put_plan.Tie as tie
+use Rattle.sheetwriter.proofs.put_plan.Statement.{statement}
+use Rattle.sheetwriter.proofs.put_plan.Tie as tie
 
 abbrev Inv-loop : tie.InvT-loop
 Inv-loop carts calls rows out₀ job n p₀ k₀ out p k =

@@ -1,10 +1,10 @@
--- `write::put_pair` meets its contract: its three pieces are one, and two fields take at most 8 bytes. Assumes nothing.
+-- `put_pair` meets its contract: its three pieces are one, and two fields take at most 8 bytes. Assumes nothing.
 use native.Mathlib.Omega.{arith}
 use Rattle.text.proofs.Wrote.{numeral-short}
-use Rattle.sheet.proofs.WriteLaws.{wrote-pair}
+use Rattle.sheetwriter.proofs.Laws.{wrote-pair}
 use borrow.Author.Needs.{needs}
-use Rattle.sheet.proofs.write.put_pair.Statement.{statement}
-use Rattle.sheet.proofs.write.put_pair.Tie as tie
+use Rattle.sheetwriter.proofs.put_pair.Statement.{statement}
+use Rattle.sheetwriter.proofs.put_pair.Tie as tie
 
 word-requires : tie.Need-word-requires
 word-requires c κs = search needs
