@@ -19,6 +19,8 @@ use Rattle.job.specs.Held.{pointsOf}
 use borrow.Author.Needs.{needs}
 use Rattle.sheetwriter.proofs.put_cannot.Statement.{statement}
 use Rattle.sheetwriter.proofs.put_cannot.Tie as tie
+mod Places
+use Places.*
 
 abbrev Inv-loop : tie.InvT-loop
 Inv-loop cells steps n out₀ p₀ k₀ out p k =
@@ -27,49 +29,22 @@ Inv-loop cells steps n out₀ p₀ k₀ out p k =
 abbrev μ-loop : tie.MeasureT-loop
 μ-loop cells steps n out₀ p₀ k₀ out p k = n - k
 
-slice-aggregate-put-head : tie.Need-slice-aggregate-put-head Inv-loop μ-loop
-slice-aggregate-put-head c = search needs
-
-put-head-requires : tie.Need-put-head-requires Inv-loop μ-loop
-put-head-requires c κs = search needs
-
 loop-holds : tie.Need-loop-holds Inv-loop μ-loop
 loop-holds c =
-    let s = c .before .before .before .before .before .before .before .before in
+    let s = slice-known2→start c in
     let j = s .args .job in
     let g = long j (s .good .0 .0) (s .good .0 .1 .1) in
     let n : s .args .n < length (jobOf j .calls) = omega (arith, calls-count j (whole j (s .pre .1) g)) in
-    let w = c .before .before .put-head .ensures in
+    let w = slice-known2→put-head c .put-head .ensures in
     (search needs, omega (arith, chokes-room (jobOf j) (s .pre .0) (s .args .n) n, w .1), refl, wrote-none (omega (arith, w .0 .next, w .0 .fits)))
-
-shared-slice-read-wide : tie.Need-shared-slice-read-wide Inv-loop μ-loop
-shared-slice-read-wide c = search needs
-
-wide-requires : tie.Need-wide-requires Inv-loop μ-loop
-wide-requires c κs = search needs
-
-shared-slice-read-wide-2 : tie.Need-shared-slice-read-wide-2 Inv-loop μ-loop
-shared-slice-read-wide-2 c = search needs
-
-wide-requires-2 : tie.Need-wide-requires-2 Inv-loop μ-loop
-wide-requires-2 c κs = search needs
-
-put-choke-requires : tie.Need-put-choke-requires Inv-loop μ-loop
-put-choke-requires c κs = search needs
-
-add-k : tie.Need-add-k Inv-loop μ-loop
-add-k c = search needs
-
-loop-less : tie.Need-loop-less Inv-loop μ-loop
-loop-less c = search needs
 
 loop-again : tie.Need-loop-again Inv-loop μ-loop
 loop-again c =
-    let s = c .before .before .before .before .before .before .before .before .before .before .before .before .before .before .before .before .before .before .args in
-    let l = c .before .before .before .before .before .before .before .before .before .loop in
-    let a = c .before .before .before .before .before .wide in
-    let b = c .before .before .before .wide2 in
-    let w = c .before .before .put-choke in
+    let s = slice-known3→start c .args in
+    let l = slice-known3→loop c .loop in
+    let a = slice-known3→wide c .wide in
+    let b = slice-known3→wide2 c .wide2 in
+    let w = slice-known3→put-choke c .put-choke in
     let h : l .k < length (now (s .cells)) = omega arith in
     let i : l .k < length (now (s .steps)) = omega arith in (
       omega arith,
@@ -79,32 +54,16 @@ loop-again c =
           (wrote-lines chokeWord chokeNumbers (pointsOf (now (s .cells)) (now (s .steps)) (l .k)) (point (a .result) (b .result)) (l .inv .3) (w .ensures)),
     )
 
-same-length : tie.Need-same-length Inv-loop μ-loop
-same-length c = search needs
-
 returns : tie.Need-returns Inv-loop μ-loop
 returns c =
-    let s = c .before .before .before .before .before .before .before .before .before .before .args in
+    let s = after-loop→start c .args in
     let l = c .before .loop in
     let e : l .k ≡ s .n = omega arith in
-    rw (pairs-count point (now (s .cells)) (now (s .steps)) (s .n) (omega arith) (omega arith)) (wrote-more (c .before .before .before .before .put-head .ensures .0) (rw e at (l .inv .3)))
+    rw (pairs-count point (now (s .cells)) (now (s .steps)) (s .n) (omega arith) (omega arith)) (wrote-more (after-loop→put-head c .put-head .ensures .0) (rw e at (l .inv .3)))
 
 pub put-cannot-spec : {M : Type 1} → statement M
 put-cannot-spec =
     tie.close
     (tie.spec
-    Inv-loop
-    μ-loop
-    slice-aggregate-put-head
-    put-head-requires
-    loop-holds
-    shared-slice-read-wide
-    wide-requires
-    shared-slice-read-wide-2
-    wide-requires-2
-    put-choke-requires
-    add-k
-    loop-less
-    loop-again
-    same-length
-    returns)
+    Inv-loop μ-loop (λ c. search needs) (λ c κs. search needs) loop-holds (λ c. search needs) (λ c κs. search needs) (λ c. search needs) (λ c κs. search needs)
+    (λ c κs. search needs) (λ c. search needs) (λ c. search needs) loop-again (λ c. search needs) returns)

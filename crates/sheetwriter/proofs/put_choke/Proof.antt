@@ -7,27 +7,18 @@ use Rattle.text.proofs.Wrote.{wrote-more}
 use borrow.Author.Needs.{needs}
 use Rattle.sheetwriter.proofs.put_choke.Statement.{statement}
 use Rattle.sheetwriter.proofs.put_choke.Tie as tie
-
-slice-aggregate-put-pair : tie.Need-slice-aggregate-put-pair
-slice-aggregate-put-pair c = search needs
-
-put-pair-requires : tie.Need-put-pair-requires
-put-pair-requires c κs = search needs
+mod Places
+use Places.*
 
 byte-requires : tie.Need-byte-requires
 byte-requires c κs =
-    let s = c .before .before .before .before .before .before .before .args in
-    omega (arith, c .before .before .before .put-pair .ensures .next, pair-room chokeWord (s .cell) (s .step))
-
-same-length : tie.Need-same-length
-same-length c = search needs
+    let s = byte-arg→start c .args in
+    omega (arith, byte-arg→put-pair c .put-pair .ensures .next, pair-room chokeWord (s .cell) (s .step))
 
 returns : tie.Need-returns
 returns c =
-    let s = c .before .before .before .before .before .before .before .before .before .before .args in
-    rw (← line-of chokeWord (s .cell ∷ s .step ∷ []) []) (wrote-more (c .before .before .before .before .before .before .put-pair .ensures) (c .before .before .byte .ensures))
+    let s = slice-known3→start c .args in
+    rw (← line-of chokeWord (s .cell ∷ s .step ∷ []) []) (wrote-more (slice-known3→put-pair c .put-pair .ensures) (slice-known3→byte c .byte .ensures))
 
 pub put-choke-spec : {M : Type 1} → statement M
-put-choke-spec =
-    tie.close
-    (tie.spec slice-aggregate-put-pair put-pair-requires byte-requires same-length returns)
+put-choke-spec = tie.close (tie.spec (λ c. search needs) (λ c κs. search needs) byte-requires (λ c. search needs) returns)

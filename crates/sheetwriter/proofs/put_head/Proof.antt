@@ -7,28 +7,24 @@ use denote.Ref.{now}
 use borrow.Author.Needs.{needs}
 use Rattle.sheetwriter.proofs.put_head.Statement.{statement}
 use Rattle.sheetwriter.proofs.put_head.Tie as tie
-
-word-requires : tie.Need-word-requires
-word-requires c κs = search needs
+mod Places
+use Places.*
 
 field-requires : tie.Need-field-requires
 field-requires c κs =
-    let s = c .before .before .before .before .before .before .before in
-    (omega arith, omega (arith, c .before .before .before .word .ensures .next, numeral-short (s .args .n)))
+    let s = field-arg→start c in
+    (omega arith, omega (arith, field-arg→word c .word .ensures .next, numeral-short (s .args .n)))
 
 byte-requires : tie.Need-byte-requires
 byte-requires c κs =
-    let s = c .before .before .before .before .before .before .before .before .before .before .before in
-    omega (arith, c .before .before .before .before .before .before .before .word .ensures .next, c .before .before .before .field .ensures .next, numeral-short (s .args .n))
-
-same-length : tie.Need-same-length
-same-length c = search needs
+    let s = byte-arg→start c in
+    omega (arith, byte-arg→word c .word .ensures .next, byte-arg→field c .field .ensures .next, numeral-short (s .args .n))
 
 returns : tie.Need-returns
 returns c =
-    let s = c .before .before .before .before .before .before .before .before .before .before .before .before .before .before .args in
-    let w = wrote-line (s .n ∷ []) (c .before .before .before .before .before .before .before .before .before .before .word .ensures) (rw (fields-one (s .n)) (c .before .before .before .before .before .before .field .ensures)) (c .before .before .byte .ensures) in
+    let s = slice-known4→start c .args in
+    let w = wrote-line (s .n ∷ []) (slice-known4→word c .word .ensures) (rw (fields-one (s .n)) (slice-known4→field c .field .ensures)) (slice-known4→byte c .byte .ensures) in
     (w, omega (arith, w .next, line-room (now (s .word)) (s .n ∷ [])))
 
 pub put-head-spec : {M : Type 1} → statement M
-put-head-spec = tie.close (tie.spec word-requires field-requires byte-requires same-length returns)
+put-head-spec = tie.close (tie.spec (λ c κs. search needs) field-requires byte-requires (λ c. search needs) returns)

@@ -11,41 +11,27 @@ use lib.Seq.{take-length}
 use borrow.Author.Needs.{needs}
 use Rattle.sheetwriter.proofs.put_path.Statement.{statement}
 use Rattle.sheetwriter.proofs.put_path.Tie as tie
-
-slice-aggregate-put-pair : tie.Need-slice-aggregate-put-pair
-slice-aggregate-put-pair c = search needs
-
-put-pair-requires : tie.Need-put-pair-requires
-put-pair-requires c κs = search needs
+mod Places
+use Places.*
 
 fields-requires : tie.Need-fields-requires
 fields-requires c κs =
-    let s = c .before .before .before .before .before .before .before .before .args in
-    (omega arith, omega (arith, c .before .before .before .put-pair .ensures .next, pair-room pathWord (s .cart) (s .call)))
+    let s = fields-arg→start c .args in
+    (omega arith, omega (arith, fields-arg→put-pair c .put-pair .ensures .next, pair-room pathWord (s .cart) (s .call)))
 
 byte-requires : tie.Need-byte-requires
 byte-requires c κs =
-    let s = c .before .before .before .before .before .before .before .before .before .before .before .before .args in
+    let s = byte-arg→start c .args in
     let l = now (s .cells) in
-    omega (arith, c .before .before .before .before .before .before .before .put-pair .ensures .next, pair-room pathWord (s .cart) (s .call), c .before .before .before .fields .ensures .next, fields-room (take (length l) l), ap length (take-length l))
-
-same-length : tie.Need-same-length
-same-length c = search needs
+    omega
+    (arith, byte-arg→put-pair c .put-pair .ensures .next, pair-room pathWord (s .cart) (s .call), byte-arg→fields c .fields .ensures .next, fields-room (take (length l) l), ap length (take-length l))
 
 returns : tie.Need-returns
 returns c =
-    let s = c .before .before .before .before .before .before .before .before .before .before .before .before .before .before .before .args in
+    let s = slice-known4→start c .args in
     let l = now (s .cells) in
     rw (← line-of pathWord (s .cart ∷ s .call ∷ []) l, ← ap fields (take-length l))
-    (wrote-more (c .before .before .before .before .before .before .before .before .before .before .put-pair .ensures) (wrote-more (c .before .before .before .before .before .before .fields .ensures) (c .before .before .byte .ensures)))
+    (wrote-more (slice-known4→put-pair c .put-pair .ensures) (wrote-more (slice-known4→fields c .fields .ensures) (slice-known4→byte c .byte .ensures)))
 
 pub put-path-spec : {M : Type 1} → statement M
-put-path-spec =
-    tie.close
-    (tie.spec
-    slice-aggregate-put-pair
-    put-pair-requires
-    fields-requires
-    byte-requires
-    same-length
-    returns)
+put-path-spec = tie.close (tie.spec (λ c. search needs) (λ c κs. search needs) fields-requires byte-requires (λ c. search needs) returns)

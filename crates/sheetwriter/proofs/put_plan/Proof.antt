@@ -19,6 +19,8 @@ use Rattle.job.specs.Held.{pathsTo, pathAt}
 use borrow.Author.Needs.{needs}
 use Rattle.sheetwriter.proofs.put_plan.Statement.{statement}
 use Rattle.sheetwriter.proofs.put_plan.Tie as tie
+mod Places
+use Places.*
 
 abbrev Inv-loop : tie.InvT-loop
 Inv-loop carts calls rows out₀ job n p₀ k₀ out p k =
@@ -27,104 +29,60 @@ Inv-loop carts calls rows out₀ job n p₀ k₀ out p k =
 abbrev μ-loop : tie.MeasureT-loop
 μ-loop carts calls rows out₀ job n p₀ k₀ out p k = n - k
 
-slice-aggregate-put-head : tie.Need-slice-aggregate-put-head Inv-loop μ-loop
-slice-aggregate-put-head c = search needs
-
-put-head-requires : tie.Need-put-head-requires Inv-loop μ-loop
-put-head-requires c κs = search needs
-
 loop-holds : tie.Need-loop-holds Inv-loop μ-loop
 loop-holds c =
-    let s = c .before .before .before .before .before .before .before .before .before in
+    let s = slice-known2→start c in
     let j = s .args .t1 in
     let g = long j (s .good .0 .0) (s .good .0 .1 .1) in
-    let w = c .before .before .put-head in (
+    let w = slice-known2→put-head c .put-head in (
       search needs,
       paths-room (jobOf j) (s .pre .0) (j .calls) (calls-count j (whole j (s .pre .1) g)) (w .result) (length (w .last .0)) (omega (arith, w .ensures .1)) (omega arith),
       refl,
       wrote-none (omega (arith, w .ensures .0 .next, w .ensures .0 .fits)),
     )
 
-shared-slice-read-wide : tie.Need-shared-slice-read-wide Inv-loop μ-loop
-shared-slice-read-wide c = search needs
-
-wide-requires : tie.Need-wide-requires Inv-loop μ-loop
-wide-requires c κs = search needs
-
-mul-a : tie.Need-mul-a Inv-loop μ-loop
-mul-a c = search needs
-
 element-copy-out-wide : tie.Need-element-copy-out-wide Inv-loop μ-loop
 element-copy-out-wide c =
-    let s = c .before .before .before .before .before .before .before .before .before .before .before .before .before in
+    let s = wide→start c in
     let j = s .args .t1 in
-    let h : c .before .before .before .loop .k < j .calls = omega arith in
+    let h : wide→loop c .loop .k < j .calls = omega arith in
     let g = long j (s .good .0 .0) (s .good .0 .1 .1) in
-    omega (arith, call-below j (s .pre .1) g (now (s .args .carts)) (now (s .args .calls)) (now (s .args .rows)) (s .pre .3) (c .before .before .before .loop .k) (c .wide .result) h (c .wide .ensures .0))
-
-wide-requires-2 : tie.Need-wide-requires-2 Inv-loop μ-loop
-wide-requires-2 c κs = search needs
-
-add-e : tie.Need-add-e Inv-loop μ-loop
-add-e c = search needs
-
-add-e-2 : tie.Need-add-e-2 Inv-loop μ-loop
-add-e-2 c = search needs
-
-shared-slice-read-wide-2 : tie.Need-shared-slice-read-wide-2 Inv-loop μ-loop
-shared-slice-read-wide-2 c = search needs
-
-wide-requires-3 : tie.Need-wide-requires-3 Inv-loop μ-loop
-wide-requires-3 c κs = search needs
-
-sub-put-path : tie.Need-sub-put-path Inv-loop μ-loop
-sub-put-path c = search needs
-
-part-put-path-start : tie.Need-part-put-path-start Inv-loop μ-loop
-part-put-path-start c = search needs
-
-part-put-path-end : tie.Need-part-put-path-end Inv-loop μ-loop
-part-put-path-end c = search needs
+    omega (arith, call-below j (s .pre .1) g (now (s .args .carts)) (now (s .args .calls)) (now (s .args .rows)) (s .pre .3) (wide→loop c .loop .k) (c .wide .result) h (c .wide .ensures .0))
 
 put-path-requires : tie.Need-put-path-requires Inv-loop μ-loop
 put-path-requires c κs =
-    let s = c .before .before .before .before .before .before .before .before .before .before .before .before .before .before .before .before .before .before .before in
+    let s = put-path-arg2→start c in
     let j = s .args .t1 in
-    let l = c .before .before .before .before .before .before .before .before .before .loop in
+    let l = put-path-arg2→loop c .loop in
     let h : l .k < j .calls = omega arith in
     let g = long j (s .good .0 .0) (s .good .0 .1 .1) in
     let a = l .k * maxSteps in
-    let d = call-deadline j (s .pre .1) g (now (s .args .carts)) (now (s .args .calls)) (now (s .args .rows)) (s .pre .3) (l .k) (c .before .before .before .before .before .before .wide .result) h (c .before .before .before .before .before .before .wide .ensures .0) in (
+    let d = call-deadline j (s .pre .1) g (now (s .args .carts)) (now (s .args .calls)) (now (s .args .rows)) (s .pre .3) (l .k) (put-path-arg2→wide c .wide .result) h
+    (put-path-arg2→wide c .wide .ensures .0) in (
       omega arith,
       omega arith,
       omega (
         arith,
-        length-take (a + c .before .before .before .before .wide2 .result + 1 - a) (drop a (now (s .args .rows))),
-        latest-most (jobOf j .calls) (c .before .before .before .before .before .before .wide .result),
-        c .before .before .before .before .wide2 .ensures .0,
+        length-take (a + put-path-arg2→wide2 c .wide2 .result + 1 - a) (drop a (now (s .args .rows))),
+        latest-most (jobOf j .calls) (put-path-arg2→wide c .wide .result),
+        put-path-arg2→wide2 c .wide2 .ensures .0,
         room-one (share (jobOf j)) (l .k) (j .calls) (l .p) (length (l .out)) h (l .inv .1),
       ),
     )
 
-add-k : tie.Need-add-k Inv-loop μ-loop
-add-k c = search needs
-
-loop-less : tie.Need-loop-less Inv-loop μ-loop
-loop-less c = search needs
-
 loop-again : tie.Need-loop-again Inv-loop μ-loop
 loop-again c =
-    let s = c .before .before .before .before .before .before .before .before .before .before .before .before .before .before .before .before .before .before .before .before .before .before in
+    let s = slice-known3→start c in
     let j = s .args .t1 in
     let carts = now (s .args .carts) in
     let calls = now (s .args .calls) in
     let rows = now (s .args .rows) in
-    let l = c .before .before .before .before .before .before .before .before .before .before .before .before .loop in
-    let call = c .before .before .before .before .before .before .before .before .before .wide in
-    let last = c .before .before .before .before .before .before .before .wide2 in
-    let cart = c .before .before .before .before .wide3 in
-    let w = c .before .before .put-path in
-    let t = c .before .before .before .before .before .before .before .before .before .before .before .loop-test .taken in
+    let l = slice-known3→loop c .loop in
+    let call = slice-known3→wide c .wide in
+    let last = slice-known3→wide2 c .wide2 in
+    let cart = slice-known3→wide3 c .wide3 in
+    let w = slice-known3→put-path c .put-path in
+    let t = slice-known3→in-loop c .loop-test .taken in
     let h : l .k < j .calls = omega (arith, t) in
     let g = long j (s .good .0 .0) (s .good .0 .1 .1) in
     let a = l .k * maxSteps in
@@ -138,43 +96,20 @@ loop-again c =
       rw add-one (wrote-lines pathWord pathNumbers (pathsTo (jobOf j) carts calls rows (l .k)) (pathAt (jobOf j) carts calls rows (l .k)) (l .inv .3) x),
     )
 
-same-length : tie.Need-same-length Inv-loop μ-loop
-same-length c = search needs
-
 returns : tie.Need-returns Inv-loop μ-loop
 returns c =
-    let s = c .before .before .before .before .before .before .before .before .before .before .before in
+    let s = after-loop→start c in
     let j = s .args .t1 in
     let l = c .before .loop in
     let g = long j (s .good .0 .0) (s .good .0 .1 .1) in
     let n = calls-count j (whole j (s .pre .1) g) in
     let e : l .k ≡ j .calls = omega arith in
-    rw (n, paths-length (jobOf j) (now (s .args .carts)) (now (s .args .calls)) (now (s .args .rows)) (j .calls)) (wrote-more (c .before .before .before .before .put-head .ensures .0) (rw e at (l .inv .3)))
+    rw (n, paths-length (jobOf j) (now (s .args .carts)) (now (s .args .calls)) (now (s .args .rows)) (j .calls)) (wrote-more (after-loop→put-head c .put-head .ensures .0) (rw e at (l .inv .3)))
 
 pub put-plan-spec : {M : Type 1} → statement M
 put-plan-spec =
     tie.close
     (tie.spec
-    Inv-loop
-    μ-loop
-    slice-aggregate-put-head
-    put-head-requires
-    loop-holds
-    shared-slice-read-wide
-    wide-requires
-    mul-a
-    element-copy-out-wide
-    wide-requires-2
-    add-e
-    add-e-2
-    shared-slice-read-wide-2
-    wide-requires-3
-    sub-put-path
-    part-put-path-start
-    part-put-path-end
-    put-path-requires
-    add-k
-    loop-less
-    loop-again
-    same-length
-    returns)
+    Inv-loop μ-loop (λ c. search needs) (λ c κs. search needs) loop-holds (λ c. search needs) (λ c κs. search needs) (λ c. search needs) element-copy-out-wide
+    (λ c κs. search needs) (λ c. search needs) (λ c. search needs) (λ c. search needs) (λ c κs. search needs) (λ c. search needs) (λ c. search needs) (λ c. search needs)
+    put-path-requires (λ c. search needs) (λ c. search needs) loop-again (λ c. search needs) returns)

@@ -20,95 +20,62 @@ use Rattle.cartfloor.proofs.Sheets.{plan-short, chokes-short, points-fe
 use borrow.Author.Needs.{needs}
 use Rattle.cartfloor.proofs.plan.plan_job.Statement.{statement}
 use Rattle.cartfloor.proofs.plan.plan_job.Tie as tie
+mod Places
+use Places.*
 
 abbrev paths : tie.After-solve → List Path
-paths c = pathsOf (jobOf (c .before .before .before .before .before .before .before .args .job)) (c .solve .last .1 .1 .0) (c .solve .last .1 .1 .1 .0) (c .solve .last .1 .1 .1 .1 .0)
+paths c = pathsOf (jobOf (solve→start c .args .job)) (c .solve .last .1 .1 .0) (c .solve .last .1 .1 .1 .0) (c .solve .last .1 .1 .1 .1 .0)
 
 abbrev points : tie.After-solve → ℕ → List Point
 points c n = pointsOf (c .solve .last .1 .1 .0) (c .solve .last .1 .1 .1 .0) n
 
-solved : (c : tie.After-solve) (o : Outcome) → c .solve .result ≡ o → Solved (jobOf (c .before .before .before .before .before .before .before .args .job)) o (c .solve .last .1 .1 .0) (c .solve .last .1 .1 .1 .0) (c .solve .last .1 .1 .1 .1 .0)
+solved : (c : tie.After-solve) (o : Outcome) → c .solve .result ≡ o → Solved (jobOf (solve→start c .args .job)) o (c .solve .last .1 .1 .0) (c .solve .last .1 .1 .1 .0) (c .solve .last .1 .1 .1 .1 .0)
 solved c o e =
-    subst (λ x. Solved (jobOf (c .before .before .before .before .before .before .before .args .job)) x (c .solve .last .1 .1 .0) (c .solve .last .1 .1 .1 .0) (c .solve .last .1 .1 .1 .1 .0)) e (c .solve .ensures .2)
+    subst (λ x. Solved (jobOf (solve→start c .args .job)) x (c .solve .last .1 .1 .0) (c .solve .last .1 .1 .1 .0) (c .solve .last .1 .1 .1 .1 .0)) e (c .solve .ensures .2)
 
-right-plan : (c : tie.After-solve) → c .solve .result ≡ Plan → RightPlan (jobOf (c .before .before .before .before .before .before .before .args .job)) (paths c)
+right-plan : (c : tie.After-solve) → c .solve .result ≡ Plan → RightPlan (jobOf (solve→start c .args .job)) (paths c)
 right-plan c e = solved c Plan e
 
-right-chokes : (c : tie.After-solve) (n : ℕ) → c .solve .result ≡ Cannot n → RightChokes (jobOf (c .before .before .before .before .before .before .before .args .job)) (points c n)
+right-chokes : (c : tie.After-solve) (n : ℕ) → c .solve .result ≡ Cannot n → RightChokes (jobOf (solve→start c .args .job)) (points c n)
 right-chokes c n e = solved c (Cannot n) e
-
-slice-aggregate-solve : tie.Need-slice-aggregate-solve
-slice-aggregate-solve c = search needs
-
-slice-aggregate-solve-2 : tie.Need-slice-aggregate-solve-2
-slice-aggregate-solve-2 c = search needs
-
-slice-aggregate-solve-3 : tie.Need-slice-aggregate-solve-3
-slice-aggregate-solve-3 c = search needs
-
-solve-requires : tie.Need-solve-requires
-solve-requires c κs = search needs
-
-enum-told : tie.Need-enum-told
-enum-told c = search needs
-
-slice-aggregate-put-plan : tie.Need-slice-aggregate-put-plan
-slice-aggregate-put-plan c = search needs
-
-slice-aggregate-put-plan-2 : tie.Need-slice-aggregate-put-plan-2
-slice-aggregate-put-plan-2 c = search needs
-
-slice-aggregate-put-plan-3 : tie.Need-slice-aggregate-put-plan-3
-slice-aggregate-put-plan-3 c = search needs
 
 put-plan-requires : tie.Need-put-plan-requires
 put-plan-requires c κs =
-    let s = c .before .before .before .before .before .before .before .before .before .before .before .before .before .before .before .before .before .before in
-    let got = right-plan (c .before .before .before .before .before .before .before .before .before .before .before) (c .before .before .before .before .enum-told .given .1) in
-    (s .pre .0, s .pre .1, c .before .before .before .before .before .before .before .before .before .before .before .solve .ensures .1, (λ p m. path-known (jobOf (s .args .job)) (s .pre .0 .fit) p (got .0 .leads p m)), s .pre .3)
+    let s = put-plan-arg→start c in
+    let got = right-plan (put-plan-arg→solve c) (put-plan-arg→enum-told c .enum-told .given .1) in
+    (s .pre .0, s .pre .1, put-plan-arg→solve c .solve .ensures .1, (λ p m. path-known (jobOf (s .args .job)) (s .pre .0 .fit) p (got .0 .leads p m)), s .pre .3)
 
 mul-result : tie.Need-mul-result
 mul-result c =
-    let got = right-plan (c .before .before .before .before .before .before .before .before .before .before .before .before .before .before) (c .before .before .before .before .before .before .before .enum-told .given .1) in
-    omega (arith, c .before .before .put-plan .ensures .next, plan-short (jobOf (c .before .before .before .before .before .before .before .before .before .before .before .before .before .before .before .before .before .before .before .before .before .args .job)) (c .before .before .before .before .before .before .before .before .before .before .before .before .before .before .before .before .before .before .before .before .before .pre .0 .fit) (paths (c .before .before .before .before .before .before .before .before .before .before .before .before .before .before)) (got .0))
-
-same-length : tie.Need-same-length
-same-length c = search needs
-
-same-length-2 : tie.Need-same-length-2
-same-length-2 c = search needs
+    let got = right-plan (slice-known4→solve c) (slice-known4→enum-told c .enum-told .given .1) in
+    omega (arith, slice-known4→put-plan c .put-plan .ensures .next, plan-short (jobOf (slice-known4→start c .args .job)) (slice-known4→start c .pre .0 .fit) (paths (slice-known4→solve c)) (got .0))
 
 returns : tie.Need-returns
 returns c =
-    let got = right-plan (c .before .before .before .before .before .before .before .before .before .before .before .before .before .before) (c .before .before .before .before .before .before .before .enum-told .given .1) in
-    (c .before .before .before .before .before .before .before .before .before .before .before .before .before .before .solve .ensures .0, plan-written (jobOf (c .before .before .before .before .before .before .before .before .before .before .before .before .before .before .before .before .before .before .before .before .before .args .job)) (now (c .before .before .before .before .before .before .before .before .before .before .before .before .before .before .before .before .before .before .before .before .before .args .sheet)) _ (c .before .before .put-plan .result) (paths (c .before .before .before .before .before .before .before .before .before .before .before .before .before .before)) got (c .before .before .put-plan .ensures))
-
-enum-known-outcome : tie.Need-enum-known-outcome
-enum-known-outcome c = search needs
-
-slice-aggregate-put-cannot : tie.Need-slice-aggregate-put-cannot
-slice-aggregate-put-cannot c = search needs
-
-slice-aggregate-put-cannot-2 : tie.Need-slice-aggregate-put-cannot-2
-slice-aggregate-put-cannot-2 c = search needs
+    let got = right-plan (slice-known4→solve c) (slice-known4→enum-told c .enum-told .given .1) in (
+      slice-known4→solve c .solve .ensures .0,
+      plan-written (jobOf (slice-known4→start c .args .job)) (now (slice-known4→start c .args .sheet)) _ (slice-known4→put-plan c .put-plan .result) (paths (slice-known4→solve c)) got
+          (slice-known4→put-plan c .put-plan .ensures),
+    )
 
 put-cannot-requires : tie.Need-put-cannot-requires
 put-cannot-requires c κs =
-    let s = c .before .before .before .before .before .before .before .before .before .before .before .before .before .before .before .before .before .before in
-    let r = c .before .before .before .before .before .before .before .before .before .before .before .solve in
+    let s = put-cannot-arg→start c in
+    let r = put-cannot-arg→solve c .solve in
     let job = s .args .job in
-    let n = c .before .before .before .before .outcome .given .0 .0 in
-    let got = right-chokes (c .before .before .before .before .before .before .before .before .before .before .before) n (c .before .before .before .before .outcome .given .1) in
+    let n = put-cannot-arg→outcome c .outcome .given .0 .0 in
+    let got = right-chokes (put-cannot-arg→solve c) n (put-cannot-arg→outcome c .outcome .given .1) in
     let calls = calls-count job (whole job (s .pre .1) (long job (s .good .0 .0) (s .good .0 .1 .1))) in
     let few = points-few (r .last .1 .1 .0) (r .last .1 .1 .1 .0) n (length (jobOf job .calls)) (r .ensures .1 .firsts) (r .ensures .1 .seconds) (s .pre .0 .fit .few-calls) (got .0 .few) in
     (s .pre .0, s .pre .1, r .ensures .1 .firsts, r .ensures .1 .seconds, omega (arith, few, calls), s .pre .3)
 
 -- the packed number of a choke list
-few-bytes : (c : tie.After-slice-known5) → c .before .before .put-cannot .result ≤ 1000
+few-bytes : (c : tie.After-slice-known5) → slice-known5→put-cannot c .put-cannot .result ≤ 1000
 few-bytes c =
-    let n = c .before .before .before .before .before .before .before .outcome .given .0 .0 in
-    let got = right-chokes (c .before .before .before .before .before .before .before .before .before .before .before .before .before .before) n (c .before .before .before .before .before .before .before .outcome .given .1) in
-    omega (arith, c .before .before .put-cannot .ensures .next, chokes-short (jobOf (c .before .before .before .before .before .before .before .before .before .before .before .before .before .before .before .before .before .before .before .before .before .args .job)) (c .before .before .before .before .before .before .before .before .before .before .before .before .before .before .before .before .before .before .before .before .before .pre .0 .fit) (points (c .before .before .before .before .before .before .before .before .before .before .before .before .before .before) n) (got .0))
+    let n = slice-known5→outcome c .outcome .given .0 .0 in
+    let got = right-chokes (slice-known5→solve c) n (slice-known5→outcome c .outcome .given .1) in
+    omega
+    (arith, slice-known5→put-cannot c .put-cannot .ensures .next, chokes-short (jobOf (slice-known5→start c .args .job)) (slice-known5→start c .pre .0 .fit) (points (slice-known5→solve c) n) (got .0))
 
 mul-result-2 : tie.Need-mul-result-2
 mul-result-2 c = omega (arith, few-bytes c)
@@ -116,41 +83,19 @@ mul-result-2 c = omega (arith, few-bytes c)
 add-result : tie.Need-add-result
 add-result c = omega (arith, few-bytes c)
 
-same-length-3 : tie.Need-same-length-3
-same-length-3 c = search needs
-
-same-length-4 : tie.Need-same-length-4
-same-length-4 c = search needs
-
 returns-2 : tie.Need-returns-2
 returns-2 c =
-    let n = c .before .before .before .before .before .before .before .outcome .given .0 .0 in
-    let got = right-chokes (c .before .before .before .before .before .before .before .before .before .before .before .before .before .before) n (c .before .before .before .before .before .before .before .outcome .given .1) in
-    (c .before .before .before .before .before .before .before .before .before .before .before .before .before .before .solve .ensures .0, chokes-written (jobOf (c .before .before .before .before .before .before .before .before .before .before .before .before .before .before .before .before .before .before .before .before .before .args .job)) (now (c .before .before .before .before .before .before .before .before .before .before .before .before .before .before .before .before .before .before .before .before .before .args .sheet)) _ (c .before .before .put-cannot .result) (points (c .before .before .before .before .before .before .before .before .before .before .before .before .before .before) n) got (c .before .before .put-cannot .ensures))
+    let n = slice-known5→outcome c .outcome .given .0 .0 in
+    let got = right-chokes (slice-known5→solve c) n (slice-known5→outcome c .outcome .given .1) in (
+      slice-known5→solve c .solve .ensures .0,
+      chokes-written (jobOf (slice-known5→start c .args .job)) (now (slice-known5→start c .args .sheet)) _ (slice-known5→put-cannot c .put-cannot .result) (points (slice-known5→solve c) n) got
+          (slice-known5→put-cannot c .put-cannot .ensures),
+    )
 
 pub plan-job-spec : {M : Type 1} → statement M
 plan-job-spec =
     tie.close
     (tie.spec
-    slice-aggregate-solve
-    slice-aggregate-solve-2
-    slice-aggregate-solve-3
-    solve-requires
-    enum-told
-    slice-aggregate-put-plan
-    slice-aggregate-put-plan-2
-    slice-aggregate-put-plan-3
-    put-plan-requires
-    mul-result
-    same-length
-    same-length-2
-    returns
-    enum-known-outcome
-    slice-aggregate-put-cannot
-    slice-aggregate-put-cannot-2
-    put-cannot-requires
-    mul-result-2
-    add-result
-    same-length-3
-    same-length-4
-    returns-2)
+    (λ c. search needs) (λ c. search needs) (λ c. search needs) (λ c κs. search needs) (λ c. search needs) (λ c. search needs) (λ c. search needs) (λ c. search needs)
+    put-plan-requires mul-result (λ c. search needs) (λ c. search needs) returns (λ c. search needs) (λ c. search needs) (λ c. search needs) put-cannot-requires mul-result-2
+    add-result (λ c. search needs) (λ c. search needs) returns-2)

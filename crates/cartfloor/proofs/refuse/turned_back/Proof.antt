@@ -9,18 +9,6 @@ use borrow.Author.Needs.{needs}
 use Rattle.cartfloor.proofs.refuse.turned_back.Statement.{statement}
 use Rattle.cartfloor.proofs.refuse.turned_back.Tie as tie
 
-enum-told : tie.Need-enum-told
-enum-told c = search needs
-
-enum-told-2 : tie.Need-enum-told-2
-enum-told-2 c = search needs
-
-enum-known-answer : tie.Need-enum-known-answer
-enum-known-answer c = search needs
-
-number-of-requires : tie.Need-number-of-requires
-number-of-requires c κs = search needs
-
 line-fits : (c : tie.After-known-told) → c .before .answer .given .0 .1 .0 ≤ 16385
 line-fits c = subst LineFits (c .before .answer .given .1) (c .before .before .before .pre)
 
@@ -30,33 +18,12 @@ mul-result c = let h = line-fits (c .before) in omega (arith, h)
 add-result : tie.Need-add-result
 add-result c = let h = line-fits (c .before) in let f = fault-bound (c .before .before .answer .given .0 .0) in omega (arith, h, f .1)
 
-enum-told-3 : tie.Need-enum-told-3
-enum-told-3 c = search needs
-
-returns : tie.Need-returns
-returns c = search needs
-
-returns-2 : tie.Need-returns-2
-returns-2 c = search needs
-
 returns-3 : tie.Need-returns-3
 returns-3 c = rw (c .before .before .answer .given .1, c .number-of .ensures) refl
-
-returns-4 : tie.Need-returns-4
-returns-4 c = search needs
 
 pub turned-back-spec : {M : Type 1} → statement M
 turned-back-spec =
     tie.close
     (tie.spec
-    enum-told
-    enum-told-2
-    enum-known-answer
-    number-of-requires
-    mul-result
-    add-result
-    enum-told-3
-    returns
-    returns-2
-    returns-3
-    returns-4)
+    (λ c. search needs) (λ c. search needs) (λ c. search needs) (λ c κs. search needs) mul-result add-result (λ c. search needs) (λ c. search needs) (λ c. search needs) returns-3
+    (λ c. search needs))

@@ -10,6 +10,8 @@ use native.Mathlib.Omega.{arith}
 use borrow.Author.Needs.{needs}
 use Rattle.chokejudge.proofs.calls.chain.Statement.{statement}
 use Rattle.chokejudge.proofs.calls.chain.Tie as tie
+mod Places
+use Places.*
 
 abbrev Inv-loop : tie.InvT-loop
 Inv-loop deadlines calls latest₀ before₀ k₀ latest before k = (k ≤ calls) × Chains deadlines k latest before
@@ -17,77 +19,29 @@ Inv-loop deadlines calls latest₀ before₀ k₀ latest before k = (k ≤ calls
 abbrev μ-loop : tie.MeasureT-loop
 μ-loop deadlines calls latest₀ before₀ k₀ latest before k = calls - k
 
-clear-requires : tie.Need-clear-requires Inv-loop μ-loop
-clear-requires c κs = search needs
-
 loop-holds : tie.Need-loop-holds Inv-loop μ-loop
 loop-holds c =
-    let a = c .before .before .before .before .before .before .args in
-    let p = c .before .before .before .before .before .before .pre in
-    (omega arith, chains-none (now (a .deadlines)) (now (a .before)) (now (a .latest)) (c .before .before .clear .last .0) (p .2) (p .1) (zeroed (now (a .latest)) (c .before .before .clear .last .0) maxSteps (sym (p .1)) (c .before .before .clear .ensures)))
-
-element-copy-out-wide : tie.Need-element-copy-out-wide Inv-loop μ-loop
-element-copy-out-wide c = search needs
-
-wide-requires : tie.Need-wide-requires Inv-loop μ-loop
-wide-requires c κs = search needs
-
-slice-read-before : tie.Need-slice-read-before Inv-loop μ-loop
-slice-read-before c = search needs
-
-slice-write-before : tie.Need-slice-write-before Inv-loop μ-loop
-slice-write-before c = search needs
-
-add-latest : tie.Need-add-latest Inv-loop μ-loop
-add-latest c = search needs
-
-cast-latest : tie.Need-cast-latest Inv-loop μ-loop
-cast-latest c = search needs
-
-slice-write-latest : tie.Need-slice-write-latest Inv-loop μ-loop
-slice-write-latest c = search needs
-
-add-k : tie.Need-add-k Inv-loop μ-loop
-add-k c = search needs
-
-loop-less : tie.Need-loop-less Inv-loop μ-loop
-loop-less c = search needs
+    let a = slice-known3→start c .args in
+    let p = slice-known3→start c .pre in (
+      omega arith,
+      chains-none (now (a .deadlines)) (now (a .before)) (now (a .latest)) (slice-known3→clear c .clear .last .0) (p .2) (p .1)
+          (zeroed (now (a .latest)) (slice-known3→clear c .clear .last .0) maxSteps (sym (p .1)) (slice-known3→clear c .clear .ensures)),
+    )
 
 loop-again : tie.Need-loop-again Inv-loop μ-loop
 loop-again c =
-    let l = c .before .before .before .before .loop in
-    let w = c .before .wide .ensures in
-    (omega arith, rw (w .0) (chains-more (now (c .before .before .before .before .before .before .before .before .before .before .before .args .deadlines)) (l .k) (l .latest) (l .before) (omega arith) (omega (arith, w .0, w .1)) (l .inv .1)))
-
-same-length : tie.Need-same-length Inv-loop μ-loop
-same-length c = search needs
-
-same-length-2 : tie.Need-same-length-2 Inv-loop μ-loop
-same-length-2 c = search needs
+    let l = slice-known4→loop c .loop in
+    let w = slice-known4→wide c .wide .ensures in
+    (omega arith, rw (w .0) (chains-more (now (slice-known4→start c .args .deadlines)) (l .k) (l .latest) (l .before) (omega arith) (omega (arith, w .0, w .1)) (l .inv .1)))
 
 returns : tie.Need-returns Inv-loop μ-loop
 returns c =
-    let e : c .before .loop .k ≡ c .before .before .before .before .before .before .before .before .args .calls = omega arith in
+    let e : after-loop→loop c .loop .k ≡ after-loop→start c .args .calls = omega arith in
     rw e at (c .before .loop .inv .1)
 
 pub chain-spec : {M : Type 1} → statement M
 chain-spec =
     tie.close
     (tie.spec
-    Inv-loop
-    μ-loop
-    clear-requires
-    loop-holds
-    element-copy-out-wide
-    wide-requires
-    slice-read-before
-    slice-write-before
-    add-latest
-    cast-latest
-    slice-write-latest
-    add-k
-    loop-less
-    loop-again
-    same-length
-    same-length-2
-    returns)
+    Inv-loop μ-loop (λ c κs. search needs) loop-holds (λ c. search needs) (λ c κs. search needs) (λ c. search needs) (λ c. search needs) (λ c. search needs) (λ c. search needs)
+    (λ c. search needs) (λ c. search needs) (λ c. search needs) loop-again (λ c. search needs) (λ c. search needs) returns)

@@ -13,6 +13,8 @@ use Rattle.model.specs.Limits.{maxCalls, maxCells, maxSteps}
 use borrow.Author.Needs.{needs}
 use Rattle.chokejudge.proofs.calls.meets.Statement.{statement}
 use Rattle.chokejudge.proofs.calls.meets.Tie as tie
+mod Places
+use Places.*
 
 abbrev Hit : List ℕ → List ℕ → ℕ → Type 0
 Hit lifts since k = 0 < getD since (getD lifts k 0) 0
@@ -23,73 +25,52 @@ Inv-loop lifts latest before t since h₀ h = (t < maxSteps) × (length since �
 abbrev μ-loop : tie.MeasureT-loop
 μ-loop lifts latest before t since h₀ h = h
 
-shared-slice-read-wide : tie.Need-shared-slice-read-wide Inv-loop μ-loop
-shared-slice-read-wide c = search needs
-
-wide-requires : tie.Need-wide-requires Inv-loop μ-loop
-wide-requires c κs = search needs
-
 loop-holds : tie.Need-loop-holds Inv-loop μ-loop
 loop-holds c =
-    let p = c .before .before .before .before .before .pre in
-    (p .0, p .1, omega (arith, c .wide .ensures .0, p .2 .3 .last (c .before .before .before .before .before .args .t) (p .0) .few, p .2 .2), λ deadlines calls r. rw (c .wide .ensures .0) (passed-none (r .1) (Hit (now (c .before .before .before .before .before .args .lifts)) (now (c .before .before .before .before .before .args .since))) (c .before .before .before .before .before .args .t) (p .0)))
-
-sub-wide : tie.Need-sub-wide Inv-loop μ-loop
-sub-wide c = search needs
-
-element-copy-out-wide : tie.Need-element-copy-out-wide Inv-loop μ-loop
-element-copy-out-wide c = search needs
-
-wide-requires-2 : tie.Need-wide-requires-2 Inv-loop μ-loop
-wide-requires-2 c κs = search needs
-
-mul-if1 : tie.Need-mul-if1 Inv-loop μ-loop
-mul-if1 c = search needs
-
-shared-slice-read-if1 : tie.Need-shared-slice-read-if1 Inv-loop μ-loop
-shared-slice-read-if1 c = search needs
+    let p = wide→start c .pre in (
+      p .0,
+      p .1,
+      omega (arith, c .wide .ensures .0, p .2 .3 .last (wide→start c .args .t) (p .0) .few, p .2 .2),
+      λ deadlines calls r. rw (c .wide .ensures .0) (passed-none (r .1) (Hit (now (wide→start c .args .lifts)) (now (wide→start c .args .since))) (wide→start c .args .t) (p .0)),
+    )
 
 returns : tie.Need-returns Inv-loop μ-loop
 returns c =
-    let l = c .before .before .before .before .before .loop in
-    let b = c .before .before .before .before .loop-test .taken in
+    let l = then1→loop c .loop in
+    let b = then1→in-loop c .loop-test .taken in
     λ deadlines calls r. let q = l .inv .3 deadlines calls r in
-    (λ e. (l .h - 1, omega (arith, q .few), (q .is b, above (rw (c .before .before .wide2 .ensures .0) at (c .if1 .taken)))), λ e. nope (cc))
-
-sub-wide-2 : tie.Need-sub-wide-2 Inv-loop μ-loop
-sub-wide-2 c = search needs
-
-shared-slice-read-wide-2 : tie.Need-shared-slice-read-wide-2 Inv-loop μ-loop
-shared-slice-read-wide-2 c = search needs
-
-wide-requires-3 : tie.Need-wide-requires-3 Inv-loop μ-loop
-wide-requires-3 c κs = search needs
+    (λ e. (l .h - 1, omega (arith, q .few), (q .is b, above (rw (then1→wide2 c .wide2 .ensures .0) at (c .if1 .taken)))), λ e. nope (cc))
 
 loop-less : tie.Need-loop-less Inv-loop μ-loop
 loop-less c =
-    let p = c .before .before .before .before .before .before .before .before .before .before .before .before .before .pre in
-    let l = c .before .before .before .before .before .before .before .loop in
-    omega (arith, c .wide3 .ensures .0, p .2 .3 .back (l .h - 1) (omega (arith, l .inv .3 (p .2 .0) (p .2 .1) (p .2 .2, p .2 .3) .few, c .before .before .before .before .before .before .loop-test .taken)) .few, c .before .before .before .before .before .before .loop-test .taken)
+    let p = wide3→start c .pre in
+    let l = wide3→loop c .loop in
+    omega (
+      arith,
+      c .wide3 .ensures .0,
+      p .2 .3 .back (l .h - 1) (omega (arith, l .inv .3 (p .2 .0) (p .2 .1) (p .2 .2, p .2 .3) .few, wide3→in-loop c .loop-test .taken)) .few,
+      wide3→in-loop c .loop-test .taken,
+    )
 
 -- the call that was looked at is not met
 next : (c : tie.After-wide3 Inv-loop μ-loop) (deadlines : List ℕ) (calls : ℕ) → (calls ≤ maxCalls) × Chains deadlines calls (now (c .before .before .before .before .before .before .before .before .before .before .before .before .before .args .latest)) (now (c .before .before .before .before .before .before .before .before .before .before .before .before .before .args .before))
     → Passed deadlines calls (Hit (now (c .before .before .before .before .before .before .before .before .before .before .before .before .before .args .lifts)) (now (c .before .before .before .before .before .before .before .before .before .before .before .before .before .args .since))) (c .before .before .before .before .before .before .before .before .before .before .before .before .before .args .t) (c .wide3 .result)
 next c deadlines calls r =
-    let l = c .before .before .before .before .before .before .before .loop in
-    let a = c .before .before .before .before .before .before .before .before .before .before .before .before .before .args in
+    let l = wide3→loop c .loop in
+    let a = wide3→start c .args in
     rw (c .wide3 .ensures .0)
-    (passed-more (r .1) (Hit (now (a .lifts)) (now (a .since))) (a .t) (l .h) (c .before .before .before .before .before .before .loop-test .taken) (l .inv .3 deadlines calls r)
-    (λ q. omega (arith, q, rw (c .before .before .before .before .wide2 .ensures .0) at (c .before .before .if1 .left))))
+    (passed-more (r .1) (Hit (now (a .lifts)) (now (a .since))) (a .t) (l .h) (wide3→in-loop c .loop-test .taken) (l .inv .3 deadlines calls r)
+    (λ q. omega (arith, q, rw (wide3→wide2 c .wide2 .ensures .0) at (c .before .before .if1 .left))))
 
 loop-again : tie.Need-loop-again Inv-loop μ-loop
 loop-again c =
-    let p = c .before .before .before .before .before .before .before .before .before .before .before .before .before .pre in
-    let l = c .before .before .before .before .before .before .before .loop in
+    let p = wide3→start c .pre in
+    let l = wide3→loop c .loop in
     (l .inv .0, l .inv .1, omega (arith, next c (p .2 .0) (p .2 .1) (p .2 .2, p .2 .3) .few, p .2 .2), next c)
 
 returns-2 : tie.Need-returns-2 Inv-loop μ-loop
 returns-2 c =
-    let l = c .before .loop in
+    let l = after-loop→loop c .loop in
     λ deadlines calls r. let q = l .inv .3 deadlines calls r in
     (λ e. nope (cc), λ e p. q .none (p .0) (p .1) (omega arith) (p .2 .0) (p .2 .1))
 
@@ -97,20 +78,5 @@ pub meets-spec : {M : Type 1} → statement M
 meets-spec =
     tie.close
     (tie.spec
-    Inv-loop
-    μ-loop
-    shared-slice-read-wide
-    wide-requires
-    loop-holds
-    sub-wide
-    element-copy-out-wide
-    wide-requires-2
-    mul-if1
-    shared-slice-read-if1
-    returns
-    sub-wide-2
-    shared-slice-read-wide-2
-    wide-requires-3
-    loop-less
-    loop-again
-    returns-2)
+    Inv-loop μ-loop (λ c. search needs) (λ c κs. search needs) loop-holds (λ c. search needs) (λ c. search needs) (λ c κs. search needs) (λ c. search needs) (λ c. search needs)
+    returns (λ c. search needs) (λ c. search needs) (λ c κs. search needs) loop-less loop-again returns-2)

@@ -12,6 +12,8 @@ use Rattle.network.proofs.JobTables.{tracks-of}
 use borrow.Author.Needs.{needs}
 use Rattle.chokejudge.proofs.choke.is_choke_list.Statement.{statement}
 use Rattle.chokejudge.proofs.choke.is_choke_list.Tie as tie
+mod Places
+use Places.*
 
 arrays : (c : tie.Start) → Whole (c .args .t1)
 arrays c = whole (c .args .t1) (c .pre .1) (long (c .args .t1) (c .good .0 .0) (c .good .0 .1 .1))
@@ -22,70 +24,47 @@ enough-cells c = omega (arith, c .pre .1 .calls, c .pre .2, c .pre .4)
 enough-steps : (c : tie.Start) → c .args .n ≤ length (now (c .args .steps))
 enough-steps c = omega (arith, c .pre .1 .calls, c .pre .3, c .pre .4)
 
-in-order-requires : tie.Need-in-order-requires
-in-order-requires c κs = search needs
-
 returns : tie.Need-returns
-returns c = (λ e. nope (cc), λ e r. c .before .in-order .ensures .1 (not-true _ (c .if1 .taken)) (r .1))
-
-horizon-requires : tie.Need-horizon-requires
-horizon-requires c κs = search needs
-
-slice-aggregate-neighbours : tie.Need-slice-aggregate-neighbours
-slice-aggregate-neighbours c = search needs
-
-slice-aggregate-neighbours-2 : tie.Need-slice-aggregate-neighbours-2
-slice-aggregate-neighbours-2 c = search needs
-
-slice-aggregate-neighbours-3 : tie.Need-slice-aggregate-neighbours-3
-slice-aggregate-neighbours-3 c = search needs
+returns c = (λ e. nope (cc), λ e r. then1→in-order c .in-order .ensures .1 (not-true _ (c .if1 .taken)) (r .1))
 
 neighbours-requires : tie.Need-neighbours-requires
 neighbours-requires c κs =
-    let s = c .before .before .before .before .before .before .before .before .before .before .before .before .before in
+    let s = degree→start c in
     (tracks-of (s .args .t1) (arrays s) (s .pre .0), s .pre .1 .tracks, s .pre .0 .fit .few-cells, search needs, search needs, search needs)
-
-slice-aggregate-reaches : tie.Need-slice-aggregate-reaches
-slice-aggregate-reaches c = search needs
-
-slice-aggregate-reaches-2 : tie.Need-slice-aggregate-reaches-2
-slice-aggregate-reaches-2 c = search needs
-
-slice-aggregate-reaches-3 : tie.Need-slice-aggregate-reaches-3
-slice-aggregate-reaches-3 c = search needs
 
 reaches-requires : tie.Need-reaches-requires
 reaches-requires c κs =
-    let s = c .before .before .before .before .before .before .before .before .before .before .before .before .before .before .before .before .before .before .before .before .before .before .before .before in
+    let s = reaches-arg3→start c in
     let p = s .pre in
     let w = arrays s in
     let cells = now (s .args .cells) in
     let steps = now (s .args .steps) in
     let h = enough-cells s in
     let g = enough-steps s in
-    let r = c .before .before .before .before .before .before .before .before .before .before .neighbours .ensures in (
+    let r = reaches-arg3→neighbours c .neighbours .ensures in (
       p .1 .carts,
       p .1 .calls,
-      c .before .before .before .before .before .before .before .before .before .before .before .before .before .before .before .before .before .horizon .ensures .1,
+      reaches-arg3→horizon c .horizon .ensures .1,
       omega (arith, p .1 .calls, p .4),
       h,
       g,
-      climbs cells steps (s .args .n) (in-order cells steps (s .args .n) h g .0 (c .before .before .before .before .before .before .before .before .before .before .before .before .before .before .before .before .before .before .before .before .before .in-order .ensures .0 (not-false _ (c .before .before .before .before .before .before .before .before .before .before .before .before .before .before .before .before .before .before .before .before .if1 .left)))),
-      λ k b. omega (arith, deadline-by (s .args .t1) w k b, last-deadline (s .args .t1) w, c .before .before .before .before .before .before .before .before .before .before .before .before .before .before .before .before .before .horizon .ensures .0),
+      climbs cells steps (s .args .n) (in-order cells steps (s .args .n) h g .0 (reaches-arg3→in-order c .in-order .ensures .0 (not-false _ (reaches-arg3→else1 c .if1 .left)))),
+      λ k b. omega (arith, deadline-by (s .args .t1) w k b, last-deadline (s .args .t1) w, reaches-arg3→horizon c .horizon .ensures .0),
       (s .args .t1 .cells, floor-of (s .args .t1) w (p .0) r, carts-known (s .args .t1) w (p .0) r, points-known (s .args .t1) w (p .0) r cells steps (s .args .n) h g (p .5)),
     )
 
 returns-2 : tie.Need-returns-2
 returns-2 c =
-    let s = c .before .before .before .before .before .before .before .before .before .before .before .before .before .before .before .before .before .before .before .before .before .before .before .before .before in
+    let s = reaches→start c in
     let p = s .pre in
     let w = arrays s in
     let cells = now (s .args .cells) in
     let steps = now (s .args .steps) in
     let h = enough-cells s in
     let g = enough-steps s in
-    let r = c .before .before .before .before .before .before .before .before .before .before .before .neighbours .ensures in (
-      λ e. chokes-right (s .args .t1) w (p .0) r cells steps (s .args .n) h g (p .5) (c .reaches .ensures .1 (not-true _ e)) (p .4) (c .before .before .before .before .before .before .before .before .before .before .before .before .before .before .before .before .before .before .before .before .before .before .in-order .ensures .0 (not-false _ (c .before .before .before .before .before .before .before .before .before .before .before .before .before .before .before .before .before .before .before .before .before .if1 .left))),
+    let r = reaches→neighbours c .neighbours .ensures in (
+      λ e. chokes-right (s .args .t1) w (p .0) r cells steps (s .args .n) h g (p .5) (c .reaches .ensures .1 (not-true _ e)) (p .4)
+          (reaches→in-order c .in-order .ensures .0 (not-false _ (reaches→else1 c .if1 .left))),
       λ e. chokes-wrong (s .args .t1) w (p .0) r cells steps (s .args .n) h g (c .reaches .ensures .0 (not-false _ e)),
     )
 
@@ -93,15 +72,5 @@ pub is-choke-list-spec : {M : Type 1} → statement M
 is-choke-list-spec =
     tie.close
     (tie.spec
-    in-order-requires
-    returns
-    horizon-requires
-    slice-aggregate-neighbours
-    slice-aggregate-neighbours-2
-    slice-aggregate-neighbours-3
-    neighbours-requires
-    slice-aggregate-reaches
-    slice-aggregate-reaches-2
-    slice-aggregate-reaches-3
-    reaches-requires
-    returns-2)
+    (λ c κs. search needs) returns (λ c κs. search needs) (λ c. search needs) (λ c. search needs) (λ c. search needs) neighbours-requires (λ c. search needs) (λ c. search needs)
+    (λ c. search needs) reaches-requires returns-2)

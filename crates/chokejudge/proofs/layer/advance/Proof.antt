@@ -13,6 +13,8 @@ use mathlib.Core.Logic.{⊎-elim}
 use borrow.Author.Needs.{needs}
 use Rattle.chokejudge.proofs.layer.advance.Statement.{statement}
 use Rattle.chokejudge.proofs.layer.advance.Tie as tie
+mod Places
+use Places.*
 
 -- what u leads to, where it is older
 abbrev Ahead : List ℕ → List ℕ → List ℕ → List ℕ → ℕ → ℕ → ℕ → Type 0
@@ -26,39 +28,27 @@ abbrev μ-loop : tie.MeasureT-loop
 
 loop-holds : tie.Need-loop-holds Inv-loop μ-loop
 loop-holds c =
-    let a = c .before .before .before .before .before .args in
-    (omega arith, c .before .before .before .before .before .pre .2, grown-none (a .stamp) (now (a .since)) (now (a .queue)) (a .tail) (λ v p. absurd (omega (arith, p .1 .1, p .1 .2))), c .before .before .before .before .before .pre .1)
+    let a = slice-known2→start c .args in
+    (omega arith, slice-known2→start c .pre .2, grown-none (a .stamp) (now (a .since)) (now (a .queue)) (a .tail) (λ v p. absurd (omega (arith, p .1 .1, p .1 .2))), slice-known2→start c .pre .1)
 
 slice-read-wide : tie.Need-slice-read-wide Inv-loop μ-loop
-slice-read-wide c = omega (arith, in-queue (c .before .before .loop .inv .3), c .before .before .loop .inv .2 .more, c .before .before .before .before .before .before .before .before .pre .3, c .before .loop-test .taken)
-
-wide-requires : tie.Need-wide-requires Inv-loop μ-loop
-wide-requires c κs = search needs
-
-mul-is-older : tie.Need-mul-is-older Inv-loop μ-loop
-mul-is-older c = search needs
-
-slice-read-is-older : tie.Need-slice-read-is-older Inv-loop μ-loop
-slice-read-is-older c = search needs
-
-is-older-requires : tie.Need-is-older-requires Inv-loop μ-loop
-is-older-requires c κs = search needs
+slice-read-wide c = omega (arith, in-queue (slice-known3→loop c .loop .inv .3), slice-known3→loop c .loop .inv .2 .more, slice-known3→start c .pre .3, slice-known3→in-loop c .loop-test .taken)
 
 spread-requires : tie.Need-spread-requires Inv-loop μ-loop
-spread-requires c κs = (c .before .before .before .before .before .before .before .before .before .before .before .before .before .before .pre .0, c .before .before .before .before .before .before .before .before .loop .inv .3, c .before .before .before .before .before .before .before .before .before .before .before .before .before .before .pre .4 (c .before .before .before .before .before .wide .result) (older-same (c .before .before .before .before .before .before .before .before .loop .inv .2) (c .before .before .before .before .before .wide .result) .0 (c .before .before .before .is-older .ensures .0 (c .before .before .if1 .taken))))
-
-add-i : tie.Need-add-i Inv-loop μ-loop
-add-i c = search needs
-
-loop-less : tie.Need-loop-less Inv-loop μ-loop
-loop-less c = search needs
+spread-requires c κs = (
+  spread-arg2→start c .pre .0,
+  spread-arg2→loop c .loop .inv .3,
+  spread-arg2→start c .pre .4 (spread-arg2→wide c .wide .result)
+      (older-same (spread-arg2→loop c .loop .inv .2) (spread-arg2→wide c .wide .result) .0 (spread-arg2→is-older c .is-older .ensures .0 (spread-arg2→then1 c .if1 .taken))),
+)
 
 loop-again : tie.Need-loop-again Inv-loop μ-loop
 loop-again c =
     let a = c .before .before .before .before .before .before .before .before .before .before .before .before .args in
     let l = c .before .before .before .before .before .before .loop in
     let g = l .inv .2 in
-    let e : c .before .before .before .wide .result ≡ getD (now (a .queue)) (l .i) 0 = c .before .before .before .wide .ensures .0 ∙ g .front (l .i) (omega (arith, c .before .before .before .before .before .before .before .before .before .before .before .before .pre .3)) in
+    let e : c .before .before .before .wide .result ≡ getD (now (a .queue)) (l .i) 0 = c .before .before .before .wide .ensures .0
+    ∙ g .front (l .i) (omega (arith, c .before .before .before .before .before .before .before .before .before .before .before .before .pre .3)) in
     let o = c .before .is-older .ensures in
     ⊎-elim
     (λ w. (
@@ -79,33 +69,14 @@ loop-again c =
     ))
     (c .if1 .came)
 
-same-length : tie.Need-same-length Inv-loop μ-loop
-same-length c = search needs
-
-same-length-2 : tie.Need-same-length-2 Inv-loop μ-loop
-same-length-2 c = search needs
-
 returns : tie.Need-returns Inv-loop μ-loop
 returns c =
-    let e : c .before .loop .i ≡ c .before .before .before .before .before .before .before .args .end = omega arith in
+    let e : after-loop→loop c .loop .i ≡ after-loop→start c .args .end = omega arith in
     rw e at (c .before .loop .inv .2)
 
 pub advance-spec : {M : Type 1} → statement M
 advance-spec =
     tie.close
     (tie.spec
-    Inv-loop
-    μ-loop
-    loop-holds
-    slice-read-wide
-    wide-requires
-    mul-is-older
-    slice-read-is-older
-    is-older-requires
-    spread-requires
-    add-i
-    loop-less
-    loop-again
-    same-length
-    same-length-2
-    returns)
+    Inv-loop μ-loop loop-holds slice-read-wide (λ c κs. search needs) (λ c. search needs) (λ c. search needs) (λ c κs. search needs) spread-requires (λ c. search needs)
+    (λ c. search needs) loop-again (λ c. search needs) (λ c. search needs) returns)

@@ -13,6 +13,8 @@ use denote.Ref.{now}
 use borrow.Author.Needs.{needs}
 use Rattle.chokejudge.proofs.layer.choke.Statement.{statement}
 use Rattle.chokejudge.proofs.layer.choke.Tie as tie
+mod Places
+use Places.*
 
 abbrev Inv-loop : tie.InvT-loop
 Inv-loop cells steps n t first since₀ i₀ since i = (first ≤ i) × (i ≤ n) × ((k : ℕ) → first ≤ k → k < i → getD steps k 0 ≡ t) × Cleared (Between cells first i) since₀ since × (members since₀ + first ≤ members since + i)
@@ -22,86 +24,42 @@ abbrev μ-loop : tie.MeasureT-loop
 
 loop-holds : tie.Need-loop-holds Inv-loop μ-loop
 loop-holds c =
-    let a = c .before .before .before .args in
-    (omega arith, c .before .before .before .pre .4 .few, λ k h g. absurd (omega arith), cleared-none (now (a .cells)) (a .first) (now (a .since)), omega arith)
-
-shared-slice-read-wide : tie.Need-shared-slice-read-wide Inv-loop μ-loop
-shared-slice-read-wide c = search needs
-
-wide-requires : tie.Need-wide-requires Inv-loop μ-loop
-wide-requires c κs = search needs
-
-same-length : tie.Need-same-length Inv-loop μ-loop
-same-length c = search needs
+    let a = slice-known→start c .args in
+    (omega arith, slice-known→start c .pre .4 .few, λ k h g. absurd (omega arith), cleared-none (now (a .cells)) (a .first) (now (a .since)), omega arith)
 
 returns : tie.Need-returns Inv-loop μ-loop
 returns c =
-    let a = c .before .before .before .before .before .before .before .before .args in
-    let l = c .before .before .before .before .loop in
-    let p = c .before .before .before .before .before .before .before .before .pre in (
+    let a = then1→start c .args in
+    let l = then1→loop c .loop in
+    let p = then1→start c .pre in (
       l .inv .0,
       cursor-end (now (a .steps)) (a .n) (a .t) (a .first) (p .4) (l .i) (omega arith) (l .inv .2)
-          (λ k lo hi. later (now (a .steps)) (a .n) (a .t) (a .first) (p .4) (p .3) (l .i) (l .inv .0) (rw (c .before .wide .ensures .0) at (c .if1 .taken)) k lo hi),
+          (λ k lo hi. later (now (a .steps)) (a .n) (a .t) (a .first) (p .4) (p .3) (l .i) (l .inv .0) (rw (then1→wide c .wide .ensures .0) at (c .if1 .taken)) k lo hi),
       l .inv .3,
       l .inv .4,
     )
 
-shared-slice-read-wide-2 : tie.Need-shared-slice-read-wide-2 Inv-loop μ-loop
-shared-slice-read-wide-2 c = search needs
-
-wide-requires-2 : tie.Need-wide-requires-2 Inv-loop μ-loop
-wide-requires-2 c κs = search needs
-
-mul-since : tie.Need-mul-since Inv-loop μ-loop
-mul-since c = search needs
-
-slice-write-since : tie.Need-slice-write-since Inv-loop μ-loop
-slice-write-since c = search needs
-
-add-i : tie.Need-add-i Inv-loop μ-loop
-add-i c = search needs
-
-loop-less : tie.Need-loop-less Inv-loop μ-loop
-loop-less c = search needs
-
 loop-again : tie.Need-loop-again Inv-loop μ-loop
 loop-again c =
-    let a = c .before .before .before .before .before .before .before .before .before .before .args in
-    let l = c .before .before .before .before .before .before .loop in
+    let a = wide2→start c .args in
+    let l = wide2→loop c .loop in
     let e = c .wide2 .ensures in (
       omega arith,
       omega arith,
-      λ k lo hi. ⊎-elim (λ z. rw z (sym (c .before .before .before .wide .ensures .0) ∙ c .before .before .if1 .left)) (λ m. l .inv .2 k lo m) (eq-or-lt-of-le {n = k} {m = l .i} (omega arith)),
-      rw (e .0) (cleared-more (now (a .cells)) (a .first) (l .i) (now (a .since)) (l .since) (l .inv .0) (omega (arith, e .0, e .1, l .inv .3 .size, c .before .before .before .before .before .before .before .before .before .before .pre .2)) (l .inv .3)),
+      λ k lo hi. ⊎-elim (λ z. rw z (sym (wide2→wide c .wide .ensures .0) ∙ wide2→else1 c .if1 .left)) (λ m. l .inv .2 k lo m) (eq-or-lt-of-le {n = k} {m = l .i} (omega arith)),
+      rw (e .0) (cleared-more (now (a .cells)) (a .first) (l .i) (now (a .since)) (l .since) (l .inv .0) (omega (arith, e .0, e .1, l .inv .3 .size, wide2→start c .pre .2)) (l .inv .3)),
       omega (arith, members-clear (l .since) (c .wide2 .result), l .inv .4),
     )
 
-same-length-2 : tie.Need-same-length-2 Inv-loop μ-loop
-same-length-2 c = search needs
-
 returns-2 : tie.Need-returns-2 Inv-loop μ-loop
 returns-2 c =
-    let a = c .before .before .before .before .before .args in
-    let l = c .before .loop in
-    (l .inv .0, cursor-end (now (a .steps)) (a .n) (a .t) (a .first) (c .before .before .before .before .before .pre .4) (l .i) (omega arith) (l .inv .2) (λ k lo hi. absurd (omega arith)), l .inv .3, l .inv .4)
+    let a = after-loop→start c .args in
+    let l = after-loop→loop c .loop in
+    (l .inv .0, cursor-end (now (a .steps)) (a .n) (a .t) (a .first) (after-loop→start c .pre .4) (l .i) (omega arith) (l .inv .2) (λ k lo hi. absurd (omega arith)), l .inv .3, l .inv .4)
 
 pub choke-spec : {M : Type 1} → statement M
 choke-spec =
     tie.close
     (tie.spec
-    Inv-loop
-    μ-loop
-    loop-holds
-    shared-slice-read-wide
-    wide-requires
-    same-length
-    returns
-    shared-slice-read-wide-2
-    wide-requires-2
-    mul-since
-    slice-write-since
-    add-i
-    loop-less
-    loop-again
-    same-length-2
-    returns-2)
+    Inv-loop μ-loop loop-holds (λ c. search needs) (λ c κs. search needs) (λ c. search needs) returns (λ c. search needs) (λ c κs. search needs) (λ c. search needs)
+    (λ c. search needs) (λ c. search needs) (λ c. search needs) loop-again (λ c. search needs) returns-2)

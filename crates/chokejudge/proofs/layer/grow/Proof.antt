@@ -6,28 +6,25 @@ use denote.Ref.{now}
 use borrow.Author.Needs.{needs}
 use Rattle.chokejudge.proofs.layer.grow.Statement.{statement}
 use Rattle.chokejudge.proofs.layer.grow.Tie as tie
+mod Places
+use Places.*
 
 rejoin-requires : tie.Need-rejoin-requires
 rejoin-requires c κs =
-    let p = c .before .before .before .before .before .before .before .before .pre in
+    let p = rejoin-arg2→start c .pre in
     (p .0, p .1, p .2, p .3, p .5)
 
 advance-requires : tie.Need-advance-requires
 advance-requires c κs =
-    let p = c .before .before .before .before .before .before .before .before .before .before .before .before .before .before .before .pre in
-    let g = c .before .before .before .before .before .before .rejoin .ensures in
+    let p = advance-arg2→start c .pre in
+    let g = advance-arg2→rejoin c .rejoin .ensures in
     (p .0, still-roomy g (p .1), p .4, g .more, λ v o. p .6 v (older-same g v .0 o))
-
-same-length : tie.Need-same-length
-same-length c = search needs
-
-same-length-2 : tie.Need-same-length-2
-same-length-2 c = search needs
 
 returns : tie.Need-returns
 returns c =
-    let a = c .before .before .before .before .before .before .before .before .before .before .before .before .before .before .before .before .before .before .before .before .args in
-    both (Again (now (a .near)) (now (a .start)) (now (a .degree)) (now (a .cells)) (a .first) (a .end) (now (a .since)) (a .stamp)) (Row (now (a .near)) (now (a .start)) (now (a .degree))) (a .head) (c .before .before .before .before .before .before .before .before .before .before .before .rejoin .ensures) (c .before .before .before .before .advance .ensures)
+    let a = slice-known6→start c .args in
+    both (Again (now (a .near)) (now (a .start)) (now (a .degree)) (now (a .cells)) (a .first) (a .end) (now (a .since)) (a .stamp)) (Row (now (a .near)) (now (a .start)) (now (a .degree))) (a .head)
+    (slice-known6→rejoin c .rejoin .ensures) (slice-known6→advance c .advance .ensures)
 
 pub grow-spec : {M : Type 1} → statement M
-grow-spec = tie.close (tie.spec rejoin-requires advance-requires same-length same-length-2 returns)
+grow-spec = tie.close (tie.spec rejoin-requires advance-requires (λ c. search needs) (λ c. search needs) returns)

@@ -13,6 +13,8 @@ use mathlib.Core.Logic.{⊎-elim}
 use borrow.Author.Needs.{needs}
 use Rattle.chokejudge.proofs.layer.rejoin.Statement.{statement}
 use Rattle.chokejudge.proofs.layer.rejoin.Tie as tie
+mod Places
+use Places.*
 
 -- u itself, where its row has an older cell
 abbrev Back : List ℕ → List ℕ → List ℕ → List ℕ → ℕ → ℕ → ℕ → Type 0
@@ -26,36 +28,22 @@ abbrev μ-loop : tie.MeasureT-loop
 
 loop-holds : tie.Need-loop-holds Inv-loop μ-loop
 loop-holds c =
-    let a = c .before .before .before .before .before .before .args in
-    (omega arith, c .before .before .before .before .before .before .pre .2, grown-none (a .stamp) (now (a .since)) (now (a .queue)) (a .tail) (λ v p. absurd (omega (arith, p .1 .1, p .1 .2))), c .before .before .before .before .before .before .pre .1)
-
-shared-slice-read-wide : tie.Need-shared-slice-read-wide Inv-loop μ-loop
-shared-slice-read-wide c = search needs
-
-wide-requires : tie.Need-wide-requires Inv-loop μ-loop
-wide-requires c κs = search needs
+    let a = slice-known2→start c .args in
+    (omega arith, slice-known2→start c .pre .2, grown-none (a .stamp) (now (a .since)) (now (a .queue)) (a .tail) (λ v p. absurd (omega (arith, p .1 .1, p .1 .2))), slice-known2→start c .pre .1)
 
 borders-requires : tie.Need-borders-requires Inv-loop μ-loop
-borders-requires c κs = (c .before .before .before .before .loop .inv .3 .cells, rw (c .before .wide .ensures .0) (c .before .before .before .before .before .before .before .before .before .before .before .pre .4 (c .before .before .before .before .loop .k) (c .before .before .before .loop-test .taken)))
-
-shared-slice-read-add : tie.Need-shared-slice-read-add Inv-loop μ-loop
-shared-slice-read-add c = search needs
+borders-requires c κs =
+    (borders-arg→loop c .loop .inv .3 .cells, rw (borders-arg→wide c .wide .ensures .0) (borders-arg→start c .pre .4 (borders-arg→loop c .loop .k) (borders-arg→in-loop c .loop-test .taken)))
 
 add-requires : tie.Need-add-requires Inv-loop μ-loop
-add-requires c κs = (c .before .before .before .before .before .before .before .before .before .before .before .before .before .before .before .before .pre .0, c .before .before .before .before .before .before .before .before .before .loop .inv .3)
-
-add-k : tie.Need-add-k Inv-loop μ-loop
-add-k c = search needs
-
-loop-less : tie.Need-loop-less Inv-loop μ-loop
-loop-less c = search needs
+add-requires c κs = (shared-slice-known6→start c .pre .0, shared-slice-known6→loop c .loop .inv .3)
 
 loop-again : tie.Need-loop-again Inv-loop μ-loop
 loop-again c =
-    let a = c .before .before .before .before .before .before .before .before .before .before .before .before .before .args in
-    let l = c .before .before .before .before .before .before .loop in
+    let a = joined1→start c .args in
+    let l = joined1→loop c .loop in
     let g = l .inv .2 in
-    let e = c .before .before .before .wide .ensures .0 in
+    let e = joined1→wide c .wide .ensures .0 in
     let b = rw e at (c .before .borders .ensures) in
     let same = older-some g (Row (now (a .near)) (now (a .start)) (now (a .degree)) (getD (now (a .cells)) (l .k) 0)) in
     ⊎-elim
@@ -77,33 +65,15 @@ loop-again c =
     ))
     (c .if1 .came)
 
-same-length : tie.Need-same-length Inv-loop μ-loop
-same-length c = search needs
-
-same-length-2 : tie.Need-same-length-2 Inv-loop μ-loop
-same-length-2 c = search needs
-
 returns : tie.Need-returns Inv-loop μ-loop
 returns c =
-    let a = c .before .before .before .before .before .before .before .before .args in
-    let e : c .before .loop .k ≡ a .end = omega arith in
+    let a = after-loop→start c .args in
+    let e : after-loop→loop c .loop .k ≡ a .end = omega arith in
     themselves (Between (now (a .cells)) (a .first) (a .end)) (λ u. (x : ℕ) × Row (now (a .near)) (now (a .start)) (now (a .degree)) u x × Older (now (a .since)) (a .stamp) x) (rw e at (c .before .loop .inv .2))
 
 pub rejoin-spec : {M : Type 1} → statement M
 rejoin-spec =
     tie.close
     (tie.spec
-    Inv-loop
-    μ-loop
-    loop-holds
-    shared-slice-read-wide
-    wide-requires
-    borders-requires
-    shared-slice-read-add
-    add-requires
-    add-k
-    loop-less
-    loop-again
-    same-length
-    same-length-2
-    returns)
+    Inv-loop μ-loop loop-holds (λ c. search needs) (λ c κs. search needs) borders-requires (λ c. search needs) add-requires (λ c. search needs) (λ c. search needs) loop-again
+    (λ c. search needs) (λ c. search needs) returns)

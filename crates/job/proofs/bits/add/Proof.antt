@@ -12,21 +12,6 @@ use borrow.Author.Needs.{needs}
 use Rattle.job.proofs.bits.add.Statement.{statement}
 use Rattle.job.proofs.bits.add.Tie as tie
 
-cast-table : tie.Need-cast-table
-cast-table c = search needs
-
-shl-table : tie.Need-shl-table
-shl-table c = search needs
-
-slice-read-table : tie.Need-slice-read-table
-slice-read-table c = search needs
-
-slice-write-table : tie.Need-slice-write-table
-slice-write-table c = search needs
-
-same-length : tie.Need-same-length
-same-length c = search needs
-
 returns : tie.Need-returns
 unfolding withBit
 returns c =
@@ -35,6 +20,4 @@ returns c =
     ap (λ n. set (now (a .table)) (a .i / 8) (bitOr (getD (now (a .table)) (a .i / 8) 0) n)) (shl-exact 1 k 8 (omega arith) (omega arith) ∙ one-mul (2 ^ k))
 
 pub add-spec : {M : Type 1} → statement M
-add-spec =
-    tie.close
-    (tie.spec cast-table shl-table slice-read-table slice-write-table same-length returns)
+add-spec = tie.close (tie.spec (λ c. search needs) (λ c. search needs) (λ c. search needs) (λ c. search needs) (λ c. search needs) returns)

@@ -10,15 +10,6 @@ use borrow.Author.Needs.{needs}
 use Rattle.job.proofs.bits.has.Statement.{statement}
 use Rattle.job.proofs.bits.has.Tie as tie
 
-shared-slice-read-result : tie.Need-shared-slice-read-result
-shared-slice-read-result c = search needs
-
-cast-result : tie.Need-cast-result
-cast-result c = search needs
-
-shr-result : tie.Need-shr-result
-shr-result c = search needs
-
 returns : tie.Need-returns
 unfolding bitAt
 returns c =
@@ -26,4 +17,4 @@ returns c =
     ap (λ n. eqb n 1) (and-mask (getD (now (a .table)) (a .i / 8) 0 / 2 ^ (a .i % 8)) 1)
 
 pub has-spec : {M : Type 1} → statement M
-has-spec = tie.close (tie.spec shared-slice-read-result cast-result shr-result returns)
+has-spec = tie.close (tie.spec (λ c. search needs) (λ c. search needs) (λ c. search needs) returns)

@@ -11,64 +11,43 @@ use Rattle.job.proofs.Entries.{count-few, givenSay, fields-out, fields-
 use borrow.Author.Needs.{needs}
 use Rattle.job.proofs.line.fields_say.Statement.{statement}
 use Rattle.job.proofs.line.fields_say.Tie as tie
-
-may-follow-requires : tie.Need-may-follow-requires
-may-follow-requires c κs = search needs
+mod Places
+use Places.*
 
 returns : tie.Need-returns
 returns c =
-    let a = c .before .before .before .before .args in
-    (tt, λ j q m. sym (fields-out j (kindOf (a .kind)) (fieldsOf (now (a .fields))) (sym (c .before .may-follow .ensures j q) ∙ not-true _ (c .if1 .taken))))
-
-field-count-requires : tie.Need-field-count-requires
-field-count-requires c κs = search needs
+    let a = then1→start c .args in
+    (tt, λ j q m. sym (fields-out j (kindOf (a .kind)) (fieldsOf (now (a .fields))) (sym (then1→may-follow c .may-follow .ensures j q) ∙ not-true _ (c .if1 .taken))))
 
 numbers-of-requires : tie.Need-numbers-of-requires
-numbers-of-requires c κs = rw (c .field-count .ensures) (count-few (kindOf (c .before .before .before .before .before .args .kind)))
-
-enum-known-fault : tie.Need-enum-known-fault
-enum-known-fault c = search needs
-
-enum-known-a : tie.Need-enum-known-a
-enum-known-a c = search needs
-
-numbers-say-requires : tie.Need-numbers-say-requires
-numbers-say-requires c κs = search needs
+numbers-of-requires c κs = rw (c .field-count .ensures) (count-few (kindOf (field-count→start c .args .kind)))
 
 abbrev start : tie.After-numbers-of → tie.Start
-start c = c .before .before .before .before .before .before
+start c = numbers-of→start c
 
 numbered : (c : tie.After-numbers-of) (j : model.Job) → Counted (start c .args .counts) j
     → fieldsSay j (kindOf (start c .args .kind)) (fieldsOf (now (start c .args .fields))) ≡ givenSay j (kindOf (start c .args .kind)) (c .numbers-of .result)
 numbered c j q =
     let k = kindOf (start c .args .kind) in
     let fs = fieldsOf (now (start c .args .fields)) in
-    fields-by j k fs (sym (c .before .before .before .may-follow .ensures j q) ∙ not-false _ (c .before .before .if1 .left))
-    ∙ ap (givenSay j k) (sym (c .numbers-of .ensures ∙ ap (λ n. numbersGiven n fs) (c .before .field-count .ensures)))
+    fields-by j k fs (sym (numbers-of→may-follow c .may-follow .ensures j q) ∙ not-false _ (numbers-of→else1 c .if1 .left))
+    ∙ ap (givenSay j k) (sym (c .numbers-of .ensures ∙ ap (λ n. numbersGiven n fs) (numbers-of→field-count c .field-count .ensures)))
 
 returns-2 : tie.Need-returns-2
 unfolding givenSay
 returns-2 c =
-    let n = c .before .before .before in
-    (tt, λ j q m. sym (numbered n j q ∙ ap (givenSay j (kindOf (start n .args .kind))) (c .before .fault .given .1)))
+    let n = known-told→numbers-of c in
+    (tt, λ j q m. sym (numbered n j q ∙ ap (givenSay j (kindOf (start n .args .kind))) (known-told→fault c .fault .given .1)))
 
 returns-3 : tie.Need-returns-3
 unfolding givenSay
 returns-3 c =
-    let n = c .before .before .before .before in
+    let n = numbers-say→numbers-of c in
     let (sound, said) = c .numbers-say .ensures in
-    (sound, λ j q m. said j q m ∙ sym (numbered n j q ∙ ap (givenSay j (kindOf (start n .args .kind))) (c .before .before .a .given .1)))
+    (sound, λ j q m. said j q m ∙ sym (numbered n j q ∙ ap (givenSay j (kindOf (start n .args .kind))) (numbers-say→a c .a .given .1)))
 
 pub fields-say-spec : {M : Type 1} → statement M
 fields-say-spec =
     tie.close
     (tie.spec
-    may-follow-requires
-    returns
-    field-count-requires
-    numbers-of-requires
-    enum-known-fault
-    enum-known-a
-    numbers-say-requires
-    returns-2
-    returns-3)
+    (λ c κs. search needs) returns (λ c κs. search needs) numbers-of-requires (λ c. search needs) (λ c. search needs) (λ c κs. search needs) returns-2 returns-3)

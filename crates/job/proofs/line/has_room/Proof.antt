@@ -6,18 +6,6 @@ use borrow.Author.Needs.{needs}
 use Rattle.job.proofs.line.has_room.Statement.{statement}
 use Rattle.job.proofs.line.has_room.Tie as tie
 
-enum-told : tie.Need-enum-told
-enum-told c = search needs
-
-enum-told-2 : tie.Need-enum-told-2
-enum-told-2 c = search needs
-
-enum-told-3 : tie.Need-enum-told-3
-enum-told-3 c = search needs
-
-enum-told-4 : tie.Need-enum-told-4
-enum-told-4 c = search needs
-
 returns : tie.Need-returns
 returns c = λ j k. rw (c .enum-told .given .1)
 
@@ -31,6 +19,4 @@ returns-4 : tie.Need-returns-4
 returns-4 c = λ j k. rw (c .before .enum-told4 .given .1) (ap (λ n. ltb n maxCalls) (k .calls))
 
 pub has-room-spec : {M : Type 1} → statement M
-has-room-spec =
-    tie.close
-    (tie.spec enum-told enum-told-2 enum-told-3 enum-told-4 returns returns-2 returns-3 returns-4)
+has-room-spec = tie.close (tie.spec (λ c. search needs) (λ c. search needs) (λ c. search needs) (λ c. search needs) returns returns-2 returns-3 returns-4)

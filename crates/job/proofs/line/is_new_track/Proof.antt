@@ -8,24 +8,23 @@ use Rattle.job.proofs.Triangle.{pair-small}
 use borrow.Author.Needs.{needs}
 use Rattle.job.proofs.line.is_new_track.Statement.{statement}
 use Rattle.job.proofs.line.is_new_track.Tie as tie
+mod Places
+use Places.*
 
 returns : tie.Need-returns
 returns c = λ j m. simp (eq-eqb _ _ (c .if1 .taken))
 
-pair-requires : tie.Need-pair-requires
-pair-requires c κs = search needs
-
 has-requires : tie.Need-has-requires
 has-requires c κs =
-    let s = c .before .before .before in
+    let s = pair→start c in
     omega (arith, c .pair .ensures, pair-small (s .args .a) (s .args .b) (s .pre .0) (s .pre .1))
 
 returns-2 : tie.Need-returns-2
 returns-2 c =
     λ j m.
-    let s = c .before .before .before .before in
-    rw (c .has .ensures, c .before .pair .ensures)
-    (simp (ne-eqb _ _ (c .before .before .if1 .left)) (ap not (m .tracks (s .args .a) (s .args .b) (s .pre .0) (s .pre .1))))
+    let s = has→start c in
+    rw (c .has .ensures, has→pair c .pair .ensures)
+    (simp (ne-eqb _ _ (has→else1 c .if1 .left)) (ap not (m .tracks (s .args .a) (s .args .b) (s .pre .0) (s .pre .1))))
 
 pub is-new-track-spec : {M : Type 1} → statement M
-is-new-track-spec = tie.close (tie.spec returns pair-requires has-requires returns-2)
+is-new-track-spec = tie.close (tie.spec returns (λ c κs. search needs) has-requires returns-2)

@@ -14,79 +14,60 @@ use Rattle.job.proofs.Entries.{numbers-form, numbers-none, numbers-one,
 use borrow.Author.Needs.{needs}
 use Rattle.job.proofs.line.numbers_of.Statement.{statement}
 use Rattle.job.proofs.line.numbers_of.Tie as tie
-
-field-count-requires : tie.Need-field-count-requires
-field-count-requires c κs = search needs
+mod Places
+use Places.*
 
 returns : tie.Need-returns
 returns c =
-    let a = c .before .before .before .args in
-    sym (numbers-form (now (a .fields)) (a .count) (λ e. c .if1 .taken (c .before .field-count .ensures ∙ e)))
-
-number-requires : tie.Need-number-requires
-number-requires c κs = search needs
-
-enum-known-value : tie.Need-enum-known-value
-enum-known-value c = search needs
-
-enum-told : tie.Need-enum-told
-enum-told c = search needs
+    let a = then1→start c .args in
+    sym (numbers-form (now (a .fields)) (a .count) (λ e. c .if1 .taken (then1→field-count c .field-count .ensures ∙ e)))
 
 returns-2 : tie.Need-returns-2
 returns-2 c =
-    let n = c .before .before .before .before in
-    let a = n .before .before .args in
+    let n = enum-told→field-count c in
+    let a = field-count→start n .args in
     let e : numberAt (now (a .fields)) 0 ≡ scan.Fault = cc in
-    sym (numbers-none (now (a .fields)) (a .count) (sym (n .field-count .ensures) ∙ c .before .before .before .if1 .left) e)
+    sym (numbers-none (now (a .fields)) (a .count) (sym (n .field-count .ensures) ∙ enum-told→else1 c .if1 .left) e)
 
 returns-3 : tie.Need-returns-3
 returns-3 c =
-    let n = c .before .before .before .before .before .before in
-    let s = now (n .before .before .args .fields) in
-    let v = c .before .before .value .given .0 in
-    let one : length (fieldsOf s) ≡ 1 = sym (n .field-count .ensures) ∙ c .before .before .before .before .before .if1 .left ∙ c .if2 .taken in
+    let n = then2→field-count c in
+    let s = now (field-count→start n .args .fields) in
+    let v = then2→value c .value .given .0 in
+    let one : length (fieldsOf s) ≡ 1 = sym (n .field-count .ensures) ∙ then2→else1 c .if1 .left ∙ c .if2 .taken in
     let e : numberAt s 0 ≡ scan.Value (v .0) (v .1 .0) = cc in
     rw (c .if2 .taken) (sym (numbers-one s (v .0) (v .1 .0) e one))
 
 -- Past the test for one field there are two, and the first is a number.
-two : (c : tie.Else2) → c .before .before .before .before .before .before .before .before .args .count ≡ 2
-two c = ⊎-elim (λ h. absurd (c .if2 .left h)) (λ h. h) (c .before .before .before .before .before .before .before .before .pre)
+two : (c : tie.Else2) → else2→start c .args .count ≡ 2
+two c = ⊎-elim (λ h. absurd (c .if2 .left h)) (λ h. h) (else2→start c .pre)
 
-fields : (c : tie.Else2) → length (fieldsOf (now (c .before .before .before .before .before .before .before .before .args .fields))) ≡ 2
-fields c = sym (c .before .before .before .before .before .before .field-count .ensures) ∙ c .before .before .before .before .before .if1 .left ∙ two c
+fields : (c : tie.Else2) → length (fieldsOf (now (else2→start c .args .fields))) ≡ 2
+fields c = sym (else2→field-count c .field-count .ensures) ∙ else2→else1 c .if1 .left ∙ two c
 
-first : (c : tie.Else2) → numberAt (now (c .before .before .before .before .before .before .before .before .args .fields)) 0 ≡ scan.Value (c .before .before .value .given .0 .0) (c .before .before .value .given .0 .1 .0)
+first : (c : tie.Else2) → numberAt (now (else2→start c .args .fields)) 0 ≡ scan.Value (else2→value c .value .given .0 .0) (else2→value c .value .given .0 .1 .0)
 first c = cc
 
 add-number : tie.Need-add-number
 add-number c =
-    let v = c .before .before .value .given .0 in
-    let b = number-bound (now (c .before .before .before .before .before .before .before .before .args .fields)) 0 (v .0) (v .1 .0) (first c) (omega arith) in
+    let v = else2→value c .value .given .0 in
+    let b = number-bound (now (else2→start c .args .fields)) 0 (v .0) (v .1 .0) (first c) (omega arith) in
     omega arith
-
-number-requires-2 : tie.Need-number-requires-2
-number-requires-2 c κs = search needs
-
-enum-known-value-2 : tie.Need-enum-known-value-2
-enum-known-value-2 c = search needs
-
-enum-told-2 : tie.Need-enum-told-2
-enum-told-2 c = search needs
 
 returns-4 : tie.Need-returns-4
 returns-4 c =
-    let d = c .before .before .before in
-    let s = now (d .before .before .before .before .before .before .before .before .args .fields) in
-    let v = d .before .before .value .given .0 in
+    let d = enum-told2→else2 c in
+    let s = now (else2→start d .args .fields) in
+    let v = else2→value d .value .given .0 in
     let f : numberAt s (v .1 .0 + 1) ≡ scan.Fault = cc in
     rw (two d) (sym (numbers-second s (v .0) (v .1 .0) (first d) (fields d) f))
 
 returns-5 : tie.Need-returns-5
 returns-5 c =
-    let d = c .before .before .before .before in
-    let s = now (d .before .before .before .before .before .before .before .before .args .fields) in
-    let v = d .before .before .value .given .0 in
-    let w = c .before .value2 .given .0 in
+    let d = known-told2→else2 c in
+    let s = now (else2→start d .args .fields) in
+    let v = else2→value d .value .given .0 in
+    let w = known-told2→value2 c .value2 .given .0 in
     let f : numberAt s (v .1 .0 + 1) ≡ scan.Value (w .0) (w .1 .0) = cc in
     rw (two d) (sym (numbers-two s (v .0) (v .1 .0) (first d) (fields d) (w .0) (w .1 .0) f))
 
@@ -94,16 +75,5 @@ pub numbers-of-spec : {M : Type 1} → statement M
 numbers-of-spec =
     tie.close
     (tie.spec
-    field-count-requires
-    returns
-    number-requires
-    enum-known-value
-    enum-told
-    returns-2
-    returns-3
-    add-number
-    number-requires-2
-    enum-known-value-2
-    enum-told-2
-    returns-4
-    returns-5)
+    (λ c κs. search needs) returns (λ c κs. search needs) (λ c. search needs) (λ c. search needs) returns-2 returns-3 add-number (λ c κs. search needs) (λ c. search needs)
+    (λ c. search needs) returns-4 returns-5)

@@ -25,21 +25,6 @@ first-two j Range k a b h = absurd (⊎-elim (λ e. omega arith) (λ e. omega ar
 first-two j Room k a b h = absurd (⊎-elim (λ e. omega arith) (λ e. omega arith) h)
 first-two j Doubled k a b h = absurd (⊎-elim (λ e. omega arith) (λ e. omega arith) h)
 
-enum-told : tie.Need-enum-told
-enum-told c = search needs
-
-in-range-requires : tie.Need-in-range-requires
-in-range-requires c κs = search needs
-
-enum-told-2 : tie.Need-enum-told-2
-enum-told-2 c = search needs
-
-has-room-requires : tie.Need-has-room-requires
-has-room-requires c κs = search needs
-
-enum-told-3 : tie.Need-enum-told-3
-enum-told-3 c = search needs
-
 is-new-requires : tie.Need-is-new-requires
 is-new-requires c κs = rw (c .enum-told3 .given .1) at (c .before .before .before .pre)
 
@@ -59,13 +44,4 @@ pub passes-spec : {M : Type 1} → statement M
 passes-spec =
     tie.close
     (tie.spec
-    enum-told
-    in-range-requires
-    enum-told-2
-    has-room-requires
-    enum-told-3
-    is-new-requires
-    returns
-    returns-2
-    returns-3
-    returns-4)
+    (λ c. search needs) (λ c κs. search needs) (λ c. search needs) (λ c κs. search needs) (λ c. search needs) is-new-requires returns returns-2 returns-3 returns-4)

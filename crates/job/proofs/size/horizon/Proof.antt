@@ -13,6 +13,8 @@ use Rattle.job.proofs.Arrays.{latest-suc}
 use borrow.Author.Needs.{needs}
 use Rattle.job.proofs.size.horizon.Statement.{statement}
 use Rattle.job.proofs.size.horizon.Tie as tie
+mod Places
+use Places.*
 
 abbrev Inv-loop : tie.InvT-loop
 Inv-loop deadlines calls last₀ k₀ last k = (k ≤ calls) × (last < maxSteps) × (last ≡ latest (map (call 0) (take k deadlines)))
@@ -20,45 +22,19 @@ Inv-loop deadlines calls last₀ k₀ last k = (k ≤ calls) × (last < maxSteps
 abbrev μ-loop : tie.MeasureT-loop
 μ-loop deadlines calls last₀ k₀ last k = calls - k
 
-loop-holds : tie.Need-loop-holds Inv-loop μ-loop
-loop-holds c = search needs
-
-element-copy-out-wide : tie.Need-element-copy-out-wide Inv-loop μ-loop
-element-copy-out-wide c = search needs
-
-wide-requires : tie.Need-wide-requires Inv-loop μ-loop
-wide-requires c κs = search needs
-
-add-k : tie.Need-add-k Inv-loop μ-loop
-add-k c = search needs
-
-loop-less : tie.Need-loop-less Inv-loop μ-loop
-loop-less c = search needs
-
 loop-again : tie.Need-loop-again Inv-loop μ-loop
 loop-again c =
-    let l = c .before .before .before .before .loop in
-    let d = now (c .before .before .before .before .before .args .deadlines) in
-    let s = c .before .wide .ensures in
+    let l = joined1→loop c .loop in
+    let d = now (joined1→start c .args .deadlines) in
+    let s = joined1→wide c .wide .ensures in
     let e = latest-suc d (l .k) in
     (omega arith, ⊎-elim (λ w. omega arith) (λ w. omega arith) (c .if1 .came), ⊎-elim (λ w. omega (arith, s .0, l .inv .2)) (λ w. omega (arith, s .0, l .inv .2)) (c .if1 .came))
 
 returns : tie.Need-returns Inv-loop μ-loop
 returns c =
-    let l = c .before .loop in
-    let e : l .k ≡ c .before .before .args .calls = omega arith in
+    let l = after-loop→loop c .loop in
+    let e : l .k ≡ after-loop→start c .args .calls = omega arith in
     (rw (← e) (l .inv .2), l .inv .1)
 
 pub horizon-spec : {M : Type 1} → statement M
-horizon-spec =
-    tie.close
-    (tie.spec
-    Inv-loop
-    μ-loop
-    loop-holds
-    element-copy-out-wide
-    wide-requires
-    add-k
-    loop-less
-    loop-again
-    returns)
+horizon-spec = tie.close (tie.spec Inv-loop μ-loop (λ c. search needs) (λ c. search needs) (λ c κs. search needs) (λ c. search needs) (λ c. search needs) loop-again returns)

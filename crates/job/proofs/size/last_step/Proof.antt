@@ -5,9 +5,6 @@ use borrow.Author.Needs.{needs}
 use Rattle.job.proofs.size.last_step.Statement.{statement}
 use Rattle.job.proofs.size.last_step.Tie as tie
 
-horizon-requires : tie.Need-horizon-requires
-horizon-requires c κs = search needs
-
 returns : tie.Need-returns
 returns c =
     let s = c .before .before .before in
@@ -15,4 +12,4 @@ returns c =
     (e ∙ sym (last-deadline (s .args .t1) (whole (s .args .t1) (s .pre) (long (s .args .t1) (s .good .0 .0) (s .good .0 .1 .1)))), l)
 
 pub last-step-spec : {M : Type 1} → statement M
-last-step-spec = tie.close (tie.spec horizon-requires returns)
+last-step-spec = tie.close (tie.spec (λ c κs. search needs) returns)

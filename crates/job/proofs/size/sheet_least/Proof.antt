@@ -15,18 +15,6 @@ small n carts a b =
     let x : 4 * (n + 1) + 16 ≤ 4 * maxSteps + 16 = omega arith in
     mul-le-mul b x
 
-last-step-requires : tie.Need-last-step-requires
-last-step-requires c κs = search needs
-
-add-steps : tie.Need-add-steps
-add-steps c = search needs
-
-mul-result : tie.Need-mul-result
-mul-result c = search needs
-
-add-result : tie.Need-add-result
-add-result c = search needs
-
 mul-result-2 : tie.Need-mul-result-2
 mul-result-2 c =
     let n = c .before .last-step in
@@ -44,6 +32,4 @@ returns c =
     rw (carts-count (s .args .job) (whole (s .args .job) (s .pre) g), ← c .before .last-step .ensures .0) refl
 
 pub sheet-least-spec : {M : Type 1} → statement M
-sheet-least-spec =
-    tie.close
-    (tie.spec last-step-requires add-steps mul-result add-result mul-result-2 add-result-2 returns)
+sheet-least-spec = tie.close (tie.spec (λ c κs. search needs) (λ c. search needs) (λ c. search needs) (λ c. search needs) mul-result-2 add-result-2 returns)

@@ -17,21 +17,6 @@ small n cells tracks a b c =
     let y : cells + 2 * tracks ≤ maxCells + 2 * maxTracks = omega arith in
     mul-le-mul x y
 
-last-step-requires : tie.Need-last-step-requires
-last-step-requires c κs = search needs
-
-add-steps : tie.Need-add-steps
-add-steps c = search needs
-
-mul-result : tie.Need-mul-result
-mul-result c = search needs
-
-mul-result-2 : tie.Need-mul-result-2
-mul-result-2 c = search needs
-
-add-result : tie.Need-add-result
-add-result c = search needs
-
 mul-result-3 : tie.Need-mul-result-3
 mul-result-3 c =
     let n = c .before .before .last-step in
@@ -51,14 +36,4 @@ returns c =
     rw (tracks-count (s .args .job) (whole (s .args .job) (s .pre .0) g), ← c .before .before .last-step .ensures .0) refl
 
 pub store-least-spec : {M : Type 1} → statement M
-store-least-spec =
-    tie.close
-    (tie.spec
-    last-step-requires
-    add-steps
-    mul-result
-    mul-result-2
-    add-result
-    mul-result-3
-    add-result-2
-    returns)
+store-least-spec = tie.close (tie.spec (λ c κs. search needs) (λ c. search needs) (λ c. search needs) (λ c. search needs) (λ c. search needs) mul-result-3 add-result-2 returns)

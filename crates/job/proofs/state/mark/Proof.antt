@@ -15,6 +15,8 @@ use Rattle.job.proofs.Marks.{place-small}
 use borrow.Author.Needs.{needs}
 use Rattle.job.proofs.state.mark.Statement.{statement}
 use Rattle.job.proofs.state.mark.Tie as tie
+mod Places
+use Places.*
 
 set-at-place : (seen : List ℕ) (a b : ℕ) (k : Kind) → OneOf (1 ∷ 2 ∷ 3 ∷ []) (tagOf the-type k) → withBit seen (placeOf k a b) ≡ marked seen k a b
 set-at-place seen a b Floor h = absurd (⊎-elim (λ e. omega arith) (⊎-elim (λ e. omega arith) (λ e. omega arith)) h)
@@ -22,29 +24,16 @@ set-at-place seen a b Track h = refl
 set-at-place seen a b Cart h = refl
 set-at-place seen a b Call h = refl
 
-enum-told : tie.Need-enum-told
-enum-told c = search needs
-
-returns : tie.Need-returns
-returns c = search needs
-
-place-requires : tie.Need-place-requires
-place-requires c κs = search needs
-
 add-requires : tie.Need-add-requires
 add-requires c κs =
-    let s = c .before .before .before .before in
-    omega (arith, c .before .place .ensures, place-small (s .args .kind) (s .args .a) (s .args .b) (s .pre .0))
-
-same-length : tie.Need-same-length
-same-length c = search needs
+    let s = add-arg→start c in
+    omega (arith, add-arg→place c .place .ensures, place-small (s .args .kind) (s .args .a) (s .args .b) (s .pre .0))
 
 returns-2 : tie.Need-returns-2
 returns-2 c =
-    let p = c .before .before .before .before in
-    let a = p .before .before .before .args in
-    c .before .before .add .ensures ∙ ap (withBit (a .seen .now)) (p .place .ensures) ∙ set-at-place (a .seen .now) (a .a) (a .b) (a .kind) (p .before .match .keys2)
+    let p = slice-known2→place c in
+    let a = place→start p .args in
+    slice-known2→add c .add .ensures ∙ ap (withBit (a .seen .now)) (p .place .ensures) ∙ set-at-place (a .seen .now) (a .a) (a .b) (a .kind) (place→match-keys2 p .match .keys2)
 
 pub mark-spec : {M : Type 1} → statement M
-mark-spec =
-    tie.close (tie.spec enum-told returns place-requires add-requires same-length returns-2)
+mark-spec = tie.close (tie.spec (λ c. search needs) (λ c. search needs) (λ c κs. search needs) add-requires (λ c. search needs) returns-2)

@@ -8,9 +8,6 @@ use borrow.Author.Needs.{needs}
 use Rattle.job.proofs.state.pair.Statement.{statement}
 use Rattle.job.proofs.state.pair.Tie as tie
 
-add-result : tie.Need-add-result
-add-result c = search needs
-
 mul-result : tie.Need-mul-result
 mul-result c = let s = c .before in omega (arith, row-ends 0 (s .args .b) maxCells (omega arith) (s .pre .1))
 
@@ -19,9 +16,6 @@ add-result-2 c = let s = c .before in omega (arith, row-ends 0 (s .args .b) maxC
 
 returns : tie.Need-returns
 returns c = simp (lt-ltb _ _ (c .if1 .taken))
-
-add-result-3 : tie.Need-add-result-3
-add-result-3 c = search needs
 
 mul-result-2 : tie.Need-mul-result-2
 mul-result-2 c = let s = c .before in omega (arith, row-ends 0 (s .args .a) maxCells (omega arith) (s .pre .0))
@@ -33,14 +27,4 @@ returns-2 : tie.Need-returns-2
 returns-2 c = simp (le-ltb _ _ (c .if1 .left))
 
 pub pair-spec : {M : Type 1} → statement M
-pair-spec =
-    tie.close
-    (tie.spec
-    add-result
-    mul-result
-    add-result-2
-    returns
-    add-result-3
-    mul-result-2
-    add-result-4
-    returns-2)
+pair-spec = tie.close (tie.spec (λ c. search needs) mul-result add-result-2 returns (λ c. search needs) mul-result-2 add-result-4 returns-2)

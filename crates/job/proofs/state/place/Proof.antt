@@ -5,29 +5,14 @@ use borrow.Author.Needs.{needs}
 use Rattle.job.proofs.state.place.Statement.{statement}
 use Rattle.job.proofs.state.place.Tie as tie
 
-enum-told : tie.Need-enum-told
-enum-told c = search needs
-
-enum-told-2 : tie.Need-enum-told-2
-enum-told-2 c = search needs
-
 pair-requires : tie.Need-pair-requires
 pair-requires c κs = rw (c .enum-told2 .given .1) at (c .before .before .pre)
-
-enum-told-3 : tie.Need-enum-told-3
-enum-told-3 c = search needs
 
 add-result : tie.Need-add-result
 add-result c = let s = rw (c .enum-told3 .given .1) at (c .before .before .pre) in omega arith
 
-enum-told-4 : tie.Need-enum-told-4
-enum-told-4 c = search needs
-
 add-result-2 : tie.Need-add-result-2
 add-result-2 c = let s = rw (c .enum-told4 .given .1) at (c .before .before .pre) in omega arith
-
-returns : tie.Need-returns
-returns c = search needs
 
 returns-2 : tie.Need-returns-2
 returns-2 c = rw (c .before .enum-told2 .given .1) (c .pair .ensures)
@@ -42,14 +27,4 @@ pub place-spec : {M : Type 1} → statement M
 place-spec =
     tie.close
     (tie.spec
-    enum-told
-    enum-told-2
-    pair-requires
-    enum-told-3
-    add-result
-    enum-told-4
-    add-result-2
-    returns
-    returns-2
-    returns-3
-    returns-4)
+    (λ c. search needs) (λ c. search needs) pair-requires (λ c. search needs) add-result (λ c. search needs) add-result-2 (λ c. search needs) returns-2 returns-3 returns-4)

@@ -21,9 +21,6 @@ job s = held (s .args .counts) (now (s .args .from)) (now (s .args .to)) (now (s
 spacious : (s : tie.Start) → Whole (job s)
 spacious s = whole (job s) (s .pre .sized) (s .pre .long)
 
-enum-told : tie.Need-enum-told
-enum-told c = search needs
-
 returns : tie.Need-returns
 returns c =
     let p = c .before .before .pre in
@@ -32,9 +29,6 @@ returns c =
       sized = record { tracks = p .sized .tracks; carts = p .sized .carts; calls = p .sized .calls };
       long = record { from = p .long .from; to = p .long .to; starts = p .long .starts; lifts = p .long .lifts; deadlines = p .long .deadlines };
     }
-
-enum-told-2 : tie.Need-enum-told-2
-enum-told-2 c = search needs
 
 cast-from : tie.Need-cast-from
 cast-from c = let s = rw (c .enum-told2 .given .1) at (c .before .before .pre .small) in omega arith
@@ -49,9 +43,6 @@ cast-to c = let s = rw (c .enum-told2 .given .1) at (c .before .before .pre .sma
 
 element-write-to : tie.Need-element-write-to
 element-write-to c = element-write-from c
-
-add-more : tie.Need-add-more
-add-more c = search needs
 
 returns-2 : tie.Need-returns-2
 returns-2 c =
@@ -73,9 +64,6 @@ returns-2 c =
       };
     }
 
-enum-told-3 : tie.Need-enum-told-3
-enum-told-3 c = search needs
-
 cast-starts : tie.Need-cast-starts
 cast-starts c = let s = rw (c .enum-told3 .given .1) at (c .before .before .pre .small) in omega arith
 
@@ -83,9 +71,6 @@ element-write-starts : tie.Need-element-write-starts
 element-write-starts c =
     let s = c .before .before in
     carts-room (job s) (spacious s) (rw (c .enum-told3 .given .1) at (s .pre .room))
-
-add-more-2 : tie.Need-add-more-2
-add-more-2 c = search needs
 
 returns-3 : tie.Need-returns-3
 returns-3 c =
@@ -100,9 +85,6 @@ returns-3 c =
       long = record { from = p .long .from; to = p .long .to; starts = simp length-set (p .long .starts); lifts = p .long .lifts; deadlines = p .long .deadlines };
     }
 
-enum-told-4 : tie.Need-enum-told-4
-enum-told-4 c = search needs
-
 cast-lifts : tie.Need-cast-lifts
 cast-lifts c = let s = rw (c .enum-told4 .given .1) at (c .before .before .pre .small) in omega arith
 
@@ -116,9 +98,6 @@ cast-deadlines c = let s = rw (c .enum-told4 .given .1) at (c .before .before .p
 
 element-write-deadlines : tie.Need-element-write-deadlines
 element-write-deadlines c = element-write-lifts c
-
-add-more-3 : tie.Need-add-more-3
-add-more-3 c = search needs
 
 returns-4 : tie.Need-returns-4
 returns-4 c =
@@ -144,24 +123,5 @@ pub put-line-spec : {M : Type 1} → statement M
 put-line-spec =
     tie.close
     (tie.spec
-    enum-told
-    returns
-    enum-told-2
-    cast-from
-    element-write-from
-    cast-to
-    element-write-to
-    add-more
-    returns-2
-    enum-told-3
-    cast-starts
-    element-write-starts
-    add-more-2
-    returns-3
-    enum-told-4
-    cast-lifts
-    element-write-lifts
-    cast-deadlines
-    element-write-deadlines
-    add-more-3
-    returns-4)
+    (λ c. search needs) returns (λ c. search needs) cast-from element-write-from cast-to element-write-to (λ c. search needs) returns-2 (λ c. search needs) cast-starts
+    element-write-starts (λ c. search needs) returns-3 (λ c. search needs) cast-lifts element-write-lifts cast-deadlines element-write-deadlines (λ c. search needs) returns-4)

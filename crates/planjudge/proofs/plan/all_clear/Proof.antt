@@ -19,17 +19,8 @@ abbrev μ-loop : tie.MeasureT-loop
 loop-holds : tie.Need-loop-holds Inv-loop μ-loop
 loop-holds c = (omega arith, λ s l. absurd (omega arith))
 
-clear-requires : tie.Need-clear-requires Inv-loop μ-loop
-clear-requires c κs = search needs
-
 returns : tie.Need-returns Inv-loop μ-loop
 returns c = denied (λ f. c .before .clear .ensures .1 (not-true _ (c .if1 .taken)) (f (c .before .before .before .loop .t) (c .before .before .loop-test .taken)))
-
-add-t : tie.Need-add-t Inv-loop μ-loop
-add-t c = search needs
-
-loop-less : tie.Need-loop-less Inv-loop μ-loop
-loop-less c = search needs
 
 loop-again : tie.Need-loop-again Inv-loop μ-loop
 loop-again c = (omega arith, below-more _ (c .before .before .before .loop .t) (c .before .before .before .loop .inv .1) (c .before .clear .ensures .0 (not-false _ (c .if1 .left))))
@@ -38,15 +29,4 @@ returns-2 : tie.Need-returns-2 Inv-loop μ-loop
 returns-2 c = told (λ s l. c .before .loop .inv .1 s (omega arith))
 
 pub all-clear-spec : {M : Type 1} → statement M
-all-clear-spec =
-    tie.close
-    (tie.spec
-    Inv-loop
-    μ-loop
-    loop-holds
-    clear-requires
-    returns
-    add-t
-    loop-less
-    loop-again
-    returns-2)
+all-clear-spec = tie.close (tie.spec Inv-loop μ-loop loop-holds (λ c κs. search needs) returns (λ c. search needs) (λ c. search needs) loop-again returns-2)

@@ -13,6 +13,8 @@ use borrow.Author.Tests.{not-false, not-true}
 use denote.Ref.{now}
 use Rattle.planjudge.proofs.plan.all_lead.Statement.{statement}
 use Rattle.planjudge.proofs.plan.all_lead.Tie as tie
+mod Places
+use Places.*
 
 abbrev Inv-loop : tie.InvT-loop
 Inv-loop table rows last carts starts calls lifts n k₀ k = (k ≤ n) × AllLed table rows last carts starts calls lifts k
@@ -30,81 +32,37 @@ answer c =
     let starts = now (a .starts) in
     let lifts = now (a .lifts) in
     let d : c .before .before .before .before .before .wide3 .result ≡ getD (now (a .last)) k 0 = c .before .before .before .before .before .wide3 .ensures .0 in
-    let s : c .before .before .before .wide4 .result ≡ getD starts (getD (now (a .carts)) k 0) 0 = c .before .before .before .wide4 .ensures .0 ∙ ap (λ x. getD starts x 0) (c .before .before .before .before .before .before .before .before .before .wide .ensures .0) in
-    let l : c .before .wide5 .result ≡ getD lifts (getD (now (a .calls)) k 0) 0 = c .before .wide5 .ensures .0 ∙ ap (λ x. getD lifts x 0) (c .before .before .before .before .before .before .before .wide2 .ensures .0) in
+    let s : c .before .before .before .wide4 .result ≡ getD starts (getD (now (a .carts)) k 0) 0 = c .before .before .before .wide4 .ensures .0
+    ∙ ap (λ x. getD starts x 0) (c .before .before .before .before .before .before .before .before .before .wide .ensures .0) in
+    let l : c .before .wide5 .result ≡ getD lifts (getD (now (a .calls)) k 0) 0 = c .before .wide5 .ensures .0
+    ∙ ap (λ x. getD lifts x 0) (c .before .before .before .before .before .before .before .wide2 .ensures .0) in
     rw (d, s, l) at (c .leads .ensures)
 
 loop-holds : tie.Need-loop-holds Inv-loop μ-loop
 loop-holds c = (omega arith, λ s l. absurd (omega arith))
 
-shared-slice-read-wide : tie.Need-shared-slice-read-wide Inv-loop μ-loop
-shared-slice-read-wide c = search needs
-
-wide-requires : tie.Need-wide-requires Inv-loop μ-loop
-wide-requires c κs = search needs
-
-shared-slice-read-wide-2 : tie.Need-shared-slice-read-wide-2 Inv-loop μ-loop
-shared-slice-read-wide-2 c = search needs
-
-wide-requires-2 : tie.Need-wide-requires-2 Inv-loop μ-loop
-wide-requires-2 c κs = search needs
-
-element-copy-out-wide : tie.Need-element-copy-out-wide Inv-loop μ-loop
-element-copy-out-wide c = search needs
-
-wide-requires-3 : tie.Need-wide-requires-3 Inv-loop μ-loop
-wide-requires-3 c κs = search needs
-
 element-copy-out-wide-2 : tie.Need-element-copy-out-wide-2 Inv-loop μ-loop
-element-copy-out-wide-2 c = omega (arith, c .before .before .before .before .wide .ensures .0, c .before .before .before .before .before .before .before .before .before .before .before .pre .4 (c .before .before .before .before .before .before .before .loop .k) (omega arith))
-
-wide-requires-4 : tie.Need-wide-requires-4 Inv-loop μ-loop
-wide-requires-4 c κs = search needs
+element-copy-out-wide-2 c = omega (arith, wide3→wide c .wide .ensures .0, wide3→start c .pre .4 (wide3→loop c .loop .k) (omega arith))
 
 element-copy-out-wide-3 : tie.Need-element-copy-out-wide-3 Inv-loop μ-loop
-element-copy-out-wide-3 c = omega (arith, c .before .before .before .before .wide2 .ensures .0, c .before .before .before .before .before .before .before .before .before .before .before .before .before .pre .5 (c .before .before .before .before .before .before .before .before .before .loop .k) (omega arith))
-
-wide-requires-5 : tie.Need-wide-requires-5 Inv-loop μ-loop
-wide-requires-5 c κs = search needs
+element-copy-out-wide-3 c = omega (arith, wide4→wide2 c .wide2 .ensures .0, wide4→start c .pre .5 (wide4→loop c .loop .k) (omega arith))
 
 leads-requires : tie.Need-leads-requires Inv-loop μ-loop
-leads-requires c κs = (c .before .before .before .before .before .before .before .before .before .before .before .before .before .before .before .pre .0, omega arith, c .before .before .before .before .wide3 .ensures .1)
+leads-requires c κs = (wide5→start c .pre .0, omega arith, wide5→wide3 c .wide3 .ensures .1)
 
 returns : tie.Need-returns Inv-loop μ-loop
-returns c = denied (λ f. answer (c .before) .1 (not-true _ (c .if1 .taken)) (f (c .before .before .before .before .before .before .before .before .before .before .before .before .before .loop .k) (c .before .before .before .before .before .before .before .before .before .before .before .before .loop-test .taken)))
-
-add-k : tie.Need-add-k Inv-loop μ-loop
-add-k c = search needs
-
-loop-less : tie.Need-loop-less Inv-loop μ-loop
-loop-less c = search needs
+returns c = denied (λ f. answer (then1→leads c) .1 (not-true _ (c .if1 .taken)) (f (then1→loop c .loop .k) (then1→in-loop c .loop-test .taken)))
 
 loop-again : tie.Need-loop-again Inv-loop μ-loop
-loop-again c = (omega arith, below-more _ (c .before .before .before .before .before .before .before .before .before .before .before .before .before .loop .k) (c .before .before .before .before .before .before .before .before .before .before .before .before .before .loop .inv .1) (answer (c .before) .0 (not-false _ (c .if1 .left))))
+loop-again c = (omega arith, below-more _ (else1→loop c .loop .k) (else1→loop c .loop .inv .1) (answer (else1→leads c) .0 (not-false _ (c .if1 .left))))
 
 returns-2 : tie.Need-returns-2 Inv-loop μ-loop
-returns-2 c = told (λ k h. c .before .loop .inv .1 k (omega arith))
+returns-2 c = told (λ k h. after-loop→loop c .loop .inv .1 k (omega arith))
 
 pub all-lead-spec : {M : Type 1} → statement M
 all-lead-spec =
     tie.close
     (tie.spec
-    Inv-loop
-    μ-loop
-    loop-holds
-    shared-slice-read-wide
-    wide-requires
-    shared-slice-read-wide-2
-    wide-requires-2
-    element-copy-out-wide
-    wide-requires-3
-    element-copy-out-wide-2
-    wide-requires-4
-    element-copy-out-wide-3
-    wide-requires-5
-    leads-requires
-    returns
-    add-k
-    loop-less
-    loop-again
+    Inv-loop μ-loop loop-holds (λ c. search needs) (λ c κs. search needs) (λ c. search needs) (λ c κs. search needs) (λ c. search needs) (λ c κs. search needs)
+    element-copy-out-wide-2 (λ c κs. search needs) element-copy-out-wide-3 (λ c κs. search needs) leads-requires returns (λ c. search needs) (λ c. search needs) loop-again
     returns-2)

@@ -8,19 +8,22 @@ use denote.Ref.{now}
 use Prim.Native.Nat.{ℕ}
 use Rattle.planjudge.proofs.plan.clear.Statement.{statement}
 use Rattle.planjudge.proofs.plan.clear.Tie as tie
+mod Places
+use Places.*
 
 stand-requires : tie.Need-stand-requires
-stand-requires c κs = (c .before .before .pre .0, c .before .before .pre .1, c .before .before .pre .2, length-replicate {A = ℕ} maxCells maxCalls, λ x h. getD-replicate {A = ℕ} maxCells x maxCalls 0 h)
+stand-requires c κs = (on→start c .pre .0, on→start c .pre .1, on→start c .pre .2, length-replicate {A = ℕ} maxCells maxCalls, λ x h. getD-replicate {A = ℕ} maxCells x maxCalls 0 h)
 
 returns : tie.Need-returns
-returns c = denied (λ q. c .before .stand .ensures .0 .1 (not-true _ (c .if1 .taken)) (q .0))
+returns c = denied (λ q. then1→stand c .stand .ensures .0 .1 (not-true _ (c .if1 .taken)) (q .0))
 
 untraded-requires : tie.Need-untraded-requires
-untraded-requires c κs = (c .before .before .before .before .before .pre .0, c .before .before .before .before .before .pre .1, c .before .before .before .before .before .pre .2, c .before .before .stand .ensures .1 (not-false _ (c .before .if1 .left)))
+untraded-requires c κs = (on2→start c .pre .0, on2→start c .pre .1, on2→start c .pre .2, on2→stand c .stand .ensures .1 (not-false _ (on2→else1 c .if1 .left)))
 
 returns-2 : tie.Need-returns-2
 returns-2 c =
-    let a : Apart (now (c .before .before .before .before .before .before .args .last)) (now (c .before .before .before .before .before .before .args .rows)) (c .before .before .before .before .before .before .args .n) (c .before .before .before .before .before .before .args .t) = c .before .before .before .stand .ensures .0 .0 (not-false _ (c .before .before .if1 .left)) in
+    let a : Apart (now (untraded→start c .args .last)) (now (untraded→start c .args .rows)) (untraded→start c .args .n) (untraded→start c .args .t) = untraded→stand c .stand .ensures .0 .0
+    (not-false _ (untraded→else1 c .if1 .left)) in
     same-answer (λ u. (a, u)) (λ q. q .1) (c .untraded .ensures)
 
 pub clear-spec : {M : Type 1} → statement M

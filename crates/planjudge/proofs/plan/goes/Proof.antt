@@ -9,23 +9,22 @@ use Rattle.planjudge.proofs.PlanSteps.{no-go, told}
 use borrow.Author.Needs.{needs}
 use Rattle.planjudge.proofs.plan.goes.Statement.{statement}
 use Rattle.planjudge.proofs.plan.goes.Tie as tie
+mod Places
+use Places.*
 
 returns : tie.Need-returns
 returns c = told (inl (c .if1 .taken))
 
-pair-requires : tie.Need-pair-requires
-pair-requires c κs = search needs
-
 has-requires : tie.Need-has-requires
 has-requires c κs =
-    let start = c .before .before .before in
+    let start = pair→start c in
     omega (arith, c .pair .ensures, pair-small (start .args .u) (start .args .v) (start .pre .0) (start .pre .1))
 
 returns-2 : tie.Need-returns-2
 returns-2 c =
-    let a = c .before .before .before .before .args in
-    rw (c .has .ensures, c .before .pair .ensures)
-    ((λ e. inr e), λ e g. false≢true (sym e ∙ no-go (now (a .table)) (a .u) (a .v) (c .before .before .before .if1 .left) g))
+    let a = has→start c .args in
+    rw (c .has .ensures, has→pair c .pair .ensures)
+    ((λ e. inr e), λ e g. false≢true (sym e ∙ no-go (now (a .table)) (a .u) (a .v) (has→else1 c .if1 .left) g))
 
 pub goes-spec : {M : Type 1} → statement M
-goes-spec = tie.close (tie.spec returns pair-requires has-requires returns-2)
+goes-spec = tie.close (tie.spec returns (λ c κs. search needs) has-requires returns-2)

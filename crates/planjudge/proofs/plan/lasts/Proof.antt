@@ -10,6 +10,8 @@ use borrow.Author.Needs.{needs}
 use denote.Ref.{now}
 use Rattle.planjudge.proofs.plan.lasts.Statement.{statement}
 use Rattle.planjudge.proofs.plan.lasts.Tie as tie
+mod Places
+use Places.*
 
 abbrev Inv-loop : tie.InvT-loop
 Inv-loop calls deadlines n last₀ k₀ last k = (length last ≡ maxCalls) × Lasts deadlines calls last k
@@ -20,45 +22,20 @@ abbrev μ-loop : tie.MeasureT-loop
 loop-holds : tie.Need-loop-holds Inv-loop μ-loop
 loop-holds c = (length-replicate {A = ℕ} maxCalls 0, λ m h. absurd (omega arith))
 
-shared-slice-read-wide : tie.Need-shared-slice-read-wide Inv-loop μ-loop
-shared-slice-read-wide c = search needs
-
-wide-requires : tie.Need-wide-requires Inv-loop μ-loop
-wide-requires c κs = search needs
-
 element-copy-out-last : tie.Need-element-copy-out-last Inv-loop μ-loop
-element-copy-out-last c = omega (arith, c .wide .ensures .0, c .before .before .before .before .before .pre .2 (c .before .before .before .loop .k) (omega arith))
-
-array-write-last : tie.Need-array-write-last Inv-loop μ-loop
-array-write-last c = search needs
-
-add-k : tie.Need-add-k Inv-loop μ-loop
-add-k c = search needs
-
-loop-less : tie.Need-loop-less Inv-loop μ-loop
-loop-less c = search needs
+element-copy-out-last c = omega (arith, c .wide .ensures .0, wide→start c .pre .2 (wide→loop c .loop .k) (omega arith))
 
 loop-again : tie.Need-loop-again Inv-loop μ-loop
 loop-again c =
-    let a = c .before .before .before .before .before .before .args in
-    let l = c .before .before .before .before .loop in
-    (simp length-set (l .inv .0), rw (c .before .wide .ensures .0) (lasts-more (now (a .deadlines)) (now (a .calls)) (l .last) (l .k) (omega arith) (l .inv .1)))
+    let a = last→start c .args in
+    let l = last→loop c .loop in
+    (simp length-set (l .inv .0), rw (last→wide c .wide .ensures .0) (lasts-more (now (a .deadlines)) (now (a .calls)) (l .last) (l .k) (omega arith) (l .inv .1)))
 
 returns : tie.Need-returns Inv-loop μ-loop
-returns c = λ k h. c .before .loop .inv .1 k (omega arith)
+returns c = λ k h. after-loop→loop c .loop .inv .1 k (omega arith)
 
 pub lasts-spec : {M : Type 1} → statement M
 lasts-spec =
     tie.close
     (tie.spec
-    Inv-loop
-    μ-loop
-    loop-holds
-    shared-slice-read-wide
-    wide-requires
-    element-copy-out-last
-    array-write-last
-    add-k
-    loop-less
-    loop-again
-    returns)
+    Inv-loop μ-loop loop-holds (λ c. search needs) (λ c κs. search needs) element-copy-out-last (λ c. search needs) (λ c. search needs) (λ c. search needs) loop-again returns)

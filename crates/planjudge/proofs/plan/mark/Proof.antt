@@ -14,6 +14,8 @@ use Rattle.job.proofs.Triangle.{pair-small}
 use borrow.Author.Needs.{needs}
 use Rattle.planjudge.proofs.plan.mark.Statement.{statement}
 use Rattle.planjudge.proofs.plan.mark.Tie as tie
+mod Places
+use Places.*
 
 abbrev Inv-loop : tie.InvT-loop
 Inv-loop from to n table₀ i₀ table i = (i ≤ n) × (8 * length table ≡ pairsBelow maxCells) × Marks from to i table
@@ -26,32 +28,11 @@ loop-holds c =
     let a = c .args in
     (omega arith, c .pre .1, marks-none (now (a .from)) (now (a .to)) (now (a .table)) (c .pre .2))
 
-element-copy-out-wide : tie.Need-element-copy-out-wide Inv-loop μ-loop
-element-copy-out-wide c = search needs
-
-wide-requires : tie.Need-wide-requires Inv-loop μ-loop
-wide-requires c κs = search needs
-
-element-copy-out-wide-2 : tie.Need-element-copy-out-wide-2 Inv-loop μ-loop
-element-copy-out-wide-2 c = search needs
-
-wide-requires-2 : tie.Need-wide-requires-2 Inv-loop μ-loop
-wide-requires-2 c κs = search needs
-
-pair-requires : tie.Need-pair-requires Inv-loop μ-loop
-pair-requires c κs = search needs
-
 add-requires : tie.Need-add-requires Inv-loop μ-loop
 add-requires c κs =
-    let u = c .before .before .before .before .wide in
-    let v = c .before .before .wide2 in
+    let u = pair→wide c .wide in
+    let v = pair→wide2 c .wide2 in
     omega (arith, c .pair .ensures, pair-small (u .result) (v .result) (u .ensures .1) (v .ensures .1))
-
-add-i : tie.Need-add-i Inv-loop μ-loop
-add-i c = search needs
-
-loop-less : tie.Need-loop-less Inv-loop μ-loop
-loop-less c = search needs
 
 loop-again : tie.Need-loop-again Inv-loop μ-loop
 loop-again c =
@@ -70,23 +51,12 @@ loop-again c =
 
 returns : tie.Need-returns Inv-loop μ-loop
 returns c =
-    let e : c .before .loop .i ≡ c .before .before .args .n = omega arith in
+    let e : after-loop→loop c .loop .i ≡ after-loop→start c .args .n = omega arith in
     rw e at (c .before .loop .inv .2)
 
 pub mark-spec : {M : Type 1} → statement M
 mark-spec =
     tie.close
     (tie.spec
-    Inv-loop
-    μ-loop
-    loop-holds
-    element-copy-out-wide
-    wide-requires
-    element-copy-out-wide-2
-    wide-requires-2
-    pair-requires
-    add-requires
-    add-i
-    loop-less
-    loop-again
-    returns)
+    Inv-loop μ-loop loop-holds (λ c. search needs) (λ c κs. search needs) (λ c. search needs) (λ c κs. search needs) (λ c κs. search needs) add-requires (λ c. search needs)
+    (λ c. search needs) loop-again returns)

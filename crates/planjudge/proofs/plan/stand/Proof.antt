@@ -13,6 +13,8 @@ use denote.Ref.{now}
 use mathlib.Core.Logic.{⊎-elim}
 use Rattle.planjudge.proofs.plan.stand.Statement.{statement}
 use Rattle.planjudge.proofs.plan.stand.Tie as tie
+mod Places
+use Places.*
 
 abbrev Inv-loop : tie.InvT-loop
 Inv-loop last rows n t on₀ k₀ on k = (k ≤ n) × (length on ≡ maxCells) × Standing last rows k t on
@@ -22,20 +24,8 @@ abbrev μ-loop : tie.MeasureT-loop
 
 loop-holds : tie.Need-loop-holds Inv-loop μ-loop
 loop-holds c =
-    let a = c .before .args in
-    (omega arith, c .before .pre .3, standing-none (now (a .last)) (now (a .rows)) (a .t) (now (a .on)) (c .before .pre .4))
-
-element-copy-out-wide : tie.Need-element-copy-out-wide Inv-loop μ-loop
-element-copy-out-wide c = search needs
-
-wide-requires : tie.Need-wide-requires Inv-loop μ-loop
-wide-requires c κs = search needs
-
-cell-requires : tie.Need-cell-requires Inv-loop μ-loop
-cell-requires c κs = search needs
-
-element-copy-out-if2 : tie.Need-element-copy-out-if2 Inv-loop μ-loop
-element-copy-out-if2 c = search needs
+    let a = shared-slice-known→start c .args in
+    (omega arith, shared-slice-known→start c .pre .3, standing-none (now (a .last)) (now (a .rows)) (a .t) (now (a .on)) (shared-slice-known→start c .pre .4))
 
 returns : tie.Need-returns Inv-loop μ-loop
 returns c =
@@ -46,30 +36,20 @@ returns c =
     let x : c .before .before .cell .result ≡ cellOf rows (l .k) (a .t) = c .before .before .cell .ensures .0 in
     let d : c .before .before .before .before .wide .result ≡ getD last (l .k) 0 = c .before .before .before .before .wide .ensures .0 in
     let f : getD (l .on) (c .before .before .cell .result) 0 < maxCalls = c .if2 .taken in (
-      denied (standing-taken last rows (a .t) (a .n) (l .k) (l .on) (l .inv .2) (c .before .before .before .before .before .before .loop-test .taken) (omega (arith, x, c .before .before .cell .ensures .1))
+      denied
+          (standing-taken last rows (a .t) (a .n) (l .k) (l .on) (l .inv .2) (c .before .before .before .before .before .before .loop-test .taken)
+          (omega (arith, x, c .before .before .cell .ensures .1))
           (omega (arith, d, c .before .before .before .if1 .taken)) (rw x at f)),
       λ e. absurd (false≢true e),
     )
 
-cast-on : tie.Need-cast-on Inv-loop μ-loop
-cast-on c = search needs
-
-element-write-on : tie.Need-element-write-on Inv-loop μ-loop
-element-write-on c = search needs
-
-add-k : tie.Need-add-k Inv-loop μ-loop
-add-k c = search needs
-
-loop-less : tie.Need-loop-less Inv-loop μ-loop
-loop-less c = search needs
-
 loop-again : tie.Need-loop-again Inv-loop μ-loop
 loop-again c =
-    let a = c .before .before .before .before .before .before .args in
-    let l = c .before .before .before .before .loop in
+    let a = joined1→start c .args in
+    let l = joined1→loop c .loop in
     let last = now (a .last) in
     let rows = now (a .rows) in
-    let d : c .before .wide .result ≡ getD last (l .k) 0 = c .before .wide .ensures .0 in
+    let d : joined1→wide c .wide .result ≡ getD last (l .k) 0 = joined1→wide c .wide .ensures .0 in
     ⊎-elim
     (λ w.
     let x : w .1 .result ≡ cellOf rows (l .k) (a .t) = w .1 .ensures .0 in
@@ -98,17 +78,5 @@ pub stand-spec : {M : Type 1} → statement M
 stand-spec =
     tie.close
     (tie.spec
-    Inv-loop
-    μ-loop
-    loop-holds
-    element-copy-out-wide
-    wide-requires
-    cell-requires
-    element-copy-out-if2
-    returns
-    cast-on
-    element-write-on
-    add-k
-    loop-less
-    loop-again
-    returns-2)
+    Inv-loop μ-loop loop-holds (λ c. search needs) (λ c κs. search needs) (λ c κs. search needs) (λ c. search needs) returns (λ c. search needs) (λ c. search needs)
+    (λ c. search needs) (λ c. search needs) loop-again returns-2)

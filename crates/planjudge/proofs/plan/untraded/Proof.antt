@@ -12,6 +12,8 @@ use denote.Ref.{now}
 use mathlib.Core.Logic.{⊎-elim}
 use Rattle.planjudge.proofs.plan.untraded.Statement.{statement}
 use Rattle.planjudge.proofs.plan.untraded.Tie as tie
+mod Places
+use Places.*
 
 abbrev Inv-loop : tie.InvT-loop
 Inv-loop last rows n t on k₀ k = (k ≤ n) × ((m : ℕ) → m < k → t < getD last m 0 → Meets last rows n t m → ⊥)
@@ -22,49 +24,24 @@ abbrev μ-loop : tie.MeasureT-loop
 loop-holds : tie.Need-loop-holds Inv-loop μ-loop
 loop-holds c = (omega arith, λ m h. absurd (omega arith))
 
-element-copy-out-wide : tie.Need-element-copy-out-wide Inv-loop μ-loop
-element-copy-out-wide c = search needs
-
-wide-requires : tie.Need-wide-requires Inv-loop μ-loop
-wide-requires c κs = search needs
-
-meets-requires : tie.Need-meets-requires Inv-loop μ-loop
-meets-requires c κs = search needs
-
 returns : tie.Need-returns Inv-loop μ-loop
 returns c =
-    let a = c .before .before .before .before .before .before .before .before .args in
-    let d : c .before .before .before .wide .result ≡ getD (now (a .last)) (c .before .before .before .before .before .before .loop .k) 0 = c .before .before .before .wide .ensures .0 in
-    denied (λ u. u (c .before .before .before .before .before .before .loop .k) (c .before .before .before .before .before .loop-test .taken) (omega (arith, d, c .before .before .if1 .taken)) (c .before .meets .ensures .0 (c .if2 .taken)))
-
-add-k : tie.Need-add-k Inv-loop μ-loop
-add-k c = search needs
-
-loop-less : tie.Need-loop-less Inv-loop μ-loop
-loop-less c = search needs
+    let a = then2→start c .args in
+    let d : then2→wide c .wide .result ≡ getD (now (a .last)) (then2→loop c .loop .k) 0 = then2→wide c .wide .ensures .0 in
+    denied (λ u. u (then2→loop c .loop .k) (then2→in-loop c .loop-test .taken) (omega (arith, d, then2→then1 c .if1 .taken)) (then2→meets c .meets .ensures .0 (c .if2 .taken)))
 
 loop-again : tie.Need-loop-again Inv-loop μ-loop
 loop-again c =
-    let a = c .before .before .before .before .before .before .args in
-    let l = c .before .before .before .before .loop in
-    let d : c .before .wide .result ≡ getD (now (a .last)) (l .k) 0 = c .before .wide .ensures .0 in
+    let a = joined1→start c .args in
+    let l = joined1→loop c .loop in
+    let d : joined1→wide c .wide .result ≡ getD (now (a .last)) (l .k) 0 = joined1→wide c .wide .ensures .0 in
     (omega arith, below-more _ (l .k) (l .inv .1) (⊎-elim (λ w h. w .1 .ensures .1 (w .2 .left)) (λ w h. absurd (omega arith)) (c .if1 .came)))
 
 returns-2 : tie.Need-returns-2 Inv-loop μ-loop
-returns-2 c = told (λ m h. c .before .loop .inv .1 m (omega arith))
+returns-2 c = told (λ m h. after-loop→loop c .loop .inv .1 m (omega arith))
 
 pub untraded-spec : {M : Type 1} → statement M
 untraded-spec =
     tie.close
     (tie.spec
-    Inv-loop
-    μ-loop
-    loop-holds
-    element-copy-out-wide
-    wide-requires
-    meets-requires
-    returns
-    add-k
-    loop-less
-    loop-again
-    returns-2)
+    Inv-loop μ-loop loop-holds (λ c. search needs) (λ c κs. search needs) (λ c κs. search needs) returns (λ c. search needs) (λ c. search needs) loop-again returns-2)

@@ -11,6 +11,8 @@ use borrow.Author.Tests.{not-false, not-true}
 use denote.Ref.{now}
 use Rattle.planjudge.proofs.plan.walks.Statement.{statement}
 use Rattle.planjudge.proofs.plan.walks.Tie as tie
+mod Places
+use Places.*
 
 abbrev Inv-loop : tie.InvT-loop
 Inv-loop table rows k d t₀ t = (t ≤ d) × ((s : ℕ) → s < t → Goes table (cellOf rows k s) (cellOf rows k (s + 1)))
@@ -31,48 +33,22 @@ answer c =
 loop-holds : tie.Need-loop-holds Inv-loop μ-loop
 loop-holds c = (omega arith, λ s h. absurd (omega arith))
 
-cell-requires : tie.Need-cell-requires Inv-loop μ-loop
-cell-requires c κs = search needs
-
-add-cell : tie.Need-add-cell Inv-loop μ-loop
-add-cell c = search needs
-
-cell-requires-2 : tie.Need-cell-requires-2 Inv-loop μ-loop
-cell-requires-2 c κs = search needs
-
 goes-requires : tie.Need-goes-requires Inv-loop μ-loop
-goes-requires c κs = (c .before .cell .ensures .1, c .cell2 .ensures .1)
+goes-requires c κs = (cell2→cell c .cell .ensures .1, c .cell2 .ensures .1)
 
 returns : tie.Need-returns Inv-loop μ-loop
 returns c =
-    let t = c .before .before .before .before .before .loop .t in
-    denied (λ w. answer (c .before) .1 (not-true _ (c .if1 .taken)) (w t (omega arith)))
-
-add-t : tie.Need-add-t Inv-loop μ-loop
-add-t c = search needs
-
-loop-less : tie.Need-loop-less Inv-loop μ-loop
-loop-less c = search needs
+    let t = then1→loop c .loop .t in
+    denied (λ w. answer (then1→goes c) .1 (not-true _ (c .if1 .taken)) (w t (omega arith)))
 
 loop-again : tie.Need-loop-again Inv-loop μ-loop
-loop-again c = (omega arith, below-more _ (c .before .before .before .before .before .loop .t) (c .before .before .before .before .before .loop .inv .1) (answer (c .before) .0 (not-false _ (c .if1 .left))))
+loop-again c = (omega arith, below-more _ (else1→loop c .loop .t) (else1→loop c .loop .inv .1) (answer (else1→goes c) .0 (not-false _ (c .if1 .left))))
 
 returns-2 : tie.Need-returns-2 Inv-loop μ-loop
-returns-2 c = told (λ s h. c .before .loop .inv .1 s (omega arith))
+returns-2 c = told (λ s h. after-loop→loop c .loop .inv .1 s (omega arith))
 
 pub walks-spec : {M : Type 1} → statement M
 walks-spec =
     tie.close
     (tie.spec
-    Inv-loop
-    μ-loop
-    loop-holds
-    cell-requires
-    add-cell
-    cell-requires-2
-    goes-requires
-    returns
-    add-t
-    loop-less
-    loop-again
-    returns-2)
+    Inv-loop μ-loop loop-holds (λ c κs. search needs) (λ c. search needs) (λ c κs. search needs) goes-requires returns (λ c. search needs) (λ c. search needs) loop-again returns-2)

@@ -8,86 +8,91 @@ use Rattle.model.specs.Choke.{point}
 use Rattle.route.proofs.ServeLaws.{still-flow, same-on, marks-search, fresh-next, search-again, may-lay, marks-augment, serves-too}
 use Rattle.route.proofs.serve.serve.Statement.{statement}
 use Rattle.route.proofs.serve.serve.Tie as tie
+mod Places
+use Places.*
 
 search-requires : tie.Need-search-requires
-search-requires c κs = let p = c .before .before .before .before .before .before .before .before .pre in (p .0, p .1 .search)
+search-requires c κs = let p = search-arg→start c .pre in (p .0, p .1 .search)
 
 augment-requires : tie.Need-augment-requires
 augment-requires c κs =
-    let (j, h) = c .before .before .before .before .before .before .before .before .before .before .before .before .before .pre in
-    (j, may-lay (c .before .before .before .before .search .ensures j (h .search)) (h .search) (c .before .if1 .taken))
+    let (j, h) = augment-arg→start c .pre in
+    (j, may-lay (augment-arg→search c .search .ensures j (h .search)) (h .search) (augment-arg→then1 c .if1 .taken))
 
 same-length : tie.Need-same-length
 same-length c =
-    let (j, h) = c .before .before .before .before .before .before .before .before .before .before .before .before .before .before .before .before .pre in
-    let f = c .before .before .before .before .before .before .before .search .ensures j (h .search) in
-    c .before .before .augment .ensures j (may-lay f (h .search) (c .before .before .before .before .if1 .taken)) .long ∙ f .same .long
+    let (j, h) = slice-known3→start c .pre in
+    let f = slice-known3→search c .search .ensures j (h .search) in
+    slice-known3→augment c .augment .ensures j (may-lay f (h .search) (slice-known3→then1 c .if1 .taken)) .long ∙ f .same .long
 
 returns : tie.Need-returns
 returns c = (
   same-length c,
   λ j h.
-      let a = c .before .before .before .before .before .before .before .before .before .before .before .before .before .before .before .before .args in
-      let f = c .before .before .before .before .before .before .before .search .ensures j (h .search) in
-      let some = c .before .before .before .before .if1 .taken in
-      let g = c .before .before .augment .ensures j (may-lay f (h .search) some) in
+      let a = slice-known3→start c .args in
+      let f = slice-known3→search c .search .ensures j (h .search) in
+      let some = slice-known3→then1 c .if1 .taken in
+      let g = slice-known3→augment c .augment .ensures j (may-lay f (h .search) some) in
       (g .flow, (omega arith, omega arith, marks-augment g (a .stamp) (marks-search f (a .stamp) (omega arith) (h .marks)), serves-too g (now (a .store)) (point (a .cell) (a .step)) (same-on f) (f .first some))),
 )
 
 same-length-2 : tie.Need-same-length-2
-same-length-2 c = let (j, h) = c .before .before .before .before .before .before .before .before .before .before .before .before .before .pre in c .before .before .before .before .search .ensures j (h .search) .same .long
+same-length-2 c = let (j, h) = then2→start c .pre in then2→search c .search .ensures j (h .search) .same .long
 
 returns-2 : tie.Need-returns-2
 returns-2 c = (
   same-length-2 c,
   λ j h.
-      let f = c .before .before .before .before .search .ensures j (h .search) in
-      (still-flow f (h .search .ok), (omega arith, f .stuck (omega (arith, c .before .if1 .left)) (h .clean (c .if2 .taken)))),
+      let f = then2→search c .search .ensures j (h .search) in
+      (still-flow f (h .search .ok), (omega arith, f .stuck (omega (arith, then2→else1 c .if1 .left)) (h .clean (c .if2 .taken)))),
 )
 
 add-again : tie.Need-add-again
-add-again c = omega (arith, c .before .before .before .before .before .before .before .before .before .before .before .before .before .pre .1 .small)
+add-again c = omega (arith, else2→start c .pre .1 .small)
 
 search-requires-2 : tie.Need-search-requires-2
-search-requires-2 c κs = let (j, h) = c .before .before .before .before .before .before .before .before .before .before .before .before .before .before .pre in (j, search-again (c .before .before .before .before .before .search .ensures j (h .search)) (h .search) (omega (arith, h .search .some)))
+search-requires-2 c κs = let (j, h) = search-arg2→start c .pre in (j, search-again (search-arg2→search c .search .ensures j (h .search)) (h .search) (omega (arith, h .search .some)))
 
 augment-requires-2 : tie.Need-augment-requires-2
 augment-requires-2 c κs =
-    let (j, h) = c .before .before .before .before .before .before .before .before .before .before .before .before .before .before .before .before .before .before .before .pre in
-    let f = c .before .before .before .before .before .before .before .before .before .before .search .ensures j (h .search) in
-    (j, may-lay (c .before .before .before .before .search2 .ensures j (search-again f (h .search) (omega (arith, h .search .some)))) (search-again f (h .search) (omega (arith, h .search .some))) (c .before .if3 .taken))
+    let (j, h) = augment-arg2→start c .pre in
+    let f = augment-arg2→search c .search .ensures j (h .search) in (
+      j,
+      may-lay (augment-arg2→search2 c .search2 .ensures j (search-again f (h .search) (omega (arith, h .search .some)))) (search-again f (h .search) (omega (arith, h .search .some)))
+          (augment-arg2→then3 c .if3 .taken),
+    )
 
 same-length-3 : tie.Need-same-length-3
 same-length-3 c =
-    let (j, h) = c .before .before .before .before .before .before .before .before .before .before .before .before .before .before .before .before .before .before .before .before .before .before .pre in
-    let f = c .before .before .before .before .before .before .before .before .before .before .before .before .before .search .ensures j (h .search) in
-    let f′ = c .before .before .before .before .before .before .before .search2 .ensures j (search-again f (h .search) (omega (arith, h .search .some))) in
-    c .before .before .augment2 .ensures j (may-lay f′ (search-again f (h .search) (omega (arith, h .search .some))) (c .before .before .before .before .if3 .taken)) .long ∙ f′ .same .long ∙ f .same .long
+    let (j, h) = slice-known5→start c .pre in
+    let f = slice-known5→search c .search .ensures j (h .search) in
+    let f′ = slice-known5→search2 c .search2 .ensures j (search-again f (h .search) (omega (arith, h .search .some))) in
+    slice-known5→augment2 c .augment2 .ensures j (may-lay f′ (search-again f (h .search) (omega (arith, h .search .some))) (slice-known5→then3 c .if3 .taken)) .long ∙ f′ .same .long ∙ f .same .long
 
 returns-3 : tie.Need-returns-3
 returns-3 c = (
   same-length-3 c,
   λ j h.
-      let a = c .before .before .before .before .before .before .before .before .before .before .before .before .before .before .before .before .before .before .before .before .before .before .args in
-      let f = c .before .before .before .before .before .before .before .before .before .before .before .before .before .search .ensures j (h .search) in
-      let f′ = c .before .before .before .before .before .before .before .search2 .ensures j (search-again f (h .search) (omega (arith, h .search .some))) in
-      let some = c .before .before .before .before .if3 .taken in
-      let g = c .before .before .augment2 .ensures j (may-lay f′ (search-again f (h .search) (omega (arith, h .search .some))) some) in
+      let a = slice-known5→start c .args in
+      let f = slice-known5→search c .search .ensures j (h .search) in
+      let f′ = slice-known5→search2 c .search2 .ensures j (search-again f (h .search) (omega (arith, h .search .some))) in
+      let some = slice-known5→then3 c .if3 .taken in
+      let g = slice-known5→augment2 c .augment2 .ensures j (may-lay f′ (search-again f (h .search) (omega (arith, h .search .some))) some) in
       (g .flow, (omega arith, omega arith, marks-augment g _ (marks-search f′ (a .stamp) (omega arith) (marks-search f (a .stamp) (omega arith) (h .marks))), serves-too g (now (a .store)) (point (a .cell) (a .step)) (same-on f′ ∙ same-on f) (f′ .first some))),
 )
 
 same-length-4 : tie.Need-same-length-4
 same-length-4 c =
-    let (j, h) = c .before .before .before .before .before .before .before .before .before .before .before .before .before .before .before .before .before .before .pre in
-    let f = c .before .before .before .before .before .before .before .before .before .search .ensures j (h .search) in
-    c .before .before .before .search2 .ensures j (search-again f (h .search) (omega (arith, h .search .some))) .same .long ∙ f .same .long
+    let (j, h) = else3→start c .pre in
+    let f = else3→search c .search .ensures j (h .search) in
+    else3→search2 c .search2 .ensures j (search-again f (h .search) (omega (arith, h .search .some))) .same .long ∙ f .same .long
 
 returns-4 : tie.Need-returns-4
 returns-4 c = (
   same-length-4 c,
   λ j h.
-      let f = c .before .before .before .before .before .before .before .before .before .search .ensures j (h .search) in
-      let f′ = c .before .before .before .search2 .ensures j (search-again f (h .search) (omega (arith, h .search .some))) in
+      let f = else3→search c .search .ensures j (h .search) in
+      let f′ = else3→search2 c .search2 .ensures j (search-again f (h .search) (omega (arith, h .search .some))) in
       (still-flow f′ (still-flow f (h .search .ok)), (omega arith, f′ .stuck (omega (arith, c .if3 .left)) (fresh-next f (omega arith) (h .marks)))),
 )
 
@@ -95,16 +100,4 @@ pub serve-spec : {M : Type 1} → statement M
 serve-spec =
     tie.close
     (tie.spec
-    search-requires
-    augment-requires
-    same-length
-    returns
-    same-length-2
-    returns-2
-    add-again
-    search-requires-2
-    augment-requires-2
-    same-length-3
-    returns-3
-    same-length-4
-    returns-4)
+    search-requires augment-requires same-length returns same-length-2 returns-2 add-again search-requires-2 augment-requires-2 same-length-3 returns-3 same-length-4 returns-4)

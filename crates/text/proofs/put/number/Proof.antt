@@ -8,95 +8,54 @@ use Rattle.text.proofs.Wrote.{numeral-1, numeral-2, numeral-3, wrote-mo
 use borrow.Author.Needs.{needs}
 use Rattle.text.proofs.put.number.Statement.{statement}
 use Rattle.text.proofs.put.number.Tie as tie
-
-digit-requires : tie.Need-digit-requires
-digit-requires c κs = search needs
+mod Places
+use Places.*
 
 byte-requires : tie.Need-byte-requires
-byte-requires c κs = omega (arith, ap length (numeral-1 (c .before .before .before .before .args .n) (omega arith)))
-
-same-length : tie.Need-same-length
-same-length c = search needs
+byte-requires c κs = omega (arith, ap length (numeral-1 (digit→start c .args .n) (omega arith)))
 
 returns : tie.Need-returns
 returns c =
-    let b = c .before .before in
-    let i = b .before .before .before in
-    rw (numeral-1 (i .before .before .args .n) (i .if1 .taken), ← b .before .digit .ensures) (b .byte .ensures)
-
-digit-requires-2 : tie.Need-digit-requires-2
-digit-requires-2 c κs = search needs
+    let b = slice-known2→byte c in
+    let i = byte→then1 b in
+    rw (numeral-1 (then1→start i .args .n) (i .if1 .taken), ← byte→digit b .digit .ensures) (b .byte .ensures)
 
 byte-requires-2 : tie.Need-byte-requires-2
-byte-requires-2 c κs = omega (arith, ap length (numeral-2 (c .before .before .before .before .before .args .n) (omega arith) (omega arith)))
-
-digit-requires-3 : tie.Need-digit-requires-3
-digit-requires-3 c κs = search needs
+byte-requires-2 c κs = omega (arith, ap length (numeral-2 (digit2→start c .args .n) (omega arith) (omega arith)))
 
 byte-requires-3 : tie.Need-byte-requires-3
-byte-requires-3 c κs = omega (arith, ap length (numeral-2 (c .before .before .before .before .before .before .before .before .before .before .args .n) (omega arith) (omega arith)))
-
-same-length-2 : tie.Need-same-length-2
-same-length-2 c = search needs
+byte-requires-3 c κs = omega (arith, ap length (numeral-2 (digit3→start c .args .n) (omega arith) (omega arith)))
 
 returns-2 : tie.Need-returns-2
 returns-2 c =
-    let y = c .before .before in
-    let x = y .before .before .before .before .before in
-    let i = x .before .before .before in
-    rw (numeral-2 (i .before .before .before .args .n) (i .before .if1 .left) (i .if2 .taken), ← x .before .digit2 .ensures, ← y .before .digit3 .ensures)
+    let y = slice-known4→byte3 c in
+    let x = byte3→byte2 y in
+    let i = byte2→then2 x in
+    rw (numeral-2 (then2→start i .args .n) (then2→else1 i .if1 .left) (i .if2 .taken), ← byte2→digit2 x .digit2 .ensures, ← byte3→digit3 y .digit3 .ensures)
     (wrote-more (x .byte2 .ensures) (y .byte3 .ensures))
 
-digit-requires-4 : tie.Need-digit-requires-4
-digit-requires-4 c κs = search needs
-
 byte-requires-4 : tie.Need-byte-requires-4
-byte-requires-4 c κs = omega (arith, ap length (numeral-3 (c .before .before .before .before .before .args .n) (omega arith) (omega arith)))
-
-digit-requires-5 : tie.Need-digit-requires-5
-digit-requires-5 c κs = search needs
+byte-requires-4 c κs = omega (arith, ap length (numeral-3 (digit4→start c .args .n) (omega arith) (omega arith)))
 
 byte-requires-5 : tie.Need-byte-requires-5
-byte-requires-5 c κs = omega (arith, ap length (numeral-3 (c .before .before .before .before .before .before .before .before .before .before .args .n) (omega arith) (omega arith)))
-
-digit-requires-6 : tie.Need-digit-requires-6
-digit-requires-6 c κs = search needs
+byte-requires-5 c κs = omega (arith, ap length (numeral-3 (digit5→start c .args .n) (omega arith) (omega arith)))
 
 byte-requires-6 : tie.Need-byte-requires-6
-byte-requires-6 c κs = omega (arith, ap length (numeral-3 (c .before .before .before .before .before .before .before .before .before .before .before .before .before .before .before .args .n) (omega arith) (omega arith)))
-
-same-length-3 : tie.Need-same-length-3
-same-length-3 c = search needs
+byte-requires-6 c κs = omega (arith, ap length (numeral-3 (digit6→start c .args .n) (omega arith) (omega arith)))
 
 returns-3 : tie.Need-returns-3
 returns-3 c =
-    let z = c .before .before in
-    let y = z .before .before .before .before .before in
-    let x = y .before .before .before .before .before in
-    let i = x .before .before .before in
-    let s = i .before .before .before in
-    rw (numeral-3 (s .args .n) (i .if2 .left) (s .pre .0), ← x .before .digit4 .ensures, ← y .before .digit5 .ensures, ← z .before .digit6 .ensures)
+    let z = slice-known7→byte6 c in
+    let y = byte6→byte5 z in
+    let x = byte5→byte4 y in
+    let i = byte4→else2 x in
+    let s = else2→start i in
+    rw (numeral-3 (s .args .n) (i .if2 .left) (s .pre .0), ← byte4→digit4 x .digit4 .ensures, ← byte5→digit5 y .digit5 .ensures, ← byte6→digit6 z .digit6 .ensures)
     (wrote-more (wrote-more (x .byte4 .ensures) (y .byte5 .ensures)) (z .byte6 .ensures))
 
 pub number-spec : {M : Type 1} → statement M
 number-spec =
     tie.close
     (tie.spec
-    digit-requires
-    byte-requires
-    same-length
-    returns
-    digit-requires-2
-    byte-requires-2
-    digit-requires-3
-    byte-requires-3
-    same-length-2
-    returns-2
-    digit-requires-4
-    byte-requires-4
-    digit-requires-5
-    byte-requires-5
-    digit-requires-6
-    byte-requires-6
-    same-length-3
-    returns-3)
+    (λ c κs. search needs) byte-requires (λ c. search needs) returns (λ c κs. search needs) byte-requires-2 (λ c κs. search needs) byte-requires-3 (λ c. search needs) returns-2
+    (λ c κs. search needs) byte-requires-4 (λ c κs. search needs) byte-requires-5 (λ c κs. search needs) byte-requires-6 (λ c. search needs) returns-3)

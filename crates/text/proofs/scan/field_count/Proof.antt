@@ -11,6 +11,8 @@ use denote.Ref.{now}
 use mathlib.Core.Logic.{⊎-elim}
 use Rattle.text.proofs.scan.field_count.Statement.{statement}
 use Rattle.text.proofs.scan.field_count.Tie as tie
+mod Places
+use Places.*
 
 abbrev Inv-loop : tie.InvT-loop
 Inv-loop s i₀ n₀ i n = (i ≤ length s) × (n ≤ i + 1) × (n + length (fieldsOf (drop i s)) ≡ 1 + length (fieldsOf s))
@@ -18,25 +20,10 @@ Inv-loop s i₀ n₀ i n = (i ≤ length s) × (n ≤ i + 1) × (n + length (fie
 abbrev μ-loop : tie.MeasureT-loop
 μ-loop s i₀ n₀ i n = length s - i
 
-loop-holds : tie.Need-loop-holds Inv-loop μ-loop
-loop-holds c = search needs
-
-shared-slice-read-if1 : tie.Need-shared-slice-read-if1 Inv-loop μ-loop
-shared-slice-read-if1 c = search needs
-
-add-n : tie.Need-add-n Inv-loop μ-loop
-add-n c = search needs
-
-add-i : tie.Need-add-i Inv-loop μ-loop
-add-i c = search needs
-
-loop-less : tie.Need-loop-less Inv-loop μ-loop
-loop-less c = search needs
-
 loop-again : tie.Need-loop-again Inv-loop μ-loop
 loop-again c =
-    let l = c .before .before .before .loop in
-    let s = now (c .before .before .before .before .args .s) in
+    let l = joined1→loop c .loop in
+    let s = now (joined1→start c .args .s) in
     let h : l .i < length s = omega arith in
     ⊎-elim
     (λ w. (omega arith, omega arith, omega (arith, l .inv .2, count-tab s (l .i) h (w .0 .taken))))
@@ -45,19 +32,8 @@ loop-again c =
 
 returns : tie.Need-returns Inv-loop μ-loop
 returns c =
-    let s = now (c .before .before .args .s) in
-    omega (arith, count-end s (c .before .loop .i) (omega arith))
+    let s = now (after-loop→start c .args .s) in
+    omega (arith, count-end s (after-loop→loop c .loop .i) (omega arith))
 
 pub field-count-spec : {M : Type 1} → statement M
-field-count-spec =
-    tie.close
-    (tie.spec
-    Inv-loop
-    μ-loop
-    loop-holds
-    shared-slice-read-if1
-    add-n
-    add-i
-    loop-less
-    loop-again
-    returns)
+field-count-spec = tie.close (tie.spec Inv-loop μ-loop (λ c. search needs) (λ c. search needs) (λ c. search needs) (λ c. search needs) (λ c. search needs) loop-again returns)

@@ -6,15 +6,6 @@ use Rattle.text.proofs.LineLaws.{line-part, line-bound}
 use Rattle.text.proofs.scan.line_before.Statement.{statement}
 use Rattle.text.proofs.scan.line_before.Tie as tie
 
-sub-end : tie.Need-sub-end
-sub-end c = search needs
-
-sub-result : tie.Need-sub-result
-sub-result c = search needs
-
-part-result-start : tie.Need-part-result-start
-part-result-start c = search needs
-
 part-result-end : tie.Need-part-result-end
 part-result-end c = omega (arith, line-bound (now (c .args .s)) (c .args .at) (c .pre .0))
 
@@ -22,4 +13,4 @@ returns : tie.Need-returns
 returns c = line-part (now (c .before .args .s)) (c .before .args .at) _ (omega (arith, c .before .pre .1))
 
 pub line-before-spec : {M : Type 1} → statement M
-line-before-spec = tie.close (tie.spec sub-end sub-result part-result-start part-result-end returns)
+line-before-spec = tie.close (tie.spec (λ c. search needs) (λ c. search needs) (λ c. search needs) part-result-end returns)

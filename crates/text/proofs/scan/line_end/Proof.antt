@@ -10,6 +10,8 @@ use Rattle.text.specs.Scan.{lineOf}
 use Rattle.text.proofs.Steps.{line-none, line-stop, line-step}
 use Rattle.text.proofs.scan.line_end.Statement.{statement}
 use Rattle.text.proofs.scan.line_end.Tie as tie
+mod Places
+use Places.*
 
 abbrev Inv-loop : tie.InvT-loop
 Inv-loop s at i₀ i = (i ≤ length s) × (i + length (lineOf (drop i s)) ≡ at + length (lineOf (drop at s)))
@@ -20,42 +22,22 @@ abbrev μ-loop : tie.MeasureT-loop
 loop-holds : tie.Need-loop-holds Inv-loop μ-loop
 loop-holds c = (c .pre, refl)
 
-shared-slice-read-if1 : tie.Need-shared-slice-read-if1 Inv-loop μ-loop
-shared-slice-read-if1 c = search needs
-
 returns : tie.Need-returns Inv-loop μ-loop
 returns c =
-    let l = c .before .before .before .loop in
-    let s = now (c .before .before .before .before .args .s) in
+    let l = then1→loop c .loop in
+    let s = now (then1→start c .args .s) in
     omega (arith, l .inv .1, ap length (line-stop s (l .i) (omega arith) (c .if1 .taken)))
-
-add-i : tie.Need-add-i Inv-loop μ-loop
-add-i c = search needs
-
-loop-less : tie.Need-loop-less Inv-loop μ-loop
-loop-less c = search needs
 
 loop-again : tie.Need-loop-again Inv-loop μ-loop
 loop-again c =
-    let l = c .before .before .before .loop in
-    let s = now (c .before .before .before .before .args .s) in
+    let l = else1→loop c .loop in
+    let s = now (else1→start c .args .s) in
     (omega arith, omega (arith, l .inv .1, ap length (line-step s (l .i) (omega arith) (c .if1 .left))))
 
 returns-2 : tie.Need-returns-2 Inv-loop μ-loop
 returns-2 c =
-    let s = now (c .before .before .args .s) in
-    omega (arith, ap length (line-none s (c .before .loop .i) (omega arith)))
+    let s = now (after-loop→start c .args .s) in
+    omega (arith, ap length (line-none s (after-loop→loop c .loop .i) (omega arith)))
 
 pub line-end-spec : {M : Type 1} → statement M
-line-end-spec =
-    tie.close
-    (tie.spec
-    Inv-loop
-    μ-loop
-    loop-holds
-    shared-slice-read-if1
-    returns
-    add-i
-    loop-less
-    loop-again
-    returns-2)
+line-end-spec = tie.close (tie.spec Inv-loop μ-loop loop-holds (λ c. search needs) returns (λ c. search needs) (λ c. search needs) loop-again returns-2)

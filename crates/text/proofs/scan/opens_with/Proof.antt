@@ -10,6 +10,8 @@ use Rattle.model.specs.Text.{startsWith}
 use Rattle.text.proofs.Steps.{starts-end, starts-short, starts-differ, starts-step}
 use Rattle.text.proofs.scan.opens_with.Statement.{statement}
 use Rattle.text.proofs.scan.opens_with.Tie as tie
+mod Places
+use Places.*
 
 abbrev Inv-loop : tie.InvT-loop
 Inv-loop s word i₀ i = startsWith (drop i word) (drop i s) ≡ startsWith word s
@@ -17,45 +19,20 @@ Inv-loop s word i₀ i = startsWith (drop i word) (drop i s) ≡ startsWith word
 abbrev μ-loop : tie.MeasureT-loop
 μ-loop s word i₀ i = length word - i
 
-loop-holds : tie.Need-loop-holds Inv-loop μ-loop
-loop-holds c = search needs
-
 returns : tie.Need-returns Inv-loop μ-loop
-returns c = sym (starts-short _ _ _ (c .before .loop-test .taken) (c .if1 .taken)) ∙ c .before .before .loop .inv
-
-shared-slice-read-if2 : tie.Need-shared-slice-read-if2 Inv-loop μ-loop
-shared-slice-read-if2 c = search needs
-
-shared-slice-read-if2-2 : tie.Need-shared-slice-read-if2-2 Inv-loop μ-loop
-shared-slice-read-if2-2 c = search needs
+returns c = sym (starts-short _ _ _ (then1→in-loop c .loop-test .taken) (c .if1 .taken)) ∙ then1→loop c .loop .inv
 
 returns-2 : tie.Need-returns-2 Inv-loop μ-loop
-returns-2 c = sym (starts-differ (now (c .before .before .before .before .before .before .args .word)) (now (c .before .before .before .before .before .before .args .s)) (c .before .before .before .before .before .loop .i) (omega arith) (omega arith) (c .if2 .taken)) ∙ c .before .before .before .before .before .loop .inv
-
-add-i : tie.Need-add-i Inv-loop μ-loop
-add-i c = search needs
-
-loop-less : tie.Need-loop-less Inv-loop μ-loop
-loop-less c = search needs
+returns-2 c = sym (starts-differ (now (then2→start c .args .word)) (now (then2→start c .args .s)) (then2→loop c .loop .i) (omega arith) (omega arith) (c .if2 .taken)) ∙ then2→loop c .loop .inv
 
 loop-again : tie.Need-loop-again Inv-loop μ-loop
-loop-again c = sym (starts-step (now (c .before .before .before .before .before .before .args .word)) (now (c .before .before .before .before .before .before .args .s)) (c .before .before .before .before .before .loop .i) (omega arith) (omega arith) (c .if2 .left)) ∙ c .before .before .before .before .before .loop .inv
+loop-again c = sym (starts-step (now (else2→start c .args .word)) (now (else2→start c .args .s)) (else2→loop c .loop .i) (omega arith) (omega arith) (c .if2 .left)) ∙ else2→loop c .loop .inv
 
 returns-3 : tie.Need-returns-3 Inv-loop μ-loop
-returns-3 c = sym (starts-end _ _ _ (c .loop-test .left)) ∙ c .before .loop .inv
+returns-3 c = sym (starts-end _ _ _ (c .loop-test .left)) ∙ after-loop→loop c .loop .inv
 
 pub opens-with-spec : {M : Type 1} → statement M
 opens-with-spec =
     tie.close
     (tie.spec
-    Inv-loop
-    μ-loop
-    loop-holds
-    returns
-    shared-slice-read-if2
-    shared-slice-read-if2-2
-    returns-2
-    add-i
-    loop-less
-    loop-again
-    returns-3)
+    Inv-loop μ-loop (λ c. search needs) returns (λ c. search needs) (λ c. search needs) returns-2 (λ c. search needs) (λ c. search needs) loop-again returns-3)
