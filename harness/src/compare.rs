@@ -1,9 +1,7 @@
 //! One call held against the model: the answer, and every byte of every buffer.
 
-#[cfg(feature = "plan")]
 mod planner;
 
-#[cfg(feature = "plan")]
 pub use planner::{plan, planned};
 
 use crate::ffi::{self, Checker, Library};

@@ -1,10 +1,8 @@
 //! The library's calls, made with buffers that stand between guard bytes.
 
 mod lent;
-#[cfg(feature = "plan")]
 mod planner;
 
-#[cfg(feature = "plan")]
 pub use planner::{plan, plan_into, Planned};
 
 use crate::gen::Rng;

@@ -1,11 +1,13 @@
 //! Tests of the library `cartfloor` from outside, through its C interface.
 //!
-//! `model` says what document 01 asks for; `ffi` calls the library between guard bytes; `gen` makes jobs and sheets;
-//! `compare` holds one call against the model. `faulty` is a second check, into which faults can be put to see that the
-//! comparison finds them; `painted` measures stacks. `child` runs programs: `program` is where floorplan is, `header` has
-//! one in C that uses the header. The tests themselves are in `tests/`, and `soak`, a program, tries as much as one has
-//! time for.
+//! `model` says what document 01 asks for, `examples` has what it files; `ffi` calls the library between guard bytes;
+//! `gen` makes jobs and sheets; `compare` holds one call against the model, `tally` counts what was answered. `shortcuts`
+//! has planners that are wrong. `faulty` is a second check, into which faults can be put to see that the comparison finds
+//! them; `painted` measures stacks. `child` runs programs: `program` is where floorplan is, `header` has one in C that
+//! uses the header. The tests themselves are in `tests/`. Two programs go with them: `soak` tries as much as one has time
+//! for, and `bench` times the library, against `baseline` among others.
 
+pub mod baseline;
 pub mod child;
 pub mod compare;
 pub mod examples;
@@ -16,9 +18,5 @@ pub mod header;
 pub mod model;
 pub mod painted;
 pub mod program;
-pub mod tally;
-
-#[cfg(feature = "plan")]
-pub mod baseline;
-#[cfg(feature = "plan")]
 pub mod shortcuts;
+pub mod tally;

@@ -9,7 +9,6 @@ pub mod job;
 pub mod limits;
 pub mod lines;
 pub mod plan;
-#[cfg(feature = "plan")]
 pub mod planner;
 pub mod reader;
 pub mod sheet;

@@ -1,6 +1,5 @@
 //! The library called by the names of the C header: its limits, lengths and answers, each at its edge, and the parameters
 //! of both calls in the order of their prototypes. Tabs are shown as spaces.
-#![cfg(feature = "plan")]
 
 use harness::examples::{A, B, D, F, F_TRADED, G};
 use harness::header::{assert_rows, parameters, row, Row};

@@ -1,5 +1,4 @@
 //! The planner's buffers: just the least lengths, one byte short, longer. The comparison looks at every byte of them.
-#![cfg(feature = "plan")]
 
 use harness::compare::plan;
 use harness::examples::tabs;

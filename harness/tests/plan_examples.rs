@@ -1,5 +1,4 @@
 //! The filed examples of document 01, as the planner answers them: numbers and bytes.
-#![cfg(feature = "plan")]
 
 use harness::compare::plan;
 use harness::examples::{e, tabs, D, EXAMPLES, REFUSED};

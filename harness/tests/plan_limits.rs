@@ -1,5 +1,4 @@
 //! Jobs at every limit, planned in the least buffers. Each sheet has to pass the library's check and the model's.
-#![cfg(feature = "plan")]
 
 use harness::compare::plan;
 use harness::gen::floors::*;

@@ -1,5 +1,4 @@
 //! The shortcuts that lose a lane: for each a job on which it is wrong, and the planner is right.
-#![cfg(feature = "plan")]
 
 use harness::compare::{library, plan};
 use harness::examples::{tabs, A};

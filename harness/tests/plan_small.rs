@@ -2,7 +2,6 @@
 //!
 //! The comparison holds each sheet against the model, which for jobs of this size writes out all walks to decide a
 //! choke list, and against the library's check.
-#![cfg(feature = "plan")]
 
 use harness::compare::plan;
 use harness::gen::damage::damaged;

@@ -1,6 +1,5 @@
 //! The program `floorplan` as it is built and run: every byte that it writes, as document 01 has it. Tabs are shown as
 //! spaces.
-#![cfg(feature = "plan")]
 
 use std::fs;
 use std::path::PathBuf;

@@ -2,7 +2,6 @@
 //!
 //! Document 01 says nothing of this. What is held is that the program never hangs and, where the system does not end it,
 //! is not ended by a fault of its own; which status it ends with is left open.
-#![cfg(feature = "plan")]
 
 use std::fs::File;
 use std::os::unix::process::ExitStatusExt;

@@ -2,13 +2,13 @@
 
 use std::thread;
 
-use harness::ffi::{check, Checker, Library};
+use harness::ffi::{check, plan, plan_into, Checker, Library};
 use harness::gen::floors::*;
 use harness::gen::large::*;
 use harness::gen::Rng;
 use harness::model::answer::*;
 use harness::model::job::Job;
-use harness::model::limits::{self, store_least};
+use harness::model::limits::{self, sheet_least, store_least};
 use harness::model::sheet::Sheet;
 use harness::painted::depth_of;
 
@@ -45,6 +45,15 @@ fn right_sheets() -> Vec<(Job, Sheet, u64)> {
 fn plans_and_choke_lists_at_every_limit() {
     for (job, sheet, number) in right_sheets() {
         assert_eq!(check_with_little_stack(job.text(), store_least(&job), sheet.text()), (number, 0));
+    }
+}
+
+#[test]
+fn jobs_planned_at_every_limit() {
+    for (job, _, number) in right_sheets() {
+        let call = move || plan(&job.text(), store_least(&job), sheet_least(&job), &mut Rng::new(1));
+        let planned = with_little_stack(call).expect("no byte changed");
+        assert_eq!(unpack(planned.answer).0, number);
     }
 }
 
@@ -92,39 +101,23 @@ fn high_water_mark_of_the_check() {
     assert_high_water_mark("cartfloor_check", &depths);
 }
 
-#[cfg(feature = "plan")]
-mod planner {
-    use super::*;
-    use harness::ffi::{plan, plan_into};
-    use harness::model::limits::sheet_least;
+/// How deep the planner goes, and its answer.
+fn depth_of_plan(job: &[u8], store_len: usize, sheet_len: usize) -> (usize, u64) {
+    let (mut store, mut sheet) = (vec![1; store_len], vec![1; sheet_len]);
+    let mut answer = 0;
+    let depth = depth_of(|| answer = plan_into(job, &mut store, &mut sheet));
+    (depth, unpack(answer).0)
+}
 
-    #[test]
-    fn plans_and_choke_lists_at_every_limit() {
-        for (job, _, number) in right_sheets() {
-            let call = move || plan(&job.text(), store_least(&job), sheet_least(&job), &mut Rng::new(1));
-            let planned = with_little_stack(call).expect("no byte changed");
-            assert_eq!(unpack(planned.answer).0, number);
+#[test]
+fn high_water_mark_of_the_planner() {
+    let mut depths = Vec::new();
+    for (job, _, number) in right_sheets() {
+        for (sheet_len, expected) in [(sheet_least(&job), number), (0, SHEET_TOO_SHORT)] {
+            let (depth, answer) = depth_of_plan(&job.text(), store_least(&job), sheet_len);
+            assert_eq!(answer, expected);
+            depths.push(depth);
         }
     }
-
-    /// How deep the planner goes, and its answer.
-    fn depth_of_plan(job: &[u8], store_len: usize, sheet_len: usize) -> (usize, u64) {
-        let (mut store, mut sheet) = (vec![1; store_len], vec![1; sheet_len]);
-        let mut answer = 0;
-        let depth = depth_of(|| answer = plan_into(job, &mut store, &mut sheet));
-        (depth, unpack(answer).0)
-    }
-
-    #[test]
-    fn high_water_mark_of_the_planner() {
-        let mut depths = Vec::new();
-        for (job, _, number) in right_sheets() {
-            for (sheet_len, expected) in [(sheet_least(&job), number), (0, SHEET_TOO_SHORT)] {
-                let (depth, answer) = depth_of_plan(&job.text(), store_least(&job), sheet_len);
-                assert_eq!(answer, expected);
-                depths.push(depth);
-            }
-        }
-        assert_high_water_mark("cartfloor_plan", &depths);
-    }
+    assert_high_water_mark("cartfloor_plan", &depths);
 }

@@ -1,5 +1,4 @@
 //! Two threads plan and check different jobs at the same time: each gets what it gets alone.
-#![cfg(feature = "plan")]
 
 use std::sync::Barrier;
 use std::thread;

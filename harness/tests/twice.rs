@@ -1,5 +1,4 @@
 //! The same call again gives the same number and the same bytes, whatever is in store and sheet buffer.
-#![cfg(feature = "plan")]
 
 use harness::compare::{plan, show};
 use harness::examples::{tabs, EXAMPLES};
