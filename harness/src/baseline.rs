@@ -14,6 +14,8 @@ use planes::{planes, Planes};
 use search::search;
 use sheet::{write_cannot, write_plan, Writer};
 
+use crate::model::answer::{pack, CANNOT, PLAN};
+
 const CELLS: usize = 256;
 const TRACKS: usize = 512;
 const CALLS: usize = 64;
@@ -74,7 +76,7 @@ pub fn plan_by<M: Mode>(mode: &mut M, text: &[u8], store: &mut [u8], sheet: &mut
     } else {
         write_cannot(&j, &p, stamp, &mut w);
     }
-    let written = w.at as u64;
+    let written = w.at;
     store.fill(0);
-    256 * written + !served as u64
+    pack(if served { PLAN } else { CANNOT }, written)
 }

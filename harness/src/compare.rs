@@ -10,31 +10,31 @@ use crate::gen::Rng;
 use crate::model::answer::unpack;
 use crate::model::check::{self, store_after};
 
-/// The answer, if it is the model's and all bytes are as they must be; else what differs.
-pub fn check(checker: &dyn Checker, case: &Case, rng: &mut Rng) -> Result<u64, String> {
+/// The answer and the line, if they are the model's and all bytes are as they must be; else what differs.
+pub fn check(checker: &dyn Checker, case: &Case, rng: &mut Rng) -> Result<(u8, usize), String> {
     let expected = check::check(&case.job, case.store_len, &case.sheet);
-    let found = ffi::check(checker, &case.job, case.store_len, &case.sheet, rng).map_err(|what| report(&what, case))?;
-    if found.answer != expected {
-        let what = format!("answers {:?}, not {:?}", unpack(found.answer), unpack(expected));
-        return Err(report(&what, case));
+    let checked = ffi::check(checker, &case.job, case.store_len, &case.sheet, rng);
+    let checked = checked.map_err(|what| report(&what, case))?;
+    let found = unpack(checked.packed);
+    if found != expected {
+        return Err(report(&format!("answers {found:?}, not {expected:?}"), case));
     }
-    if found.store != store_after(expected, &found.lent) {
-        let what = format!("store not as it must be after {:?}", unpack(expected));
-        return Err(report(&what, case));
+    if checked.store != store_after(expected.0, &checked.store_lent) {
+        return Err(report(&format!("store not as it must be after {expected:?}"), case));
     }
     Ok(expected)
 }
 
-/// The library's answer; panics where anything differs from the model.
-pub fn library_on(case: &Case, rng: &mut Rng) -> u64 {
+/// The library's answer and line; panics where anything differs from the model.
+pub fn library_on(case: &Case, rng: &mut Rng) -> (u8, usize) {
     check(&Library, case, rng).unwrap_or_else(|difference| panic!("{difference}"))
 }
 
-/// The library's answer and line; panics where anything differs from the model.
-pub fn library(job: &[u8], store_len: usize, sheet: &[u8]) -> (u64, usize) {
+/// The same for a case told by hand, its noise from a seed of its own.
+pub fn library(job: &[u8], store_len: usize, sheet: &[u8]) -> (u8, usize) {
     let case = Case { job: job.to_vec(), store_len, sheet: sheet.to_vec() };
     let seed = job.len() as u64 ^ (sheet.len() as u64) << 32;
-    unpack(library_on(&case, &mut Rng::new(seed)))
+    library_on(&case, &mut Rng::new(seed))
 }
 
 fn report(what: &str, case: &Case) -> String {

@@ -10,7 +10,7 @@ pub struct Example {
     pub name: &'static str,
     pub job: &'static str,
     pub sheet: &'static str,
-    pub answer: u64,
+    pub answer: u8,
 }
 
 pub const EXAMPLES: [Example; 6] = [A, B, C, D, F, G];
@@ -53,7 +53,7 @@ pub const F_TRADED: &str = "PLAN 2\nPATH 1 0 1 0\nPATH 0 1 0 1\n";
 pub const G: Example = Example { name: "G", job: "FLOOR 2\nCART 0\nCALL 1 5\n", sheet: "CANNOT 0\n", answer: 1 };
 
 /// Jobs that are turned back: text, number, line.
-pub const REFUSED: [(&str, u64, usize); 10] = [
+pub const REFUSED: [(&str, u8, usize); 10] = [
     ("", 3, 1),
     ("FLOOR 0\n", 5, 1),
     ("FLOOR 257\n", 5, 1),

@@ -78,7 +78,7 @@ impl Faulty {
         if store.len() < least {
             return pack(STORE_TOO_SHORT, 0);
         }
-        let (number, right) = match form::read(sheet, &job, self.0) {
+        let (answer, right) = match form::read(sheet, &job, self.0) {
             Err(line) => return pack(BAD_SHEET, line),
             Ok(Sheet::Plan(paths)) => (PLAN, self.is_plan(&job, &paths)),
             Ok(Sheet::Cannot(chokes)) => (CANNOT, self.is_true_list(&job, &chokes)),
@@ -93,7 +93,7 @@ impl Faulty {
             Fault::WipesLeastLengthOnly => store[..least].fill(0),
             _ => store.fill(0),
         }
-        pack(number, 0)
+        pack(answer, 0)
     }
 
     fn is_plan(&self, job: &Job, paths: &[Path]) -> bool {

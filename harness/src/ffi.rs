@@ -35,10 +35,10 @@ impl Checker for Library {
     }
 }
 
-/// What a check gave back: its answer, and the store as it was lent and as it is now.
+/// What a check gave back: its answer, packed, and the store as it was lent and as it is now.
 pub struct Checked {
-    pub answer: u64,
-    pub lent: Vec<u8>,
+    pub packed: u64,
+    pub store_lent: Vec<u8>,
     pub store: Vec<u8>,
 }
 
@@ -50,12 +50,12 @@ pub fn check(
     sheet: &[u8],
     rng: &mut Rng,
 ) -> Result<Checked, String> {
-    let lent = rng.noise(store_len);
+    let store_lent = rng.noise(store_len);
     let mut job_buffer = Lent::new(job, rng);
-    let mut store_buffer = Lent::new(&lent, rng);
+    let mut store_buffer = Lent::new(&store_lent, rng);
     let mut sheet_buffer = Lent::new(sheet, rng);
     // Safety: three buffers of their own, each as long as it says.
-    let answer = unsafe {
+    let packed = unsafe {
         let (job, job_len) = job_buffer.parts();
         let (sheet, sheet_len) = sheet_buffer.parts();
         checker.check((job, job_len), store_buffer.parts(), (sheet, sheet_len))
@@ -63,5 +63,5 @@ pub fn check(
     job_buffer.is_unchanged("job", job)?;
     sheet_buffer.is_unchanged("sheet", sheet)?;
     let store = store_buffer.take("store")?;
-    Ok(Checked { answer, lent, store })
+    Ok(Checked { packed, store_lent, store })
 }

@@ -2,14 +2,12 @@
 
 use std::fmt;
 
-use crate::model::answer::unpack;
-
 #[derive(Clone, Debug, Default)]
 pub struct Tally([usize; 13]);
 
 impl Tally {
-    pub fn count(&mut self, answer: u64) {
-        self.0[unpack(answer).0 as usize] += 1;
+    pub fn count(&mut self, answer: u8) {
+        self.0[answer as usize] += 1;
     }
 
     pub fn total(&self) -> usize {
@@ -17,13 +15,13 @@ impl Tally {
     }
 
     /// Fails unless each of the answers came at least so often.
-    pub fn assert_each(&self, answers: &[u64], least: usize) {
+    pub fn assert_each(&self, answers: &[u8], least: usize) {
         let seldom: Vec<_> = answers.iter().filter(|&&a| self.0[a as usize] < least).collect();
         assert!(seldom.is_empty(), "answers {seldom:?} came less than {least} times: {:?}", self.0);
     }
 
     /// Fails if any other answer came.
-    pub fn assert_only(&self, answers: &[u64]) {
+    pub fn assert_only(&self, answers: &[u8]) {
         let allowed: usize = answers.iter().map(|&a| self.0[a as usize]).sum();
         assert_eq!(allowed, self.total(), "answers other than {answers:?} came: {:?}", self.0);
     }

@@ -7,7 +7,7 @@ use harness::gen::Rng;
 const STORE: usize = 65_536;
 
 /// Checks sheets of one job: text, number, line.
-fn assert_rows(job: &str, rows: &[(&str, u64, usize)]) {
+fn assert_rows(job: &str, rows: &[(&str, u8, usize)]) {
     for &(sheet, number, line) in rows {
         let found = library(&tabs(job), STORE, &tabs(sheet));
         assert_eq!(found, (number, line), "{sheet:?} for {job:?}");

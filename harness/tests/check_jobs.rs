@@ -6,11 +6,11 @@ use harness::gen::large::full_text;
 use harness::gen::Rng;
 use harness::model::limits;
 
-fn answer(job: &[u8]) -> (u64, usize) {
+fn answer(job: &[u8]) -> (u8, usize) {
     library(job, 4096, b"PLAN\t0\n")
 }
 
-fn assert_rows(rows: &[(&str, u64, usize)]) {
+fn assert_rows(rows: &[(&str, u8, usize)]) {
     for &(job, number, line) in rows {
         assert_eq!(answer(&tabs(job)), (number, line), "{job:?}");
     }

@@ -13,7 +13,7 @@ use harness::model::limits::{self, store_least};
 use harness::model::sheet::{Choke, Path, Sheet};
 use harness::tally::Tally;
 
-fn answer(job: &Job, sheet: &Sheet) -> (u64, usize) {
+fn answer(job: &Job, sheet: &Sheet) -> (u8, usize) {
     library(&job.text(), store_least(job), &sheet.text())
 }
 
@@ -23,7 +23,7 @@ fn try_out(job: &Job, sheet: &Sheet, tally: &mut Tally, rng: &mut Rng) {
     let sheets = [damaged(&whole, rng), damaged(&whole, rng), whole];
     for sheet in sheets {
         let case = Case { job: job.text(), store_len: store_least(job), sheet };
-        tally.count(library_on(&case, rng));
+        tally.count(library_on(&case, rng).0);
     }
 }
 
@@ -116,7 +116,7 @@ fn damaged_texts_of_the_longest_job() {
     let mut tally = Tally::default();
     for _ in 0..1000 {
         let case = Case { job: damaged(&full_text(), &mut rng), store_len: 4096, sheet: Vec::new() };
-        tally.count(library_on(&case, &mut rng));
+        tally.count(library_on(&case, &mut rng).0);
     }
     tally.assert_each(&[BAD_LINE, NO_NUMBER, OUT_OF_RANGE, DOUBLED, UNEVEN, STORE_TOO_SHORT], 5);
 }

@@ -14,7 +14,7 @@ fn try_out(kind: Kind, seed: u64, jobs: usize) -> Tally {
     for _ in 0..jobs {
         let known = Known::of(small(&mut rng));
         for case in kind(&known, &mut rng) {
-            tally.count(library_on(&case, &mut rng));
+            tally.count(library_on(&case, &mut rng).0);
         }
     }
     tally

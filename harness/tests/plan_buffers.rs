@@ -15,7 +15,7 @@ fn try_out(job: &Job, rng: &mut Rng) {
     let (text, store, sheet) = (job.text(), store_least(job), sheet_least(job));
     let mut number = |store, sheet| plan(&text, store, sheet, rng).0;
     let answer = number(store, sheet);
-    assert!(answer == PLAN || answer == CANNOT);
+    assert!(!is_refusal(answer));
     assert_eq!(number(store - 1, sheet), STORE_TOO_SHORT);
     assert_eq!(number(store, sheet - 1), SHEET_TOO_SHORT);
     assert_eq!(number(store - 1, sheet - 1), STORE_TOO_SHORT);

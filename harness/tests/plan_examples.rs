@@ -9,7 +9,7 @@ use harness::model::answer::unpack;
 /// The buffers of the program `floorplan`.
 const BUFFER: usize = 65_536;
 
-fn planned(job: &[u8]) -> (u64, Vec<u8>) {
+fn planned(job: &[u8]) -> (u8, Vec<u8>) {
     plan(job, BUFFER, BUFFER, &mut Rng::new(1))
 }
 
@@ -38,7 +38,7 @@ fn job_e_has_256_zeros() {
 fn refused_jobs() {
     for (job, number, line) in REFUSED {
         let found = ffi::plan(&tabs(job), BUFFER, BUFFER, &mut Rng::new(3)).expect("no byte changed");
-        assert_eq!(unpack(found.answer), (number, line), "{job:?}");
+        assert_eq!(unpack(found.packed), (number, line), "{job:?}");
         assert_eq!(planned(&tabs(job)), (number, Vec::new()), "{job:?}");
     }
 }

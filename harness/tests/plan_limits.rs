@@ -9,7 +9,7 @@ use harness::model::job::{Call, Job};
 use harness::model::limits::{self, sheet_least, store_least};
 use harness::tally::Tally;
 
-fn planned(job: &Job) -> (u64, Vec<u8>) {
+fn planned(job: &Job) -> (u8, Vec<u8>) {
     plan(&job.text(), store_least(job), sheet_least(job), &mut Rng::new(1))
 }
 

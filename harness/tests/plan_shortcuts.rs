@@ -17,7 +17,7 @@ fn job(text: &str) -> Job {
 }
 
 /// The planner's answer, which the exhaustive search confirms.
-fn right_answer(job: &Job) -> u64 {
+fn right_answer(job: &Job) -> u8 {
     let (answer, _) = plan(&job.text(), BUFFER, BUFFER, &mut Rng::new(1));
     assert_eq!(answer == PLAN, has_plan(job));
     answer

@@ -27,7 +27,7 @@ fn row(name: &str, input: Vec<u8>, expected: &str) -> Row {
     Row { name: name.to_string(), pieces: vec![input], expected: tabs(expected) }
 }
 
-fn refused(name: &str, input: Vec<u8>, number: u64, line: usize) -> Row {
+fn refused(name: &str, input: Vec<u8>, number: u8, line: usize) -> Row {
     row(name, input, &format!("REFUSED {number} {line}\n"))
 }
 

@@ -20,13 +20,13 @@ fn with_little_stack<T: Send + 'static>(call: impl FnOnce() -> T + Send + 'stati
     thread.expect("a thread").join().expect("an answer")
 }
 
-fn check_with_little_stack(job: Vec<u8>, store_len: usize, sheet: Vec<u8>) -> (u64, usize) {
+fn check_with_little_stack(job: Vec<u8>, store_len: usize, sheet: Vec<u8>) -> (u8, usize) {
     let call = move || check(&Library, &job, store_len, &sheet, &mut Rng::new(1));
-    unpack(with_little_stack(call).expect("no byte changed").answer)
+    unpack(with_little_stack(call).expect("no byte changed").packed)
 }
 
 /// Jobs at the limits with a sheet that is right by the way they are made, and its answer.
-fn right_sheets() -> Vec<(Job, Sheet, u64)> {
+fn right_sheets() -> Vec<(Job, Sheet, u8)> {
     let (still, still_paths) = standing(ring(), limits::CARTS, limits::DEADLINE);
     let floor = with_most_tracks(grid(16, 16), &mut Rng::new(2));
     let (moved, paths) = moving(floor, limits::CARTS, 200, limits::DEADLINE, &mut Rng::new(3));
@@ -43,17 +43,17 @@ fn right_sheets() -> Vec<(Job, Sheet, u64)> {
 
 #[test]
 fn plans_and_choke_lists_at_every_limit() {
-    for (job, sheet, number) in right_sheets() {
-        assert_eq!(check_with_little_stack(job.text(), store_least(&job), sheet.text()), (number, 0));
+    for (job, sheet, answer) in right_sheets() {
+        assert_eq!(check_with_little_stack(job.text(), store_least(&job), sheet.text()), (answer, 0));
     }
 }
 
 #[test]
 fn jobs_planned_at_every_limit() {
-    for (job, _, number) in right_sheets() {
+    for (job, _, answer) in right_sheets() {
         let call = move || plan(&job.text(), store_least(&job), sheet_least(&job), &mut Rng::new(1));
         let planned = with_little_stack(call).expect("no byte changed");
-        assert_eq!(unpack(planned.answer).0, number);
+        assert_eq!(unpack(planned.packed).0, answer);
     }
 }
 
@@ -76,25 +76,25 @@ fn assert_high_water_mark(name: &str, depths: &[usize]) {
 }
 
 /// How deep the check goes, and its answer.
-fn depth_of_check(job: &Job, sheet: &[u8]) -> (usize, u64) {
+fn depth_of_check(job: &Job, sheet: &[u8]) -> (usize, u8) {
     let (text, mut store) = (job.text(), vec![1; store_least(job)]);
-    let mut answer = 0;
+    let mut packed = 0;
     let depth = depth_of(|| {
         let store = (store.as_mut_ptr(), store.len());
         // Safety: three buffers of their own, each as long as it says.
-        answer = unsafe { Library.check((text.as_ptr(), text.len()), store, (sheet.as_ptr(), sheet.len())) };
+        packed = unsafe { Library.check((text.as_ptr(), text.len()), store, (sheet.as_ptr(), sheet.len())) };
     });
-    (depth, unpack(answer).0)
+    (depth, unpack(packed).0)
 }
 
 #[test]
 fn high_water_mark_of_the_check() {
     let mut depths = Vec::new();
-    for (job, sheet, number) in right_sheets() {
+    for (job, sheet, answer) in right_sheets() {
         let text = sheet.text();
-        for (sheet, expected) in [(text.as_slice(), number), (&text[..text.len() - 1], BAD_SHEET)] {
-            let (depth, answer) = depth_of_check(&job, sheet);
-            assert_eq!(answer, expected);
+        for (sheet, expected) in [(text.as_slice(), answer), (&text[..text.len() - 1], BAD_SHEET)] {
+            let (depth, found) = depth_of_check(&job, sheet);
+            assert_eq!(found, expected);
             depths.push(depth);
         }
     }
@@ -102,20 +102,20 @@ fn high_water_mark_of_the_check() {
 }
 
 /// How deep the planner goes, and its answer.
-fn depth_of_plan(job: &[u8], store_len: usize, sheet_len: usize) -> (usize, u64) {
+fn depth_of_plan(job: &[u8], store_len: usize, sheet_len: usize) -> (usize, u8) {
     let (mut store, mut sheet) = (vec![1; store_len], vec![1; sheet_len]);
-    let mut answer = 0;
-    let depth = depth_of(|| answer = plan_into(job, &mut store, &mut sheet));
-    (depth, unpack(answer).0)
+    let mut packed = 0;
+    let depth = depth_of(|| packed = plan_into(job, &mut store, &mut sheet));
+    (depth, unpack(packed).0)
 }
 
 #[test]
 fn high_water_mark_of_the_planner() {
     let mut depths = Vec::new();
-    for (job, _, number) in right_sheets() {
-        for (sheet_len, expected) in [(sheet_least(&job), number), (0, SHEET_TOO_SHORT)] {
-            let (depth, answer) = depth_of_plan(&job.text(), store_least(&job), sheet_len);
-            assert_eq!(answer, expected);
+    for (job, _, answer) in right_sheets() {
+        for (sheet_len, expected) in [(sheet_least(&job), answer), (0, SHEET_TOO_SHORT)] {
+            let (depth, found) = depth_of_plan(&job.text(), store_least(&job), sheet_len);
+            assert_eq!(found, expected);
             depths.push(depth);
         }
     }

@@ -14,7 +14,7 @@ use harness::model::limits::{sheet_least, store_least};
 /// What the calls give for a job, stores included: the planner, the check of its sheet, and the check of a damaged one.
 #[derive(PartialEq)]
 struct Given {
-    answers: [u64; 3],
+    packed: [u64; 3],
     stores: [Vec<u8>; 3],
     sheet: Vec<u8>,
 }
@@ -24,12 +24,12 @@ fn given(job: &Job, seed: u64) -> Given {
     let mut rng = Rng::new(seed);
     let (text, store_len) = (job.text(), store_least(job));
     let planned = plan(&text, store_len, sheet_least(job), &mut rng).expect("guards as lent");
-    let sheet = &planned.sheet[..unpack(planned.answer).1];
+    let sheet = &planned.sheet[..unpack(planned.packed).1];
     let right = check(&Library, &text, store_len, sheet, &mut rng).expect("guards as lent");
     let damaged = changed(sheet, &mut rng);
     let wrong = check(&Library, &text, store_len, &damaged, &mut rng).expect("guards as lent");
     Given {
-        answers: [planned.answer, right.answer, wrong.answer],
+        packed: [planned.packed, right.packed, wrong.packed],
         stores: [planned.store, right.store, wrong.store],
         sheet: planned.sheet,
     }

@@ -23,21 +23,22 @@ fn fill(bytes: &mut [u8], with: Option<u8>) {
     }
 }
 
-/// The planner's number and what it writes, the same for every fill.
+/// The planner's answer, packed, and what it writes, the same for every fill.
 fn planned(job: &[u8], store_len: usize, sheet_len: usize) -> (u64, Vec<u8>) {
     let (mut store, mut sheet) = (vec![0; store_len], vec![0; sheet_len]);
     let mut all = FILLS.map(|with| {
         fill(&mut store, with);
         fill(&mut sheet, with);
-        let answer = plan_into(job, &mut store, &mut sheet);
-        let written = if unpack(answer).0 <= CANNOT { unpack(answer).1 } else { 0 };
-        (answer, sheet[..written].to_vec())
+        let packed = plan_into(job, &mut store, &mut sheet);
+        let (answer, value) = unpack(packed);
+        let written = if is_refusal(answer) { 0 } else { value };
+        (packed, sheet[..written].to_vec())
     });
     assert!(all.windows(2).all(|pair| pair[0] == pair[1]), "not the same twice: {}", show(job));
     std::mem::take(&mut all[0])
 }
 
-/// The check's number, the same for every fill.
+/// The check's answer, packed, the same for every fill.
 fn checked(job: &[u8], store_len: usize, sheet: &[u8]) -> u64 {
     let mut store = vec![0; store_len];
     let all = FILLS.map(|with| {
@@ -53,8 +54,8 @@ fn checked(job: &[u8], store_len: usize, sheet: &[u8]) -> u64 {
 /// A job and its sheet, and both damaged.
 fn try_out(job: &Job, rng: &mut Rng) {
     let (text, store_len) = (job.text(), store_least(job));
-    let (answer, sheet) = planned(&text, store_len, sheet_least(job));
-    assert_eq!(checked(&text, store_len, &sheet), unpack(answer).0);
+    let (packed, sheet) = planned(&text, store_len, sheet_least(job));
+    assert_eq!(unpack(checked(&text, store_len, &sheet)), (unpack(packed).0, 0));
     checked(&text, store_len, &changed(&sheet, rng));
     let damaged = changed(&text, rng);
     let (store_len, sheet_len) = reader::read(&damaged).map_or((0, 0), |job| (store_least(&job), sheet_least(&job)));

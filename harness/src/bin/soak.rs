@@ -122,7 +122,7 @@ impl Tried {
         let planned = known.job.text();
         for case in KINDS[kind].1(known, rng) {
             self.kinds[kind] += 1;
-            self.checks.count(compare::check(&Library, &case, rng)?);
+            self.checks.count(compare::check(&Library, &case, rng)?.0);
             if case.job != planned {
                 self.plan_near(&case, rng)?;
             }

@@ -22,9 +22,9 @@ pub fn plan_into(job: &[u8], store: &mut [u8], sheet: &mut [u8]) -> u64 {
     unsafe { cartfloor_plan(job.as_ptr(), job.len(), store, store_len, sheet, sheet_len) }
 }
 
-/// What the planner gave back: its answer, and store and sheet as they were lent and as they are now.
+/// What the planner gave back: its answer, packed, and store and sheet as they were lent and as they are now.
 pub struct Planned {
-    pub answer: u64,
+    pub packed: u64,
     pub store_lent: Vec<u8>,
     pub store: Vec<u8>,
     pub sheet_lent: Vec<u8>,
@@ -39,7 +39,7 @@ pub fn plan(job: &[u8], store_len: usize, sheet_len: usize, rng: &mut Rng) -> Re
     let mut store_buffer = Lent::new(&store_lent, rng);
     let mut sheet_buffer = Lent::new(&sheet_lent, rng);
     // Safety: three buffers of their own, each as long as it says.
-    let answer = unsafe {
+    let packed = unsafe {
         let (job, job_len) = job_buffer.parts();
         let (store, store_len) = store_buffer.parts();
         let (sheet, sheet_len) = sheet_buffer.parts();
@@ -48,5 +48,5 @@ pub fn plan(job: &[u8], store_len: usize, sheet_len: usize, rng: &mut Rng) -> Re
     job_buffer.is_unchanged("job", job)?;
     let store = store_buffer.take("store")?;
     let sheet = sheet_buffer.take("sheet")?;
-    Ok(Planned { answer, store_lent, store, sheet_lent, sheet })
+    Ok(Planned { packed, store_lent, store, sheet_lent, sheet })
 }

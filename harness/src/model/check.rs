@@ -7,15 +7,15 @@ use super::plan::is_plan;
 use super::sheet::{Choke, Sheet};
 use super::{choke, reader, sheet, walks};
 
-/// The number that the check gives back.
-pub fn check(job: &[u8], store_len: usize, sheet: &[u8]) -> u64 {
+/// The answer and the line, 0 with a sheet that passes.
+pub fn check(job: &[u8], store_len: usize, sheet: &[u8]) -> (u8, usize) {
     match verdict(job, store_len, sheet) {
-        Ok(number) => pack(number, 0),
-        Err(refusal) => pack(refusal.number, refusal.line),
+        Ok(answer) => (answer, 0),
+        Err(refusal) => (refusal.number, refusal.line),
     }
 }
 
-fn verdict(job: &[u8], store_len: usize, sheet: &[u8]) -> Result<u64, Refusal> {
+fn verdict(job: &[u8], store_len: usize, sheet: &[u8]) -> Result<u8, Refusal> {
     let job = reader::read(job)?;
     if store_len < limits::store_least(&job) {
         return Err(refusal(STORE_TOO_SHORT));
@@ -41,9 +41,9 @@ fn stops_every_walk(job: &Job, chokes: &[Choke]) -> bool {
 }
 
 /// The store after a call of planner or check: all zero after 0 or 1, as lent after a refusal.
-pub fn store_after(answer: u64, lent: &[u8]) -> Vec<u8> {
-    match unpack(answer).0 {
-        PLAN | CANNOT => vec![0; lent.len()],
-        _ => lent.to_vec(),
+pub fn store_after(answer: u8, lent: &[u8]) -> Vec<u8> {
+    match is_refusal(answer) {
+        true => lent.to_vec(),
+        false => vec![0; lent.len()],
     }
 }

@@ -4,17 +4,17 @@ use super::answer::*;
 use super::limits::{sheet_least, store_least};
 use super::reader;
 
-/// The number that the planner gives back where it plans nothing.
-pub fn refusal_of(job: &[u8], store_len: usize, sheet_len: usize) -> Option<u64> {
+/// The refusal where it plans nothing.
+pub fn refusal_of(job: &[u8], store_len: usize, sheet_len: usize) -> Option<Refusal> {
     let job = match reader::read(job) {
         Ok(job) => job,
-        Err(refusal) => return Some(pack(refusal.number, refusal.line)),
+        Err(refusal) => return Some(refusal),
     };
     if store_len < store_least(&job) {
-        return Some(pack(STORE_TOO_SHORT, 0));
+        return Some(refusal(STORE_TOO_SHORT));
     }
     if sheet_len < sheet_least(&job) {
-        return Some(pack(SHEET_TOO_SHORT, 0));
+        return Some(refusal(SHEET_TOO_SHORT));
     }
     None
 }

@@ -37,7 +37,7 @@ pub fn read(text: &[u8]) -> Result<Job, Refusal> {
 }
 
 /// Takes one line into the job and says its kind, or the number of the refusal.
-fn take(job: &mut Job, before: Option<Kind>, line: &Line) -> Result<Kind, u64> {
+fn take(job: &mut Job, before: Option<Kind>, line: &Line) -> Result<Kind, u8> {
     let kind = kind_in_form(before, line).ok_or(BAD_LINE)?;
     let n = numbers(&line.fields).ok_or(NO_NUMBER)?;
     if !in_range(job, kind, &n) {

@@ -1,6 +1,7 @@
 //! How much the search does: free of noise. The baseline is made to go as the library goes, and counts.
 
 use harness::baseline::{plan_by, Mode};
+use harness::model::answer::unpack;
 
 #[derive(Clone, Copy, Default)]
 pub struct Counts {
@@ -42,8 +43,8 @@ impl Mode for KeepingPlace {
 /// The counts of the library's search, and of one that keeps places. That they are the library's shows in the sheet.
 pub fn counts(text: &[u8], store: &mut [u8], sheet: &mut [u8], library_sheet: &[u8]) -> (Counts, Counts) {
     let (mut library, mut keeping) = (AsLibrary::default(), KeepingPlace::default());
-    let answer = plan_by(&mut library, text, store, sheet);
-    assert_eq!(&sheet[..(answer / 256) as usize], library_sheet, "the library searches in another way");
+    let (_, len) = unpack(plan_by(&mut library, text, store, sheet));
+    assert_eq!(&sheet[..len], library_sheet, "the library searches in another way");
     plan_by(&mut keeping, text, store, sheet);
     (library.0, keeping.0)
 }

@@ -4,7 +4,7 @@ use std::hint::black_box;
 
 use harness::baseline;
 use harness::ffi::{plan_into, Checker, Library};
-use harness::model::answer::{unpack, PLAN};
+use harness::model::answer::{pack, unpack, PLAN};
 use harness::model::job::Job;
 use harness::model::limits::{sheet_least, store_least};
 
@@ -47,8 +47,9 @@ const SHORTEST: f64 = 200.0;
 pub fn measure(job: &Job, peers: &[Peer], before: Option<Before>, effort: Effort) -> Figures {
     let text = job.text();
     let (mut store, mut sheet) = (vec![1u8; store_least(job)], vec![1u8; sheet_least(job)]);
-    let answer = plan_into(&text, &mut store, &mut sheet);
-    let (kind, len) = unpack(answer);
+    let planned = plan_into(&text, &mut store, &mut sheet);
+    let (answer, len) = unpack(planned);
+    let passed = pack(answer, 0);
     let mut written = sheet[..len].to_vec();
     let (library, keeping) = counts(&text, &mut store, &mut sheet, &written);
 
@@ -56,14 +57,14 @@ pub fn measure(job: &Job, peers: &[Peer], before: Option<Before>, effort: Effort
     let mut times = 1;
     for _ in 0..effort.rounds + 1 {
         let round = [
-            timed(times, || assert_eq!(plan_into(&text, &mut store, &mut sheet), answer)),
-            timed(times, || assert_eq!(baseline::plan(&text, &mut store, &mut sheet) % 256, kind)),
+            timed(times, || assert_eq!(plan_into(&text, &mut store, &mut sheet), planned)),
+            timed(times, || assert_eq!(unpack(baseline::plan(&text, &mut store, &mut sheet)).0, answer)),
             timed(times, || black_box(&mut store).fill(0)),
-            timed(times, || assert_eq!(check(&text, &mut store, &written), kind)),
-            before.map_or(f64::NAN, |b| timed(times, || assert_eq!(b.plan(&text, &mut store, &mut sheet) % 256, kind))),
+            timed(times, || assert_eq!(check(&text, &mut store, &written), passed)),
             before.map_or(f64::NAN, |b| {
-                timed(times, || assert_eq!(b.check(&text, &mut store, &mut written) % 256, kind))
+                timed(times, || assert_eq!(unpack(b.plan(&text, &mut store, &mut sheet)).0, answer))
             }),
+            before.map_or(f64::NAN, |b| timed(times, || assert_eq!(b.check(&text, &mut store, &mut written), passed))),
         ];
         for (best, time) in best.iter_mut().zip(round) {
             *best = best.min(time);
@@ -71,11 +72,11 @@ pub fn measure(job: &Job, peers: &[Peer], before: Option<Before>, effort: Effort
         times = (SHORTEST / best[0]).ceil() as usize;
     }
     let [plan, baseline, memset, check, plan_before, check_before] = best;
-    let served = |flow: usize| assert_eq!(flow == job.calls.len(), kind == PLAN, "a peer answers otherwise");
+    let served = |flow: usize| assert_eq!(flow == job.calls.len(), answer == PLAN, "a peer answers otherwise");
     let by_peer = by_peers(&Columns::of(job), peers, effort.peer_rounds, served);
     let plain = peers.iter().zip(&by_peer).filter(|(peer, _)| !peer.is_tuned).map(|(_, &time)| time);
     Figures {
-        is_plan: kind == PLAN,
+        is_plan: answer == PLAN,
         nodes: job.cells * (job.last() + 1),
         plan,
         baseline,
