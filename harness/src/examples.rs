@@ -1,5 +1,7 @@
 //! The examples that document 01 files. Tabs are shown as spaces, as there.
 
+use crate::model::answer::*;
+
 /// A text with its tabs.
 pub fn tabs(text: &str) -> Vec<u8> {
     text.replace(' ', "\t").into_bytes()
@@ -19,20 +21,20 @@ pub const A: Example = Example {
     name: "A",
     job: "FLOOR 3\nTRACK 0 1\nTRACK 1 2\nCART 0\nCART 1\nCALL 2 1\nCALL 1 1\n",
     sheet: "PLAN 2\nPATH 1 0 1 2\nPATH 0 1 0 1\n",
-    answer: 0,
+    answer: PLAN,
 };
 
 pub const B: Example = Example {
     name: "B",
     job: "FLOOR 3\nTRACK 0 1\nTRACK 1 2\nCART 0\nCART 1\nCALL 2 1\nCALL 1 0\n",
     sheet: "CANNOT 1\nCHOKE 1 0\n",
-    answer: 1,
+    answer: CANNOT,
 };
 
-pub const C: Example = Example { name: "C", job: "FLOOR 1\n", sheet: "PLAN 0\n", answer: 0 };
+pub const C: Example = Example { name: "C", job: "FLOOR 1\n", sheet: "PLAN 0\n", answer: PLAN };
 
 pub const D: Example =
-    Example { name: "D", job: "FLOOR 1\nCART 0\nCALL 0 0\n", sheet: "PLAN 1\nPATH 0 0 0\n", answer: 0 };
+    Example { name: "D", job: "FLOOR 1\nCART 0\nCALL 0 0\n", sheet: "PLAN 1\nPATH 0 0 0\n", answer: PLAN };
 
 /// D with deadline 255, which has 256 zeros in its path: job and sheet.
 pub fn e() -> (Vec<u8>, Vec<u8>) {
@@ -44,24 +46,24 @@ pub const F: Example = Example {
     name: "F",
     job: "FLOOR 2\nTRACK 0 1\nCART 0\nCART 1\nCALL 0 1\nCALL 1 1\n",
     sheet: "PLAN 2\nPATH 0 0 0 0\nPATH 1 1 1 1\n",
-    answer: 0,
+    answer: PLAN,
 };
 
 /// F with the carts trading places.
 pub const F_TRADED: &str = "PLAN 2\nPATH 1 0 1 0\nPATH 0 1 0 1\n";
 
-pub const G: Example = Example { name: "G", job: "FLOOR 2\nCART 0\nCALL 1 5\n", sheet: "CANNOT 0\n", answer: 1 };
+pub const G: Example = Example { name: "G", job: "FLOOR 2\nCART 0\nCALL 1 5\n", sheet: "CANNOT 0\n", answer: CANNOT };
 
 /// Jobs that are turned back: text, number, line.
 pub const REFUSED: [(&str, u8, usize); 10] = [
-    ("", 3, 1),
-    ("FLOOR 0\n", 5, 1),
-    ("FLOOR 257\n", 5, 1),
-    ("FLOOR 1\nCART 0\nCALL 0 256\n", 5, 3),
-    ("FLOOR 2\nTRACK 0 0\n", 7, 2),
-    ("FLOOR 1\nTRACK 0 0\n", 7, 2),
-    ("FLOOR 2\nTRACK 0 1\nTRACK 1 0\n", 7, 3),
-    ("FLOOR 1\nCART 0\n", 8, 0),
-    ("FLOOR 1\nCART 00\nCALL 0 0\n", 4, 2),
-    ("FLOOR 1\nCART 1e0\nCALL 0 0\n", 4, 2),
+    ("", BAD_LINE, 1),
+    ("FLOOR 0\n", OUT_OF_RANGE, 1),
+    ("FLOOR 257\n", OUT_OF_RANGE, 1),
+    ("FLOOR 1\nCART 0\nCALL 0 256\n", OUT_OF_RANGE, 3),
+    ("FLOOR 2\nTRACK 0 0\n", DOUBLED, 2),
+    ("FLOOR 1\nTRACK 0 0\n", DOUBLED, 2),
+    ("FLOOR 2\nTRACK 0 1\nTRACK 1 0\n", DOUBLED, 3),
+    ("FLOOR 1\nCART 0\n", UNEVEN, 0),
+    ("FLOOR 1\nCART 00\nCALL 0 0\n", NO_NUMBER, 2),
+    ("FLOOR 1\nCART 1e0\nCALL 0 0\n", NO_NUMBER, 2),
 ];

@@ -2,6 +2,7 @@
 
 use harness::compare::library;
 use harness::examples::{e, tabs, D, EXAMPLES, F, F_TRADED, REFUSED};
+use harness::model::answer::*;
 
 /// The buffers of the program `floorplan`.
 const STORE: usize = 65_536;
@@ -17,21 +18,21 @@ fn the_filed_sheets_pass() {
 #[test]
 fn job_d_needs_a_store_of_4128_bytes() {
     let (job, sheet) = (tabs(D.job), tabs(D.sheet));
-    assert_eq!(library(&job, 4128, &sheet), (0, 0));
-    assert_eq!(library(&job, 4127, &sheet), (9, 0));
+    assert_eq!(library(&job, 4128, &sheet), (PLAN, 0));
+    assert_eq!(library(&job, 4127, &sheet), (STORE_TOO_SHORT, 0));
 }
 
 #[test]
 fn job_e_has_256_zeros() {
     let (job, sheet) = e();
-    assert_eq!(library(&job, STORE, &sheet), (0, 0));
+    assert_eq!(library(&job, STORE, &sheet), (PLAN, 0));
     let short = [&sheet[..sheet.len() - 3], b"\n"].concat();
-    assert_eq!(library(&job, STORE, &short), (11, 2));
+    assert_eq!(library(&job, STORE, &short), (BAD_SHEET, 2));
 }
 
 #[test]
 fn job_f_with_a_trade_is_refused() {
-    assert_eq!(library(&tabs(F.job), STORE, &tabs(F_TRADED)), (12, 0));
+    assert_eq!(library(&tabs(F.job), STORE, &tabs(F_TRADED)), (WRONG_SHEET, 0));
 }
 
 #[test]
@@ -43,5 +44,5 @@ fn refused_jobs() {
 
 #[test]
 fn a_floor_of_256_cells_passes() {
-    assert_eq!(library(&tabs("FLOOR 256\n"), STORE, b"PLAN\t0\n"), (0, 0));
+    assert_eq!(library(&tabs("FLOOR 256\n"), STORE, b"PLAN\t0\n"), (PLAN, 0));
 }

@@ -4,7 +4,7 @@ use harness::compare::plan;
 use harness::examples::{e, tabs, D, EXAMPLES, REFUSED};
 use harness::ffi;
 use harness::gen::Rng;
-use harness::model::answer::unpack;
+use harness::model::answer::{unpack, PLAN, STORE_TOO_SHORT};
 
 /// The buffers of the program `floorplan`.
 const BUFFER: usize = 65_536;
@@ -24,14 +24,14 @@ fn the_filed_sheets_are_written() {
 #[test]
 fn job_d_needs_a_store_of_4128_bytes() {
     let mut rng = Rng::new(2);
-    assert_eq!(plan(&tabs(D.job), 4128, BUFFER, &mut rng), (0, tabs(D.sheet)));
-    assert_eq!(plan(&tabs(D.job), 4127, BUFFER, &mut rng), (9, Vec::new()));
+    assert_eq!(plan(&tabs(D.job), 4128, BUFFER, &mut rng), (PLAN, tabs(D.sheet)));
+    assert_eq!(plan(&tabs(D.job), 4127, BUFFER, &mut rng), (STORE_TOO_SHORT, Vec::new()));
 }
 
 #[test]
 fn job_e_has_256_zeros() {
     let (job, sheet) = e();
-    assert_eq!(planned(&job), (0, sheet));
+    assert_eq!(planned(&job), (PLAN, sheet));
 }
 
 #[test]
@@ -45,5 +45,5 @@ fn refused_jobs() {
 
 #[test]
 fn a_floor_of_256_cells_passes() {
-    assert_eq!(planned(&tabs("FLOOR 256\n")), (0, tabs("PLAN 0\n")));
+    assert_eq!(planned(&tabs("FLOOR 256\n")), (PLAN, tabs("PLAN 0\n")));
 }

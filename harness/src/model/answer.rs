@@ -1,4 +1,7 @@
 //! The answers, and the 64-bit number in which a call gives one back, packed with a length or a line.
+//!
+//! Answers that are told by hand go by these names. The tests of the header and of the program, whose users see the
+//! numbers, have them once more.
 
 pub const PLAN: u8 = 0;
 pub const CANNOT: u8 = 1;
