@@ -7,6 +7,9 @@ pub fn tabs(text: &str) -> Vec<u8> {
     text.replace(' ', "\t").into_bytes()
 }
 
+/// The store and the sheet buffer that the examples are filed with: those of the program `floorplan`.
+pub const BUFFER: usize = 65_536;
+
 /// A job with the only sheet it has, and the answer that goes with it.
 pub struct Example {
     pub name: &'static str,

@@ -1,16 +1,15 @@
 //! The edges of sheets and stores, with the answers told by hand. Tabs are shown as spaces.
 
 use harness::compare::library;
-use harness::examples::{tabs, A};
+use harness::examples::{tabs, A, BUFFER};
 use harness::gen::Rng;
 use harness::model::answer::*;
-
-const STORE: usize = 65_536;
+use harness::model::limits;
 
 /// Checks sheets of one job: text, answer, line.
 fn assert_rows(job: &str, rows: &[(&str, u8, usize)]) {
     for &(sheet, answer, line) in rows {
-        let found = library(&tabs(job), STORE, &tabs(sheet));
+        let found = library(&tabs(job), BUFFER, &tabs(sheet));
         assert_eq!(found, (answer, line), "{sheet:?} for {job:?}");
     }
 }
@@ -244,17 +243,18 @@ fn refusals_of_the_job_come_before_those_of_the_store() {
     assert_eq!(library(&tabs("FLOOR 1\nCART 0\n"), 0, b""), (UNEVEN, 0));
     assert_eq!(library(&tabs("FLOOR 1\nCART 1\n"), 0, b""), (OUT_OF_RANGE, 2));
     assert_eq!(library(b"", 0, b""), (BAD_LINE, 1));
-    assert_eq!(library(&[0; 16_385], 0, b""), (TEXT_TOO_LONG, 0));
+    assert_eq!(library(&[0; limits::TEXT + 1], 0, b""), (TEXT_TOO_LONG, 0));
 }
 
 #[test]
 fn ten_million_bytes_of_noise() {
     let noise = Rng::new(10).noise(10_000_000);
     let (job, plan) = (tabs(A.job), tabs(A.sheet));
-    assert_eq!(library(&job, STORE, &noise), (BAD_SHEET, 1));
-    assert_eq!(library(&job, STORE, &[plan.as_slice(), &noise].concat()), (BAD_SHEET, 4));
-    assert_eq!(library(&job, STORE, &vec![b'0'; 10_000_000]), (BAD_SHEET, 1));
-    assert_eq!(library(&job, STORE, &vec![b'\t'; 10_000_000]), (BAD_SHEET, 1));
-    assert_eq!(library(&job, STORE, &[b"PLAN\t", vec![b'0'; 10_000_000].as_slice()].concat()), (BAD_SHEET, 1));
-    assert_eq!(library(&job, STORE, &[b"PLAN\t2\nPATH", b"\t0".repeat(5_000_000).as_slice()].concat()), (BAD_SHEET, 2));
+    let answer = |sheet: &[u8]| library(&job, BUFFER, sheet);
+    assert_eq!(answer(&noise), (BAD_SHEET, 1));
+    assert_eq!(answer(&[plan.as_slice(), &noise].concat()), (BAD_SHEET, 4));
+    assert_eq!(answer(&vec![b'0'; 10_000_000]), (BAD_SHEET, 1));
+    assert_eq!(answer(&vec![b'\t'; 10_000_000]), (BAD_SHEET, 1));
+    assert_eq!(answer(&[b"PLAN\t", vec![b'0'; 10_000_000].as_slice()].concat()), (BAD_SHEET, 1));
+    assert_eq!(answer(&[b"PLAN\t2\nPATH", b"\t0".repeat(5_000_000).as_slice()].concat()), (BAD_SHEET, 2));
 }

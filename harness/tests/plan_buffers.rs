@@ -8,7 +8,7 @@ use harness::gen::small::small;
 use harness::gen::Rng;
 use harness::model::answer::*;
 use harness::model::job::Job;
-use harness::model::limits::{sheet_least, store_least, CARTS, DEADLINE};
+use harness::model::limits::{sheet_least, store_least, CARTS, DEADLINE, TEXT};
 
 /// Plans with the least buffers, with each one byte short, with both, and with longer ones.
 fn try_out(job: &Job, rng: &mut Rng) {
@@ -51,7 +51,7 @@ fn refusals_of_the_job_come_before_those_of_the_buffers() {
     let mut rng = Rng::new(3);
     assert_eq!(plan(&tabs("FLOOR 1\nCART 0\n"), 0, 0, &mut rng).0, UNEVEN);
     assert_eq!(plan(b"", 0, 0, &mut rng).0, BAD_LINE);
-    assert_eq!(plan(&[0; 16_385], 0, 0, &mut rng).0, TEXT_TOO_LONG);
+    assert_eq!(plan(&[0; TEXT + 1], 0, 0, &mut rng).0, TEXT_TOO_LONG);
     let one_more = [full_text(), tabs("CALL 0 0\n")].concat();
     assert_eq!(plan(&one_more, 0, 0, &mut rng).0, TOO_MANY);
 }

@@ -1,13 +1,10 @@
 //! The filed examples of document 01, as the planner answers them: numbers and bytes.
 
 use harness::compare::plan;
-use harness::examples::{e, tabs, D, EXAMPLES, REFUSED};
+use harness::examples::{e, tabs, BUFFER, D, EXAMPLES, REFUSED};
 use harness::ffi;
 use harness::gen::Rng;
 use harness::model::answer::{unpack, PLAN, STORE_TOO_SHORT};
-
-/// The buffers of the program `floorplan`.
-const BUFFER: usize = 65_536;
 
 fn planned(job: &[u8]) -> (u8, Vec<u8>) {
     plan(job, BUFFER, BUFFER, &mut Rng::new(1))

@@ -1,7 +1,7 @@
 //! The shortcuts that lose a lane: for each a job on which it is wrong, and the planner is right.
 
 use harness::compare::{library, plan};
-use harness::examples::{tabs, A};
+use harness::examples::{tabs, A, BUFFER};
 use harness::gen::plans::has_plan;
 use harness::gen::Rng;
 use harness::model::answer::*;
@@ -9,8 +9,6 @@ use harness::model::job::Job;
 use harness::model::reader;
 use harness::model::sheet::Sheet;
 use harness::shortcuts::*;
-
-const BUFFER: usize = 65_536;
 
 fn job(text: &str) -> Job {
     reader::read(&tabs(text)).expect("a job")

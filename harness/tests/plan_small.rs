@@ -4,6 +4,7 @@
 //! choke list, and against the library's check.
 
 use harness::compare::plan;
+use harness::examples::BUFFER;
 use harness::gen::damage::damaged;
 use harness::gen::plans::has_plan;
 use harness::gen::small::small;
@@ -54,7 +55,7 @@ fn damaged_jobs() {
     let mut tally = Tally::default();
     for _ in 0..10_000 {
         let text = damaged(&small(&mut rng).text(), &mut rng);
-        tally.count(plan(&text, 65_536, 65_536, &mut rng).0);
+        tally.count(plan(&text, BUFFER, BUFFER, &mut rng).0);
     }
     tally.assert_each(&[PLAN, CANNOT, BAD_LINE, NO_NUMBER, OUT_OF_RANGE, DOUBLED, UNEVEN], 200);
 }

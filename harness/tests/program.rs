@@ -6,15 +6,12 @@ use std::path::PathBuf;
 use std::process::Command;
 
 use harness::child::{finish, piped, Ended};
-use harness::examples::{e, tabs, D, EXAMPLES, REFUSED};
+use harness::examples::{e, tabs, BUFFER, D, EXAMPLES, REFUSED};
 use harness::model::limits::{sheet_least, store_least, TEXT};
 use harness::model::reader;
 use harness::program::floorplan;
 
 const EXAMPLE_FILES: &str = concat!(env!("CARGO_MANIFEST_DIR"), "/../examples");
-
-/// The program's store, and the buffer for its sheet.
-const LENT: usize = 65_536;
 
 /// An input, in the pieces in which it comes, and all that the program is to write.
 struct Row {
@@ -78,7 +75,7 @@ fn the_example_files() {
             return Row { name, pieces: vec![job], expected };
         }
         let least = store_least(&reader::read(&job).expect("a right job"));
-        assert!(least > LENT, "{name} has no sheet and needs a store of {least} bytes");
+        assert!(least > BUFFER, "{name} has no sheet and needs a store of {least} bytes");
         refused(&name, job, 9, 0)
     };
     assert_rows(jobs.into_iter().map(example).collect());
@@ -148,8 +145,8 @@ fn the_longest_store_that_a_job_may_need() {
         ("15 cells, a track, 113 steps", apart(15, 112)),
     ];
     let read = |job: &str| reader::read(&tabs(job)).expect("a right job");
-    assert!(passing.iter().all(|(_, job, _)| store_least(&read(job)) == LENT));
-    assert!(failing.iter().all(|(_, job)| store_least(&read(job)) == LENT + 32));
+    assert!(passing.iter().all(|(_, job, _)| store_least(&read(job)) == BUFFER));
+    assert!(failing.iter().all(|(_, job)| store_least(&read(job)) == BUFFER + 32));
     // No job that passes needs a longer sheet buffer than the last of these.
     assert_eq!(sheet_least(&read(&passing[2].1)), 8768);
     let passing = passing.iter().map(|(name, job, sheet)| row(name, tabs(job), sheet));

@@ -1,7 +1,7 @@
 //! The same call again gives the same number and the same bytes, whatever is in store and sheet buffer.
 
 use harness::compare::{plan, show};
-use harness::examples::{tabs, EXAMPLES};
+use harness::examples::{tabs, BUFFER, EXAMPLES};
 use harness::ffi::{plan_into, Checker, Library};
 use harness::gen::damage::changed;
 use harness::gen::floors::grid;
@@ -87,7 +87,7 @@ fn what_is_lent_does_not_show_in_the_sheet() {
     let mut rng = Rng::new(4);
     for example in &EXAMPLES {
         for _ in 0..100 {
-            let (_, sheet) = plan(&tabs(example.job), 65_536, 65_536, &mut rng);
+            let (_, sheet) = plan(&tabs(example.job), BUFFER, BUFFER, &mut rng);
             assert_eq!(sheet, tabs(example.sheet));
         }
     }
