@@ -19,6 +19,13 @@ extern "C" {
     ) -> u64;
 }
 
+/// The check's call alone, on slices.
+pub fn check_in(job: &[u8], store: &mut [u8], sheet: &[u8]) -> u64 {
+    let (store, store_len) = (store.as_mut_ptr(), store.len());
+    // Safety: slices do not overlap and are as long as they say.
+    unsafe { cartfloor_check(job.as_ptr(), job.len(), store, store_len, sheet.as_ptr(), sheet.len()) }
+}
+
 /// What checks sheets: the library, or a check with a fault in it.
 pub trait Checker {
     /// # Safety

@@ -2,7 +2,7 @@
 
 use std::thread;
 
-use harness::ffi::{check, plan, plan_into, Checker, Library};
+use harness::ffi::{check, check_in, plan, plan_into, Library};
 use harness::gen::floors::*;
 use harness::gen::large::*;
 use harness::gen::Rng;
@@ -79,11 +79,7 @@ fn assert_high_water_mark(name: &str, depths: &[usize]) {
 fn depth_of_check(job: &Job, sheet: &[u8]) -> (usize, u8) {
     let (text, mut store) = (job.text(), vec![1; store_least(job)]);
     let mut packed = 0;
-    let depth = depth_of(|| {
-        let store = (store.as_mut_ptr(), store.len());
-        // Safety: three buffers of their own, each as long as it says.
-        packed = unsafe { Library.check((text.as_ptr(), text.len()), store, (sheet.as_ptr(), sheet.len())) };
-    });
+    let depth = depth_of(|| packed = check_in(&text, &mut store, sheet));
     (depth, unpack(packed).0)
 }
 

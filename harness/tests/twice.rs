@@ -2,7 +2,7 @@
 
 use harness::compare::{plan, show};
 use harness::examples::{tabs, BUFFER, EXAMPLES};
-use harness::ffi::{plan_into, Checker, Library};
+use harness::ffi::{check_in, plan_into};
 use harness::gen::damage::changed;
 use harness::gen::floors::grid;
 use harness::gen::large::scattered;
@@ -43,9 +43,7 @@ fn checked(job: &[u8], store_len: usize, sheet: &[u8]) -> u64 {
     let mut store = vec![0; store_len];
     let all = FILLS.map(|with| {
         fill(&mut store, with);
-        let store = (store.as_mut_ptr(), store.len());
-        // Safety: three buffers of their own, each as long as it says.
-        unsafe { Library.check((job.as_ptr(), job.len()), store, (sheet.as_ptr(), sheet.len())) }
+        check_in(job, &mut store, sheet)
     });
     assert!(all.windows(2).all(|pair| pair[0] == pair[1]), "{all:?}: {}\n{}", show(job), show(sheet));
     all[0]

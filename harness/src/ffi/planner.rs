@@ -14,7 +14,7 @@ extern "C" {
     ) -> u64;
 }
 
-/// The call alone, on slices.
+/// The planner's call alone, on slices.
 pub fn plan_into(job: &[u8], store: &mut [u8], sheet: &mut [u8]) -> u64 {
     let (store, store_len) = (store.as_mut_ptr(), store.len());
     let (sheet, sheet_len) = (sheet.as_mut_ptr(), sheet.len());

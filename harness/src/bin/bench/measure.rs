@@ -3,7 +3,7 @@
 use std::hint::black_box;
 
 use harness::baseline;
-use harness::ffi::{plan_into, Checker, Library};
+use harness::ffi::{check_in, plan_into};
 use harness::model::answer::{pack, unpack, PLAN};
 use harness::model::job::Job;
 use harness::model::limits::{sheet_least, store_least};
@@ -60,7 +60,7 @@ pub fn measure(job: &Job, peers: &[Peer], before: Option<Before>, effort: Effort
             timed(times, || assert_eq!(plan_into(&text, &mut store, &mut sheet), planned)),
             timed(times, || assert_eq!(unpack(baseline::plan(&text, &mut store, &mut sheet)).0, answer)),
             timed(times, || black_box(&mut store).fill(0)),
-            timed(times, || assert_eq!(check(&text, &mut store, &written), passed)),
+            timed(times, || assert_eq!(check_in(&text, &mut store, &written), passed)),
             before.map_or(f64::NAN, |b| {
                 timed(times, || assert_eq!(unpack(b.plan(&text, &mut store, &mut sheet)).0, answer))
             }),
@@ -90,12 +90,6 @@ pub fn measure(job: &Job, peers: &[Peer], before: Option<Before>, effort: Effort
         library,
         keeping,
     }
-}
-
-fn check(text: &[u8], store: &mut [u8], sheet: &[u8]) -> u64 {
-    let store = (store.as_mut_ptr(), store.len());
-    // Safety: three buffers of their own, each as long as it says.
-    unsafe { Library.check((text.as_ptr(), text.len()), store, (sheet.as_ptr(), sheet.len())) }
 }
 
 /// Each peer's best. Both directions are tried once; those that come near the best peer go on in their better one.
