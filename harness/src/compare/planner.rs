@@ -5,6 +5,7 @@ use crate::ffi::{self, Library, Planned};
 use crate::gen::cases::Case;
 use crate::gen::Rng;
 use crate::model::answer::{is_refusal, unpack, Refusal};
+use crate::model::check::store_after;
 use crate::model::planner::refusal_of;
 
 /// The answer and the sheet, empty after a refusal; panics where anything is not as it must be.
@@ -23,20 +24,23 @@ pub fn planned(job: &[u8], store_len: usize, sheet_len: usize, rng: &mut Rng) ->
         Some(refusal) => nothing_written(&planned, refusal).map_err(report)?,
         None => sheet_written(&planned).map_err(report)?,
     };
+    if planned.store != store_after(answer, &planned.store_lent) {
+        return Err(report(format!("store not as it must be after {answer}")));
+    }
     if !is_refusal(answer) {
         passes(job, store_len, answer, sheet, rng)?;
     }
     Ok((answer, sheet.to_vec()))
 }
 
-/// A refusal changes no lent byte.
+/// A refusal comes with no sheet: all of its buffer is as lent.
 fn nothing_written(planned: &Planned, refusal: Refusal) -> Result<(u8, &[u8]), String> {
     let (found, expected) = (unpack(planned.packed), (refusal.number, refusal.line));
     if found != expected {
         return Err(format!("answers {found:?}, not {expected:?}"));
     }
-    if planned.store != planned.store_lent || planned.sheet != planned.sheet_lent {
-        return Err(format!("a refusal, {expected:?}, that changes a lent byte"));
+    if planned.sheet != planned.sheet_lent {
+        return Err(format!("a refusal, {expected:?}, that changes the sheet buffer"));
     }
     Ok((refusal.number, &[]))
 }
@@ -49,9 +53,6 @@ fn sheet_written(planned: &Planned) -> Result<(u8, &[u8]), String> {
     let (sheet, behind) = planned.sheet.split_at(written);
     if behind != &planned.sheet_lent[written..] {
         return Err("a byte behind the sheet's text was changed".into());
-    }
-    if planned.store.iter().any(|&b| b != 0) {
-        return Err("the store is not wiped".into());
     }
     Ok((answer, sheet))
 }

@@ -1,4 +1,4 @@
-//! What the check must answer, and what it must leave in the store.
+//! What the check must answer, and what either call must leave in the store.
 
 use super::answer::*;
 use super::job::Job;
@@ -16,15 +16,21 @@ pub fn check(job: &[u8], store_len: usize, sheet: &[u8]) -> (u8, usize) {
 }
 
 fn verdict(job: &[u8], store_len: usize, sheet: &[u8]) -> Result<u8, Refusal> {
-    let job = reader::read(job)?;
-    if store_len < limits::store_least(&job) {
-        return Err(refusal(STORE_TOO_SHORT));
-    }
+    let job = accepted(job, store_len)?;
     match sheet::read(sheet, &job)? {
         Sheet::Plan(paths) if is_plan(&job, &paths) => Ok(PLAN),
         Sheet::Cannot(chokes) if is_true_list(&job, &chokes) => Ok(CANNOT),
         _ => Err(refusal(WRONG_SHEET)),
     }
+}
+
+/// The job, where none of 2 to 9 turns it back, which planner and check have in common.
+pub fn accepted(job: &[u8], store_len: usize) -> Result<Job, Refusal> {
+    let job = reader::read(job)?;
+    if store_len < limits::store_least(&job) {
+        return Err(refusal(STORE_TOO_SHORT));
+    }
+    Ok(job)
 }
 
 /// A true choke list in the written order. That it has fewer points than the job has calls is a matter of form.
