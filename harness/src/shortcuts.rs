@@ -7,7 +7,7 @@ use std::slice::from_ref;
 use crate::gen::lists::lists;
 use crate::gen::plans::{plans, plans_by};
 use crate::model::job::Job;
-use crate::model::plan::{are_apart, share, trade};
+use crate::model::plan::{are_apart, keep_apart, share, trade};
 use crate::model::sheet::{Choke, Path};
 use crate::model::walks::{all_walks, is_stopped, Walk};
 
@@ -81,7 +81,7 @@ pub fn lifting_crossing_carts(job: &Job) -> bool {
     for walks in walks.iter_mut().flatten() {
         walks.retain(|walk| !crosses(walk));
     }
-    !plans_by(job, &walks, |one, other| !share(one, other) && !trade(one, other), 1).is_empty()
+    !plans_by(job, &walks, keep_apart, 1).is_empty()
 }
 
 /// Chokes that stop only the walks the search happened to see: here for each cart and call the walk that is on the

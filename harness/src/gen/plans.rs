@@ -1,7 +1,7 @@
 //! The plans of a small job, by trying every sharing out and every walk.
 
 use crate::model::job::Job;
-use crate::model::plan::{share, trade};
+use crate::model::plan::keep_apart;
 use crate::model::sheet::Path;
 use crate::model::walks::{all_walks, Walk};
 
@@ -12,11 +12,7 @@ pub fn has_plan(job: &Job) -> bool {
 
 /// Every plan of the job in the written order; the first so many, where there are more.
 pub fn plans(job: &Job, most: usize) -> Vec<Vec<Path>> {
-    plans_by(job, &all_walks(job), are_apart, most)
-}
-
-fn are_apart(one: &[usize], other: &[usize]) -> bool {
-    !share(one, other) && !trade(one, other)
+    plans_by(job, &all_walks(job), keep_apart, most)
 }
 
 /// The same for some of the walks, and for another way of telling whether two of them are apart.

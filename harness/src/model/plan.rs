@@ -9,19 +9,19 @@ pub fn is_plan(job: &Job, paths: &[Path]) -> bool {
 }
 
 /// One path for each call, and the paths as their lines go.
-pub fn is_in_order(job: &Job, paths: &[Path]) -> bool {
+fn is_in_order(job: &Job, paths: &[Path]) -> bool {
     paths.iter().map(|p| p.call).eq(job.written_order())
 }
 
 /// No cart has two paths.
-pub fn carts_differ(paths: &[Path]) -> bool {
+fn carts_differ(paths: &[Path]) -> bool {
     let mut carts: Vec<usize> = paths.iter().map(|p| p.cart).collect();
     carts.sort();
     carts.windows(2).all(|pair| pair[0] != pair[1])
 }
 
 /// Each path starts on its cart's cell, ends on its call's cell, and at each step stands or goes along one track.
-pub fn are_walks(job: &Job, paths: &[Path]) -> bool {
+fn are_walks(job: &Job, paths: &[Path]) -> bool {
     let near = job.within_a_step();
     let is_walk = |p: &Path| {
         p.cells.first() == Some(&job.carts[p.cart])
@@ -31,12 +31,14 @@ pub fn are_walks(job: &Job, paths: &[Path]) -> bool {
     paths.iter().all(is_walk)
 }
 
-/// No two carts share a cell or trade the ends of a track.
+/// No two carts are in a conflict.
 pub fn are_apart(paths: &[Path]) -> bool {
-    paths.iter().enumerate().all(|(i, p)| {
-        let earlier = &paths[..i];
-        earlier.iter().all(|q| !share(&p.cells, &q.cells) && !trade(&p.cells, &q.cells))
-    })
+    paths.iter().enumerate().all(|(i, p)| paths[..i].iter().all(|q| keep_apart(&p.cells, &q.cells)))
+}
+
+/// The carts of these two walks never share a cell and never trade the ends of a track.
+pub fn keep_apart(one: &[usize], other: &[usize]) -> bool {
+    !share(one, other) && !trade(one, other)
 }
 
 /// Both on one cell at one step. A walk has the steps up to its deadline, that one included; `zip` ends with the
