@@ -18,7 +18,7 @@ pub struct Example {
     pub answer: u8,
 }
 
-pub const EXAMPLES: [Example; 6] = [A, B, C, D, F, G];
+pub const EXAMPLES: &[Example] = &[A, B, C, D, F, G];
 
 pub const A: Example = Example {
     name: "A",
@@ -58,7 +58,7 @@ pub const F_TRADED: &str = "PLAN 2\nPATH 1 0 1 0\nPATH 0 1 0 1\n";
 pub const G: Example = Example { name: "G", job: "FLOOR 2\nCART 0\nCALL 1 5\n", sheet: "CANNOT 0\n", answer: CANNOT };
 
 /// Jobs that are turned back: text, number, line.
-pub const REFUSED: [(&str, u8, usize); 10] = [
+pub const REFUSED: &[(&str, u8, usize)] = &[
     ("", BAD_LINE, 1),
     ("FLOOR 0\n", OUT_OF_RANGE, 1),
     ("FLOOR 257\n", OUT_OF_RANGE, 1),

@@ -33,7 +33,7 @@ pub enum Fault {
 }
 
 /// The faults, without `None`.
-pub const FAULTS: [Fault; 13] = [
+pub const FAULTS: &[Fault] = &[
     Fault::IgnoresTrades,
     Fault::PassesAsManyPointsAsCalls,
     Fault::PassesDoubledPoint,

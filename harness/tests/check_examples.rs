@@ -6,7 +6,7 @@ use harness::model::answer::*;
 
 #[test]
 fn the_filed_sheets_pass() {
-    for example in &EXAMPLES {
+    for example in EXAMPLES {
         let found = library(&tabs(example.job), BUFFER, &tabs(example.sheet));
         assert_eq!(found, (example.answer, 0), "job {}", example.name);
     }
@@ -34,7 +34,7 @@ fn job_f_with_a_trade_is_refused() {
 
 #[test]
 fn refused_jobs() {
-    for (job, number, line) in REFUSED {
+    for &(job, number, line) in REFUSED {
         assert_eq!(library(&tabs(job), BUFFER, b"PLAN\t0\n"), (number, line), "{job:?}");
     }
 }

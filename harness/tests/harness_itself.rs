@@ -35,7 +35,7 @@ fn no_fault_is_found_where_there_is_none() {
 /// More than once each, so that it is not left to luck; and on fewer jobs than `check_small` tries.
 #[test]
 fn each_fault_is_found() {
-    for fault in FAULTS {
+    for &fault in FAULTS {
         let found = differences(fault, 1000, 5).len();
         assert!(found >= 5, "{fault:?} was found {found} times");
     }

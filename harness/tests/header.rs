@@ -3,12 +3,12 @@
 use std::collections::BTreeSet;
 use std::fs;
 
-use harness::header::{assert_rows, is_ours, names, row, words};
+use harness::header::{assert_rows, is_ours, names, row, words, Row};
 
 const SPECS: &str = concat!(env!("CARGO_MANIFEST_DIR"), "/../crates/model/specs");
 
 /// What the header has for a C program to write down, and its number.
-const NUMBERS: [(&str, u64); 49] = [
+const NUMBERS: &[(&str, u64)] = &[
     ("CARTFLOOR_PLAN", 0),
     ("CARTFLOOR_CANNOT", 1),
     ("CARTFLOOR_TEXT_TOO_LONG", 2),
@@ -64,12 +64,12 @@ const NUMBERS: [(&str, u64); 49] = [
 ];
 
 /// The guard of the header, and the calls, which `header_calls.rs` holds.
-const NO_NUMBERS: [&str; 3] = ["CARTFLOOR_H", "cartfloor_plan", "cartfloor_check"];
+const NO_NUMBERS: &[&str] = &["CARTFLOOR_H", "cartfloor_plan", "cartfloor_check"];
 
 #[test]
 fn every_name_of_the_header_has_a_row() {
     let in_rows = NUMBERS.iter().flat_map(|(expression, _)| words(expression)).filter(|word| is_ours(word));
-    let held: BTreeSet<String> = in_rows.chain(NO_NUMBERS).map(str::to_string).collect();
+    let held: BTreeSet<String> = in_rows.chain(NO_NUMBERS.iter().copied()).map(str::to_string).collect();
     let found = names();
     let unheld: Vec<_> = found.difference(&held).collect();
     let missing: Vec<_> = held.difference(&found).collect();
@@ -78,13 +78,13 @@ fn every_name_of_the_header_has_a_row() {
 
 #[test]
 fn every_number_as_a_compiler_sees_it() {
-    let rows = NUMBERS.map(|(expression, number)| row(format!("number({expression})"), number));
-    assert_rows(env!("CARGO_TARGET_TMPDIR"), "numbers", &rows);
+    let rows = NUMBERS.iter().map(|(expression, number)| row(format!("number({expression})"), number));
+    assert_rows(env!("CARGO_TARGET_TMPDIR"), "numbers", &rows.collect::<Vec<Row>>());
 }
 
 /// The lines of the definitions that give these numbers. Here they stand once more as they are there, so that a changed
 /// one is looked at together with the header.
-const LINES: [(&str, &str); 24] = [
+const LINES: &[(&str, &str)] = &[
     ("Limits", "maxCells = 256"),
     ("Limits", "maxTracks = 512"),
     ("Limits", "maxCarts = 64"),
@@ -123,7 +123,7 @@ const WRITTEN_CANNOT: &str = "⊎ ((xs : List Point) × RightChokes j xs × (b �
 
 #[test]
 fn the_definitions_have_these_numbers() {
-    for (name, line) in LINES {
+    for &(name, line) in LINES {
         let file = format!("{SPECS}/{name}.antt");
         let text = fs::read_to_string(&file).expect("a file of definitions");
         assert!(text.lines().any(|found| found.trim() == line), "no line {line:?} in {file}");

@@ -81,7 +81,7 @@ fn the_order_of_the_parameters() {
     assert_rows(FOLDER, "order", &rows);
 }
 
-/// Each of the 13, from each call that gives it.
+/// Each answer, from each call that gives it.
 #[test]
 fn every_answer_by_its_name() {
     let most = "CARTFLOOR_STORE_MOST";
@@ -106,7 +106,7 @@ fn every_answer_by_its_name() {
         checked(F.job, most, F_TRADED, "WRONG_SHEET 0"),
     ];
     let long = "x".repeat(16_385);
-    let refused: [(&str, &str); 8] = [
+    let refused: &[(&str, &str)] = &[
         (&long, "TEXT_TOO_LONG 0"),
         ("", "BAD_LINE 1"),
         ("FLOOR 1\nCART 0\nCALL 0 0", "BAD_LINE 3"),
@@ -116,7 +116,7 @@ fn every_answer_by_its_name() {
         ("FLOOR 1\nCART 0\n", "UNEVEN 0"),
         ("FLOOR 1\nCALL 0 0\n", "UNEVEN 0"),
     ];
-    rows.extend(refused.into_iter().flat_map(|(job, name)| turned_back(job, name)));
+    rows.extend(refused.iter().flat_map(|(job, name)| turned_back(job, name)));
     let carts: String = (0..65).map(|cell| format!("CART {cell}\n")).collect();
     rows.extend(turned_back(&format!("FLOOR 256\n{carts}"), "TOO_MANY 66"));
     assert_rows(FOLDER, "answers", &rows);

@@ -53,7 +53,7 @@ fn a_job_has_either_a_plan_or_a_true_choke_list() {
 
 #[test]
 fn the_filed_sheets_are_the_only_ones() {
-    for example in &EXAMPLES {
+    for example in EXAMPLES {
         let job = reader::read(&tabs(example.job)).expect("a filed job");
         let plans = plans(&job, usize::MAX).into_iter().map(Sheet::Plan);
         let lists = true_lists(&job).into_iter().map(Sheet::Cannot);

@@ -12,7 +12,7 @@ fn planned(job: &[u8]) -> (u8, Vec<u8>) {
 
 #[test]
 fn the_filed_sheets_are_written() {
-    for example in &EXAMPLES {
+    for example in EXAMPLES {
         let expected = (example.answer, tabs(example.sheet));
         assert_eq!(planned(&tabs(example.job)), expected, "job {}", example.name);
     }
@@ -33,7 +33,7 @@ fn job_e_has_256_zeros() {
 
 #[test]
 fn refused_jobs() {
-    for (job, number, line) in REFUSED {
+    for &(job, number, line) in REFUSED {
         let found = ffi::plan(&tabs(job), BUFFER, BUFFER, &mut Rng::new(3)).expect("no byte changed");
         assert_eq!(unpack(found.packed), (number, line), "{job:?}");
         assert_eq!(planned(&tabs(job)), (number, Vec::new()), "{job:?}");

@@ -57,7 +57,7 @@ fn start_of(bytes: &[u8]) -> String {
 fn the_filed_examples() {
     let mut rows: Vec<Row> = EXAMPLES.iter().map(|x| row(x.name, tabs(x.job), x.sheet)).collect();
     rows.push(row("256 cells", tabs("FLOOR 256\n"), "PLAN 0\n"));
-    rows.extend(REFUSED.map(|(job, number, line)| refused(&format!("{job:?}"), tabs(job), number, line)));
+    rows.extend(REFUSED.iter().map(|&(job, number, line)| refused(&format!("{job:?}"), tabs(job), number, line)));
     let (job, sheet) = e();
     rows.push(Row { name: "E".to_string(), pieces: vec![job], expected: sheet });
     assert_rows(rows);

@@ -83,7 +83,7 @@ fn jobs_at_the_limits_twice() {
 #[test]
 fn what_is_lent_does_not_show_in_the_sheet() {
     let mut rng = Rng::new(4);
-    for example in &EXAMPLES {
+    for example in EXAMPLES {
         for _ in 0..100 {
             let (_, sheet) = plan(&tabs(example.job), BUFFER, BUFFER, &mut rng);
             assert_eq!(sheet, tabs(example.sheet));

@@ -58,8 +58,8 @@ impl Known {
 /// A kind of cases: some of them for a job.
 pub type Kind = fn(&Known, &mut Rng) -> Vec<Case>;
 
-pub const KINDS: [Kind; 7] =
-    [right_sheets, wrong_plans, choke_lists, doubled_points, damaged_sheets, damaged_jobs, stores];
+pub const KINDS: &[Kind] =
+    &[right_sheets, wrong_plans, choke_lists, doubled_points, damaged_sheets, damaged_jobs, stores];
 
 pub fn right_sheets(known: &Known, rng: &mut Rng) -> Vec<Case> {
     (0..8).map(|_| known.case(known.right_sheet(rng).text(), rng)).collect()
