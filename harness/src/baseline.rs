@@ -2,6 +2,7 @@
 //!
 //! The same algorithm and the same lent buffers, the store wiped at the end. From each call in the written order it
 //! searches back to a free cart, along a guess first. It trusts the job: no line is refused.
+
 mod aim;
 mod job;
 mod planes;
@@ -15,10 +16,7 @@ use search::search;
 use sheet::{write_cannot, write_plan, Writer};
 
 use crate::model::answer::{pack, CANNOT, PLAN};
-
-const CELLS: usize = 256;
-const TRACKS: usize = 512;
-const CALLS: usize = 64;
+use crate::model::limits::CELLS;
 
 /// How the search goes, and who counts.
 pub trait Mode {

@@ -2,7 +2,8 @@
 
 use super::job::Job;
 use super::planes::Planes;
-use super::{Mode, CELLS};
+use super::Mode;
+use crate::model::limits::CELLS;
 
 /// Along a shortest way over the floor from the call's cell back to a free cart: hint[c] is the place in from(c)
 /// of the cell to come from. Only a guess: nothing rests on it but speed; the guards stand in for proofs.

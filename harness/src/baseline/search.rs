@@ -2,7 +2,8 @@
 
 use super::job::Job;
 use super::planes::Planes;
-use super::{Mode, CELLS};
+use super::Mode;
+use crate::model::limits::CELLS;
 
 const EXTEND: u8 = 0;
 const TAKE_OVER: u8 = 1;

@@ -2,7 +2,7 @@
 
 use super::job::Job;
 use super::planes::Planes;
-use super::CALLS;
+use crate::model::limits::{CALLS, DEADLINE};
 
 pub struct Writer<'a> {
     pub sheet: &'a mut [u8],
@@ -46,7 +46,7 @@ pub fn write_plan(j: &Job, p: &Planes, w: &mut Writer) {
     w.word(b"PLAN");
     w.number(j.calls);
     w.byte(b'\n');
-    let mut path = [0u8; 256];
+    let mut path = [0u8; DEADLINE + 1];
     for &q in &j.order[..j.calls] {
         let (c, d) = j.call[q as usize];
         path[d as usize] = c;
