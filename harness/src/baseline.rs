@@ -31,7 +31,7 @@ pub trait Mode {
 }
 
 /// What is timed.
-pub struct Quick;
+struct Quick;
 
 impl Mode for Quick {}
 

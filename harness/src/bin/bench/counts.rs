@@ -11,27 +11,14 @@ pub struct Counts {
     pub looks: usize,
 }
 
-/// As the library: standing first, and every scan from the first neighbour.
+/// Standing first, as the library goes. It begins every scan with the first neighbour; the same positions come in the
+/// same order where each one's place in the neighbour list is kept.
 #[derive(Default)]
-struct AsLibrary(Counts);
+struct Counting<const KEEP_PLACE: bool>(Counts);
 
-impl Mode for AsLibrary {
+impl<const KEEP_PLACE: bool> Mode for Counting<KEEP_PLACE> {
     const STAND_FIRST: bool = true;
-    const KEEP_PLACE: bool = false;
-    fn visit(&mut self) {
-        self.0.visits += 1;
-    }
-    fn look(&mut self) {
-        self.0.looks += 1;
-    }
-}
-
-/// The same positions in the same order, with each one's place in the neighbour list kept.
-#[derive(Default)]
-struct KeepingPlace(Counts);
-
-impl Mode for KeepingPlace {
-    const STAND_FIRST: bool = true;
+    const KEEP_PLACE: bool = KEEP_PLACE;
     fn visit(&mut self) {
         self.0.visits += 1;
     }
@@ -42,7 +29,7 @@ impl Mode for KeepingPlace {
 
 /// The counts of the library's search, and of one that keeps places. That they are the library's shows in the sheet.
 pub fn counts(text: &[u8], store: &mut [u8], sheet: &mut [u8], library_sheet: &[u8]) -> (Counts, Counts) {
-    let (mut library, mut keeping) = (AsLibrary::default(), KeepingPlace::default());
+    let (mut library, mut keeping) = (Counting::<false>::default(), Counting::<true>::default());
     let (_, len) = unpack(plan_by(&mut library, text, store, sheet));
     assert_eq!(&sheet[..len], library_sheet, "the library searches in another way");
     plan_by(&mut keeping, text, store, sheet);

@@ -4,6 +4,7 @@ use harness::gen::floors::{grid, line, star};
 use harness::gen::large::{moving, scattered};
 use harness::gen::Rng;
 use harness::model::job::{Call, Job};
+use harness::model::limits::{CARTS, DEADLINE};
 
 use crate::floors::{aisles, clique, comb, rooms, sparse, two_hubs};
 use crate::tight::{bottleneck, crossing, tight};
@@ -16,7 +17,7 @@ pub struct Size {
     pub last: usize,
 }
 
-pub const LIMITS: Size = Size { side: 16, carts: 64, last: 255 };
+pub const LIMITS: Size = Size { side: 16, carts: CARTS, last: DEADLINE };
 const BELOW: Size = Size { side: 12, carts: 36, last: 120 };
 
 /// Makes the i-th job of a family.

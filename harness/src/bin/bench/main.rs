@@ -22,7 +22,7 @@ use harness::gen::Rng;
 use harness::model::job::Job;
 use measure::{measure, Effort};
 use peers::Peer;
-use report::Family;
+use report::Measured;
 
 const FULL: Effort = Effort { rounds: 40, peer_rounds: 4 };
 const QUICK: Effort = Effort { rounds: 3, peer_rounds: 0 };
@@ -48,7 +48,7 @@ fn main() {
     let effort = if is_quick { QUICK } else { FULL };
     let peers = peers::load(after("--peers").map_or("target/peers", |folder| folder));
     let before = after("--before").map(|file| Before::load(file).expect("a shared object with the two calls"));
-    let measured = |name: &str, jobs: &[Job], peers: &[Peer]| Family {
+    let measured = |name: &str, jobs: &[Job], peers: &[Peer]| Measured {
         name: name.into(),
         jobs: jobs.iter().map(|job| measure(job, peers, before, effort)).collect(),
     };
@@ -63,7 +63,7 @@ fn main() {
     }
     let at_limits: Vec<Job> = (0..6).map(|i| OPEN_GRID.job(LIMITS, i)).collect();
     let open_grid = measured("open grid at the limits", &at_limits, &[]);
-    let sizes: Vec<(Size, Family)> = SIDES.into_iter().map(of_side).collect();
+    let sizes: Vec<(Size, Measured)> = SIDES.into_iter().map(of_side).collect();
 
     report::ratios(&families, &open_grid);
     let names: Vec<&str> = peers.iter().map(|p| p.name).collect();
@@ -79,11 +79,11 @@ fn main() {
 }
 
 /// An open grid with a cart for each four cells, and as many steps as cells.
-fn of_side(side: usize) -> (Size, Family) {
+fn of_side(side: usize) -> (Size, Measured) {
     let size = Size { side, carts: side * side / 4, last: side * side - 1 };
     let jobs: Vec<Job> = (0..20).map(|i| OPEN_GRID.job(size, i)).collect();
     let jobs = jobs.iter().map(|job| measure(job, &[], None, QUICK)).collect();
-    (size, Family { name: String::new(), jobs })
+    (size, Measured { name: String::new(), jobs })
 }
 
 fn listed(names: &[&str]) -> String {

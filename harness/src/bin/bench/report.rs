@@ -4,13 +4,13 @@ use crate::families::Size;
 use crate::measure::Figures;
 use crate::table::{geometric_mean, least, median, most, Table};
 
-/// The jobs of a family as they are made, or renumbered.
-pub struct Family {
+/// The figures of a family, its jobs as they are made or renumbered.
+pub struct Measured {
     pub name: String,
     pub jobs: Vec<Figures>,
 }
 
-impl Family {
+impl Measured {
     fn median(&self, of: impl Fn(&Figures) -> f64) -> f64 {
         median(self.jobs.iter().map(of))
     }
@@ -52,7 +52,7 @@ fn visits(f: &Figures) -> f64 {
 }
 
 /// Each ratio beside what is asked of it. `open_grid` has the jobs at the limits.
-pub fn ratios(families: &[Family], open_grid: &Family) {
+pub fn ratios(families: &[Measured], open_grid: &Measured) {
     let all = || families.iter().flat_map(|family| &family.jobs);
     let medians = |of: fn(&Figures) -> f64| families.iter().map(move |family| family.median(of));
     let mut table = Table::new(&["ratio", "asked", "measured"]);
@@ -73,7 +73,7 @@ pub fn ratios(families: &[Family], open_grid: &Family) {
 }
 
 /// Ratios a family: the median, then the worst job.
-pub fn family_ratios(families: &[Family]) {
+pub fn family_ratios(families: &[Measured]) {
     let head = [
         "family",
         "plans",
@@ -108,7 +108,7 @@ pub fn family_ratios(families: &[Family]) {
 }
 
 /// Microseconds a family: the median, then the longest.
-pub fn family_times(families: &[Family], peers: &[&str]) {
+pub fn family_times(families: &[Measured], peers: &[&str]) {
     let head: Vec<&str> = ["family", "plan", "baseline", "memset", "check"].iter().chain(peers).copied().collect();
     let mut table = Table::new(&head);
     for family in families {
@@ -137,7 +137,7 @@ fn shown(value: f64, digits: usize) -> String {
 }
 
 /// Visits on open grids of several sizes.
-pub fn growth(sizes: &[(Size, Family)]) {
+pub fn growth(sizes: &[(Size, Measured)]) {
     let mut table = Table::new(&["open grid", "carts", "last step", "nodes", "visits / node, mean", "most"]);
     for (size, family) in sizes {
         table.row([
