@@ -6,7 +6,9 @@ use std::time::{Duration, Instant, SystemTime};
 
 use harness::compare;
 use harness::ffi::Library;
-use harness::gen::cases::*;
+use harness::gen::cases::{
+    changed_jobs, changed_sheets, choke_lists, doubled_points, right_sheets, stores, wrong_plans, Case, Kind, Known,
+};
 use harness::gen::sizes::{at_the_limits, medium};
 use harness::gen::small::small;
 use harness::gen::Rng;
@@ -34,7 +36,13 @@ const KINDS: [(&str, Kind); 7] = [
     ("stores of any length", stores),
 ];
 
-const SIZES: [&str; 3] = ["small", "medium", "at the limits"];
+/// Makes a job.
+type Make = fn(&mut Rng) -> Job;
+
+const SIZES: [(&str, Make); 3] = [("small", small), ("medium", medium), ("at the limits", at_the_limits)];
+const SMALL: usize = 0;
+const MEDIUM: usize = 1;
+const AT_THE_LIMITS: usize = 2;
 
 /// What was tried, and what was answered.
 #[derive(Default)]
@@ -104,16 +112,20 @@ impl Tried {
     fn turn(&mut self, seed: u64, turn: u64) -> Result<(), String> {
         let mut rng = Rng::new(seed.wrapping_add(turn << 32));
         // A call at the limits takes a thousand times as long as a small one.
-        let size = if turn % 100 == 9 { 2 } else { usize::from(turn % 10 == 4) };
+        let size = match (turn % 100, turn % 10) {
+            (9, _) => AT_THE_LIMITS,
+            (_, 4) => MEDIUM,
+            _ => SMALL,
+        };
         self.sizes[size] += 1;
-        let job = [small, medium, at_the_limits][size](&mut rng);
+        let job = SIZES[size].1(&mut rng);
         let right = self.plan(&job.text(), store_least(&job), sheet_least(&job), &mut rng)?;
         let known = match size {
-            0 => Known::of(job),
+            SMALL => Known::of(job),
             _ => known_by(job, &right),
         };
         match size {
-            2 => self.try_kind(rng.below(KINDS.len()), &known, &mut rng),
+            AT_THE_LIMITS => self.try_kind(rng.below(KINDS.len()), &known, &mut rng),
             _ => (0..KINDS.len()).try_for_each(|kind| self.try_kind(kind, &known, &mut rng)),
         }
     }
@@ -154,7 +166,7 @@ impl Tried {
             let each: Vec<String> = names.iter().zip(counts).map(|(name, count)| format!("{count} {name}")).collect();
             each.join(", ")
         };
-        println!("turns: {}", counted(&SIZES, &self.sizes));
+        println!("turns: {}", counted(&SIZES.map(|size| size.0), &self.sizes));
         println!("cases: {}", counted(&KINDS.map(|kind| kind.0), &self.kinds));
         println!("answers of the planner: {}", self.plans);
         println!("answers of the check: {}", self.checks);
