@@ -49,8 +49,8 @@ pub fn parameters(call: &str) -> Vec<String> {
 
 /// A statement for `harness/header/rows.c`, and the line that it is to print.
 pub struct Row {
-    pub statement: String,
-    pub expected: String,
+    statement: String,
+    expected: String,
 }
 
 pub fn row(statement: impl Into<String>, expected: impl ToString) -> Row {

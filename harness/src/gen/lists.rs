@@ -6,7 +6,7 @@ use crate::model::job::Job;
 use crate::model::sheet::Choke;
 
 /// Every cell at every step, in the order of the sheet.
-pub fn points(job: &Job) -> Vec<Choke> {
+fn points(job: &Job) -> Vec<Choke> {
     let steps = 0..=job.last();
     steps.flat_map(|step| (0..job.cells).map(move |cell| Choke { step, cell })).collect()
 }

@@ -22,7 +22,7 @@ fn line(bytes: &[u8]) -> Line<'_> {
 }
 
 /// A number is 1 to 3 decimal digits without a leading zero; "0" is right.
-pub fn number(field: &[u8]) -> Option<usize> {
+fn number(field: &[u8]) -> Option<usize> {
     let right = match field {
         [only] => only.is_ascii_digit(),
         [first, rest @ ..] => {
