@@ -69,10 +69,10 @@ pub fn right_sheets(known: &Known, rng: &mut Rng) -> Vec<Case> {
 pub fn wrong_plans(known: &Known, rng: &mut Rng) -> Vec<Case> {
     let mut all = Vec::new();
     for _ in 0..8 {
-        let loose = wrong::loose_plan(&known.job, &known.walks, rng);
-        let near = if known.plans.is_empty() { &loose } else { rng.pick(&known.plans) };
+        let by_chance = wrong::plan_by_chance(&known.job, &known.walks, rng);
+        let near = if known.plans.is_empty() { &by_chance } else { rng.pick(&known.plans) };
         all.push(wrong::tampered_plan(&known.job, near, rng));
-        all.push(loose);
+        all.push(by_chance);
     }
     all.into_iter().map(|paths| known.case(Sheet::Plan(paths).text(), rng)).collect()
 }
@@ -144,9 +144,9 @@ pub fn changed_sheets(known: &Known, rng: &mut Rng) -> Vec<Case> {
 fn sheets_after(damage: Damage, known: &Known, rng: &mut Rng) -> Vec<Case> {
     let mut all = Vec::new();
     for _ in 0..8 {
-        let loose = Sheet::Plan(wrong::loose_plan(&known.job, &known.walks, rng));
+        let by_chance = Sheet::Plan(wrong::plan_by_chance(&known.job, &known.walks, rng));
         all.push(damage(&known.right_sheet(rng).text(), rng));
-        all.push(damage(&loose.text(), rng));
+        all.push(damage(&by_chance.text(), rng));
     }
     all.into_iter().map(|sheet| known.case(sheet, rng)).collect()
 }

@@ -7,7 +7,7 @@ use crate::model::walks::Walk;
 
 /// A path for each call, in order, by a sharing out and walks as chance has them. They may conflict.
 /// A cart that cannot come to its call jumps.
-pub fn loose_plan(job: &Job, walks: &[Vec<Vec<Walk>>], rng: &mut Rng) -> Vec<Path> {
+pub fn plan_by_chance(job: &Job, walks: &[Vec<Vec<Walk>>], rng: &mut Rng) -> Vec<Path> {
     let carts = rng.sample(job.carts.len(), job.carts.len());
     let order = job.written_order();
     let path = |(call, cart): (usize, usize)| {
