@@ -1,5 +1,5 @@
 /* A program of the header's tests: each row of a test is a statement, a call of one of the functions below, which prints
- * a line. The test has the line that document 01 asks for. ROWS is the file with the statements.
+ * a line. The test has the line that the README asks for. ROWS is the file with the statements.
  *
  * PLAN_ORDER and CHECK_ORDER are the names of the parameters in the order of the header's two prototypes. So a header with
  * two of them exchanged makes the call with exchanged arguments, as its readers would. Each buffer has room for the

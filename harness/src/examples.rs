@@ -1,4 +1,4 @@
-//! The examples that document 01 files. Tabs are shown as spaces, as there.
+//! The filed examples: jobs with the answers that whoever asked for the planner wrote down. Tabs are shown as spaces.
 
 use crate::model::answer::*;
 

@@ -1,6 +1,6 @@
 //! Tests of the library `cartfloor` from outside, through its C interface.
 //!
-//! `model` says what document 01 asks for, `examples` has what it files; `ffi` calls the library between guard bytes;
+//! `model` says what the README describes, `examples` has the filed examples; `ffi` calls the library between guard bytes;
 //! `gen` makes jobs and sheets; `compare` holds one call against the model, `tally` counts what was answered. `shortcuts`
 //! has planners that are wrong. `faulty` is a second check, into which faults can be put to see that the comparison finds
 //! them; `painted` measures stacks. `child` runs programs: `program` is where floorplan is, `header` has one in C that

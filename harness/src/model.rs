@@ -1,4 +1,4 @@
-//! Document 01 in plain Rust: what a job is, what a sheet is, and what the calls must answer.
+//! The description in the README in plain Rust: what a job is, what a sheet is, and what the calls must answer.
 //!
 //! It shares nothing with the library. Where it can be clear or fast, it is clear.
 

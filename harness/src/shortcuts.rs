@@ -1,4 +1,4 @@
-//! The shortcuts that lose a lane, by document 01: five planners that are wrong, each on some job.
+//! Shortcuts that lose a lane: five planners that are wrong, each on some job.
 //!
 //! They search small jobs exhaustively but for the shortcut, so that nothing else can be the reason.
 

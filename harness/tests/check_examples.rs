@@ -1,4 +1,4 @@
-//! The filed examples of document 01, as far as the check answers them.
+//! The filed examples, as far as the check answers them.
 
 use harness::compare::library;
 use harness::examples::{e, tabs, BUFFER, D, EXAMPLES, F, F_TRADED, REFUSED};

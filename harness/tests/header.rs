@@ -1,4 +1,4 @@
-//! The numbers of the C header as a compiler sees them, and those of the definitions: both have to be document 01's.
+//! The numbers of the C header as a compiler sees them, and those of the definitions: both have to be the README's.
 
 use std::collections::BTreeSet;
 use std::fs;

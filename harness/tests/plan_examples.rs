@@ -1,4 +1,4 @@
-//! The filed examples of document 01, as the planner answers them: numbers and bytes.
+//! The filed examples, as the planner answers them: numbers and bytes.
 
 use harness::compare::plan;
 use harness::examples::{e, tabs, BUFFER, D, EXAMPLES, REFUSED};

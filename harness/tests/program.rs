@@ -1,4 +1,4 @@
-//! The program `floorplan` as it is built and run: every byte that it writes, as document 01 has it. Tabs are shown as
+//! The program `floorplan` as it is built and run: every byte that it writes, as the README has it. Tabs are shown as
 //! spaces.
 
 use std::fs;

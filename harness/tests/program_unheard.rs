@@ -1,6 +1,6 @@
 //! The program `floorplan` where nobody takes what it writes: it ends by itself, and says nothing elsewhere.
 //!
-//! Document 01 says nothing of this. What is held is that the program never hangs and, where the system does not end it,
+//! The README says nothing of this. What is held is that the program never hangs and, where the system does not end it,
 //! is not ended by a fault of its own; which status it ends with is left open.
 
 use std::fs::File;

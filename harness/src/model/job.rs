@@ -18,7 +18,7 @@ pub struct Call {
 }
 
 impl Job {
-    /// The largest deadline, 0 if there are no calls; document 01 calls it H.
+    /// The largest deadline, 0 if there are no calls; the README calls it H.
     pub fn last(&self) -> usize {
         self.calls.iter().map(|c| c.deadline).max().unwrap_or(0)
     }
