@@ -7,7 +7,7 @@ use native.Mathlib.Omega.{arith}
 use native.Mathlib.Nat.{eq-or-lt-of-le}
 use lib.ListN.{length, getD, set, replicate, length-set, length-replicate}
 use Rattle.model.specs.Limits.{maxCalls, maxSteps}
-use Rattle.network.proofs.TableLaws.{Entry, new, old, entry, zeros}
+use Rattle.floor.proofs.TableLaws.{Entry, new, old, entry, zeros}
 use Rattle.chokejudge.specs.Chains.{LastOf, Chains}
 use Rattle.chokejudge.proofs.Numbers.{below-or}
 

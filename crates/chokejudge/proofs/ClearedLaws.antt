@@ -6,7 +6,7 @@ use mathlib.Core.Logic.{⊎-elim, _⊎_, _↔_, inl, inr}
 use native.Mathlib.Omega.{arith}
 use native.Mathlib.Nat.{eq-or-lt-of-le}
 use lib.ListN.{length, getD, set, length-set}
-use Rattle.network.proofs.TableLaws.{Entry, new, old, entry}
+use Rattle.floor.proofs.TableLaws.{Entry, new, old, entry}
 use Rattle.chokejudge.specs.ChokeLayers.{Choked}
 use Rattle.chokejudge.specs.Grown.{Between, Cleared, Climbs, Cursor}
 use Rattle.chokejudge.proofs.Numbers.{below-or}

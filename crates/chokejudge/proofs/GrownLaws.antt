@@ -9,7 +9,7 @@ use lib.ListN.{length, getD, set, length-set}
 use lib.Seq.{getD-set-same, getD-set-other}
 use Rattle.model.specs.Limits.{maxCells}
 use Rattle.job.specs.Held.{Some}
-use Rattle.network.proofs.TableLaws.{Entry, new, old, entry}
+use Rattle.floor.proofs.TableLaws.{Entry, new, old, entry}
 use Rattle.chokejudge.specs.Grown.{Between, Older, Roomy, Grown}
 use Rattle.chokejudge.proofs.Numbers.{zero-or}
 use Rattle.chokejudge.proofs.Ranges.{some-more, between-more}

@@ -1,4 +1,4 @@
--- `meets` goes along the chain of the deadline t. Invariant: h is a call of the chain, and those behind it, which were looked at, are not met. The measure is h. Assumes nothing.
+-- `has_due` goes along the chain of the deadline t. Invariant: h is a call of the chain, and those behind it, which were looked at, are not met. The measure is h. Assumes nothing.
 use native.Mathlib.Omega.{arith}
 use Rattle.model.proofs.Basics.{nope}
 use denote.Ref.{now}
@@ -11,8 +11,8 @@ use mathlib.Core.Path.{_≡_}
 use lib.ListN.{getD, length}
 use Rattle.model.specs.Limits.{maxCalls, maxCells, maxSteps}
 use borrow.Author.Needs.{needs}
-use Rattle.chokejudge.proofs.calls.meets.Statement.{statement}
-use Rattle.chokejudge.proofs.calls.meets.Tie as tie
+use Rattle.chokejudge.proofs.calls.has_due.Statement.{statement}
+use Rattle.chokejudge.proofs.calls.has_due.Tie as tie
 mod Places
 use Places.*
 
@@ -74,8 +74,8 @@ returns-2 c =
     λ deadlines calls r. let q = l .inv .3 deadlines calls r in
     (λ e. nope (cc), λ e p. q .none (p .0) (p .1) (omega arith) (p .2 .0) (p .2 .1))
 
-pub meets-spec : {M : Type 1} → statement M
-meets-spec =
+pub has-due-spec : {M : Type 1} → statement M
+has-due-spec =
     tie.close
     (tie.spec
     Inv-loop μ-loop (λ c. search needs) (λ c κs. search needs) loop-holds (λ c. search needs) (λ c. search needs) (λ c κs. search needs) (λ c. search needs) (λ c. search needs)

@@ -1,4 +1,4 @@
--- The earlier places that the proof of `choke` names: `x→y c` is what is known at y, seen from the place x.
+-- The earlier places that the proof of `close` names: `x→y c` is what is known at y, seen from the place x.
 -- Made of the code by proof-names, which reads the lists below when the code has changed.
 -- All places in the code's order, each behind the one in front of it; where it is behind another, `X<Y` names that:
 -- Start After-shared-slice-known After-shared-slice-known2 After-slice-known At-loop In-loop After-loop<At-loop After-shared-slice-known3<In-loop After-wide Then1 Else1<After-wide
@@ -7,7 +7,7 @@
 -- loop-holds@After-slice-known shared-slice-read-wide@After-shared-slice-known3 wide-requires@After-shared-slice-known3 same-length@Then1 returns@Then1
 -- shared-slice-read-wide-2@After-shared-slice-known4 wide-requires-2@After-shared-slice-known4 mul-since@After-wide2 slice-write-since@After-wide2 add-i@After-wide2
 -- loop-less@After-wide2 loop-again@After-wide2 same-length-2@After-loop returns-2@After-loop
-use Rattle.chokejudge.proofs.layer.choke.Tie as tie
+use Rattle.chokejudge.proofs.layer.close.Tie as tie
 
 module _ {Inv : tie.InvT-loop} {μ : tie.MeasureT-loop} where
   abbrev pub slice-known→start : tie.After-slice-known Inv μ → tie.Start Inv μ

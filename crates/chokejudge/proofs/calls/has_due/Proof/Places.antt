@@ -1,4 +1,4 @@
--- The earlier places that the proof of `meets` names: `x→y c` is what is known at y, seen from the place x.
+-- The earlier places that the proof of `has_due` names: `x→y c` is what is known at y, seen from the place x.
 -- Made of the code by proof-names, which reads the lists below when the code has changed.
 -- All places in the code's order, each behind the one in front of it; where it is behind another, `X<Y` names that:
 -- Start Args<Kinds.Den After-shared-slice-known<Start After-shared-slice-known2 After-shared-slice-known3 After-shared-slice-known4 After-wide At-loop In-loop After-loop<At-loop
@@ -7,7 +7,7 @@
 -- shared-slice-read-wide@After-shared-slice-known4 wide-requires@After-shared-slice-known4 loop-holds@After-wide sub-wide@In-loop element-copy-out-wide@In-loop
 -- wide-requires-2@After-wide-arg mul-if1@After-wide2 shared-slice-read-if1@After-shared-slice-known5 returns@Then1 sub-wide-2@Else1
 -- shared-slice-read-wide-2@After-shared-slice-known6 wide-requires-3@After-shared-slice-known6 loop-less@After-wide3 loop-again@After-wide3 returns-2@After-loop
-use Rattle.chokejudge.proofs.calls.meets.Tie as tie
+use Rattle.chokejudge.proofs.calls.has_due.Tie as tie
 
 module _ {Inv : tie.InvT-loop} {μ : tie.MeasureT-loop} where
   abbrev pub wide→start : tie.After-wide Inv μ → tie.Start Inv μ
