@@ -46,7 +46,8 @@ module _ (s : Job) (w : Whole s) (ready : Ready (jobOf s)) {near begin : List �
     Reached = Layer (Placed (s .starts) (s .carts)) (Side near begin) (Choked cells steps n)
 
     known : (t v : ℕ) → Reached t v → v < s .cells
-    known = layer-known (Placed (s .starts) (s .carts)) (Side near begin) (Choked cells steps n) (s .cells) (λ v p. rw (sym (p .2)) (carts-known (p .0) (p .1))) (λ c h. r .all c c h (inl refl)) (near-even r)
+    known = layer-known (Placed (s .starts) (s .carts)) (Side near begin) (Choked cells steps n) (s .cells) (λ v p. rw (sym (p .2)) (carts-known (p .0) (p .1)))
+        (λ c h. r .all c c h (inl refl)) (near-even r)
 
     free : (t v : ℕ) → Reached t v ↔ Free (jobOf s) (pointsOf cells steps n) t v
     free zero v = (λ p. (in-carts s w v .1 (p .0), λ q. p .1 (choked 0 v .0 q)), λ p. (in-carts s w v .0 (p .0), λ q. p .1 (choked 0 v .1 q)))
@@ -77,7 +78,8 @@ module _ (s : Job) (w : Whole s) (ready : Ready (jobOf s)) {near begin : List �
 
       -- a list that no call refutes is right
       pub chokes-right : (Met (s .lifts) (s .deadlines) (s .calls) Reached → ⊥) → n < s .calls → ChokesInOrder (pointsOf cells steps n) → RightChokes (jobOf s) (pointsOf cells steps n)
-      chokes-right out few order = (record { known = seen; few = omega (arith, few, pairs-count point cells steps n h g, calls-count s w); chokes = chokes (jobOf s) (pointsOf cells steps n) .0 none }, order)
+      chokes-right out few order =
+          (record { known = seen; few = omega (arith, few, pairs-count point cells steps n h g, calls-count s w); chokes = chokes (jobOf s) (pointsOf cells steps n) .0 none }, order)
         where
           none : (q : Call) → In q (jobOf s .calls) → Free (jobOf s) (pointsOf cells steps n) (q .deadline) (q .cell) → ⊥
           none q p f =

@@ -34,6 +34,10 @@ module _ (near begin starts : List ℕ) (carts : ℕ) (cells steps : List ℕ) (
     pub from : Cursor steps n t opens
     pub to : Cursor steps n (t + 1) end
 
+-- No call with a deadline before t is in its layer.
+abbrev pub Unmet : (ℕ → ℕ → Type 0) → List ℕ → List ℕ → ℕ → ℕ → Type 0
+Unmet L lifts deadlines calls t = (k : ℕ) → k < calls → getD deadlines k 0 < t → L (getD deadlines k 0) (getD lifts k 0) → ⊥
+
 -- What taking out the choke points of step t gives.
 abbrev pub Gone : List ℕ → List ℕ → ℕ → ℕ → ℕ → List ℕ → List ℕ → ℕ → Type 0
 Gone cells steps n t opens l l′ end = (opens ≤ end) × Cursor steps n (t + 1) end × Cleared (Between cells opens end) l l′ × (members l + opens ≤ members l′ + end)
@@ -42,7 +46,8 @@ module _ {near begin starts : List ℕ} {carts : ℕ} {cells steps : List ℕ} {
   pub holding-first : {l₀ queue₀ l queue l′ : List ℕ} {tail end : ℕ} → ((v : ℕ) → getD l₀ v 0 ≡ 0) → length l₀ ≡ maxCells → length queue₀ ≡ queueSize
       → Grown 1 (Placed starts carts) l₀ queue₀ 0 l queue tail → Gone cells steps n 0 0 l l′ end → Holding near begin starts carts cells steps n 0 l′ queue 0 tail 0 end
   holding-first {l₀} {queue₀} {l} {queue} {l′} {tail} {end} z h p g k = record {
-    stands = stands-first (Placed starts carts) (Side near begin) (Choked cells steps n) l₀ l l′ queue₀ queue tail z g (cleared-as (points-of steps n 0 0 (cursor-first steps n) cells end (k .1)) (k .2));
+    stands = stands-first (Placed starts carts) (Side near begin) (Choked cells steps n) l₀ l l′ queue₀ queue tail z g
+        (cleared-as (points-of steps n 0 0 (cursor-first steps n) cells end (k .1)) (k .2));
     size = k .2 .size ∙ g .cells ∙ h;
     places = g .places ∙ p;
     ends = omega (arith, g .count, k .3);
@@ -57,8 +62,11 @@ module _ {near begin starts : List ℕ} {carts : ℕ} {cells steps : List ℕ} {
     roomy few = record { cells = h .size; places = h .places; ends = omega (arith, h .ends, h .to .few) }
 
     module _ {j : Job} (f : Near j near begin) (carts-known : (k : ℕ) → k < carts → getD starts k 0 < j .cells) where
+      first-known : (v : ℕ) → Placed starts carts v → v < j .cells
+      first-known v p = rw (sym (p .2)) (carts-known (p .0) (p .1))
+
       known : (t v : ℕ) → Reached near begin starts carts cells steps n t v → v < j .cells
-      known = layer-known (Placed starts carts) (Side near begin) (Choked cells steps n) (j .cells) (λ v p. rw (sym (p .2)) (carts-known (p .0) (p .1))) (λ c h. f .all c c h (inl refl)) (near-even f)
+      known = layer-known (Placed starts carts) (Side near begin) (Choked cells steps n) (j .cells) first-known (λ c h. f .all c c h (inl refl)) (near-even f)
 
       pub older-known : (v : ℕ) → Older since (t + 1 + 1) v → v < j .cells
       older-known v o = known t v (h .stands .layer v .0 (o .0))
@@ -67,7 +75,7 @@ module _ {near begin starts : List ℕ} {carts : ℕ} {cells steps : List ℕ} {
           → Grown (t + 1 + 1) (λ v. Again near begin cells opens end since (t + 1 + 1) v ⊎ Onward near begin queue head tail since (t + 1 + 1) v) since queue tail l₁ queue₁ n₁
           → Gone cells steps n (t + 1) end l₁ l₂ end′ → Holding near begin starts carts cells steps n (t + 1) l₂ queue₁ tail n₁ end end′
       holding-next points-known {l₁} {queue₁} {l₂} {n₁} {end′} g k = record {
-        stands = stands-next (Placed starts carts) (Side near begin) (Choked cells steps n) (j .cells) (λ v p. rw (sym (p .2)) (carts-known (p .0) (p .1))) (λ c h. f .all c c h (inl refl)) (near-even f)
+        stands = stands-next (Placed starts carts) (Side near begin) (Choked cells steps n) (j .cells) first-known (λ c h. f .all c c h (inl refl)) (near-even f)
             t (λ v p. rw (sym (p .2 .1)) (points-known (p .0) (p .1))) since queue l₁ queue₁ l₂ head tail n₁ (h .stands)
             (grown-as (λ v. (⊎-elim (λ p. inl (at v .0 (p .0), p .1)) (λ p. inr p), ⊎-elim (λ p. inl (at v .1 (p .0), p .1)) (λ p. inr p))) g)
             (cleared-as (points-of steps n (t + 1) end (h .to) cells end′ (k .1)) (k .2));
@@ -91,8 +99,7 @@ module _ {near begin starts : List ℕ} {carts : ℕ} {cells steps : List ℕ} {
       pub met : Now → Met lifts deadlines calls (Reached near begin starts carts cells steps n)
       met (k, b, (e, p)) = (k, b, rw e (h .stands .layer (getD lifts k 0) .0 p))
 
-      pub unmet-more : (Now → ⊥) → ((k : ℕ) → k < calls → getD deadlines k 0 < t → Reached near begin starts carts cells steps n (getD deadlines k 0) (getD lifts k 0) → ⊥)
-          → (k : ℕ) → k < calls → getD deadlines k 0 < t + 1 → Reached near begin starts carts cells steps n (getD deadlines k 0) (getD lifts k 0) → ⊥
+      pub unmet-more : (Now → ⊥) → Unmet (Reached near begin starts carts cells steps n) lifts deadlines calls t → Unmet (Reached near begin starts carts cells steps n) lifts deadlines calls (t + 1)
       unmet-more out u k b d r = ⊎-elim
           (λ e. out (k, b, (e, h .stands .layer (getD lifts k 0) .1 (rw e at r))))
           (λ l. u k b l r)

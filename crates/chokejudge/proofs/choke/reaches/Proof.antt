@@ -3,7 +3,7 @@
 use Rattle.model.specs.Job.{horizon}
 use mathlib.Core.Path.{_∙_}
 use Rattle.model.proofs.Basics.{nope}
-use Rattle.chokejudge.proofs.StepLaws.{Holding, Reached, holding-first, holding-next, met, older-known, roomy, unmet-more}
+use Rattle.chokejudge.proofs.StepLaws.{Holding, Reached, Unmet, holding-first, holding-next, met, older-known, roomy, unmet-more}
 use Prim.Native.Nat.{_+_, _-_, _<_, _≤_, ℕ}
 use native.Mathlib.Omega.{arith}
 use Rattle.chokejudge.proofs.ClearedLaws.{cursor-first}
@@ -19,7 +19,9 @@ mod Places
 use Places.*
 
 abbrev Inv-loop : tie.InvT-loop
-Inv-loop near begin starts carts lifts deadlines calls cells steps n last latest before since₀ queue₀ head₀ tail₀ opens₀ end₀ t₀ since queue head tail opens end t = (t ≤ last + 1) × Holding near begin starts carts cells steps n t since queue head tail opens end × ((k : ℕ) → k < calls → getD deadlines k 0 < t → Reached near begin starts carts cells steps n (getD deadlines k 0) (getD lifts k 0) → ⊥)
+Inv-loop near begin starts carts lifts deadlines calls cells steps n last latest before since₀ queue₀ head₀ tail₀ opens₀ end₀ t₀ since queue head tail opens end t =
+    (t ≤ last + 1) × Holding near begin starts carts cells steps n t since queue head tail opens end
+    × Unmet (Reached near begin starts carts cells steps n) lifts deadlines calls t
 
 abbrev μ-loop : tie.MeasureT-loop
 μ-loop near begin starts carts lifts deadlines calls cells steps n last latest before since₀ queue₀ head₀ tail₀ opens₀ end₀ t₀ since queue head tail opens end t = last + 1 - t

@@ -6,7 +6,7 @@ use Rattle.chokejudge.proofs.Ranges.{Side}
 use Prim.Native.Nat.{_+_, _-_, _≤_, _<_, ℕ}
 use mathlib.Core.Path.{_∙_, _≡_}
 use native.Mathlib.Omega.{arith}
-use Rattle.chokejudge.proofs.GrownLaws.{each-more, grown-as, grown-none, older-same, still-roomy, in-queue}
+use Rattle.chokejudge.proofs.GrownLaws.{Each, each-more, grown-as, grown-none, older-same, still-roomy, in-queue}
 use lib.ListN.{getD}
 use denote.Ref.{now}
 use mathlib.Core.Logic.{⊎-elim}
@@ -21,7 +21,8 @@ abbrev Ahead : List ℕ → List ℕ → List ℕ → ℕ → ℕ → ℕ → Ty
 Ahead near begin l s u v = Older l s u × Side near begin u v
 
 abbrev Inv-loop : tie.InvT-loop
-Inv-loop near begin since₀ queue₀ head end tail stamp at₀ i₀ since queue at i = (head ≤ i) × (i ≤ end) × Grown stamp (λ v. (u : ℕ) × Between queue₀ head i u × Ahead near begin since₀ stamp u v) since₀ queue₀ tail since queue at × Roomy since queue at
+Inv-loop near begin since₀ queue₀ head end tail stamp at₀ i₀ since queue at i =
+    (head ≤ i) × (i ≤ end) × Grown stamp (Each queue₀ head i (Ahead near begin since₀ stamp)) since₀ queue₀ tail since queue at × Roomy since queue at
 
 abbrev μ-loop : tie.MeasureT-loop
 μ-loop near begin since₀ queue₀ head end tail stamp at₀ i₀ since queue at i = end - i

@@ -7,7 +7,7 @@ use Rattle.chokejudge.specs.Grown.{Between, Cleared, members}
 use Prim.Native.Nat.{_+_, _-_, _<_, _≤_, ℕ}
 use mathlib.Core.Path.{_≡_, _∙_, sym}
 use native.Mathlib.Omega.{arith}
-use Rattle.chokejudge.proofs.ClearedLaws.{cleared-none, cursor-end, cleared-more, later}
+use Rattle.chokejudge.proofs.ClearedLaws.{Alike, cleared-none, cursor-end, cleared-more, later}
 use lib.ListN.{getD}
 use denote.Ref.{now}
 use borrow.Author.Needs.{needs}
@@ -17,7 +17,7 @@ mod Places
 use Places.*
 
 abbrev Inv-loop : tie.InvT-loop
-Inv-loop cells steps n t at since₀ i₀ since i = (at ≤ i) × (i ≤ n) × ((k : ℕ) → at ≤ k → k < i → getD steps k 0 ≡ t) × Cleared (Between cells at i) since₀ since × (members since₀ + at ≤ members since + i)
+Inv-loop cells steps n t at since₀ i₀ since i = (at ≤ i) × (i ≤ n) × Alike steps t at i × Cleared (Between cells at i) since₀ since × (members since₀ + at ≤ members since + i)
 
 abbrev μ-loop : tie.MeasureT-loop
 μ-loop cells steps n t at since₀ i₀ since i = n - i

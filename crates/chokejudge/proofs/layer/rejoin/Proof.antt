@@ -7,7 +7,7 @@ use Rattle.chokejudge.proofs.Ranges.{Side}
 use Prim.Native.Nat.{_+_, _-_, _≤_, _<_, ℕ}
 use mathlib.Core.Path.{_≡_}
 use native.Mathlib.Omega.{arith}
-use Rattle.chokejudge.proofs.GrownLaws.{each-more, grown-as, grown-none, older-some, still-roomy, themselves}
+use Rattle.chokejudge.proofs.GrownLaws.{Each, each-more, grown-as, grown-none, older-some, still-roomy, themselves}
 use lib.ListN.{getD}
 use denote.Ref.{now}
 use mathlib.Core.Logic.{⊎-elim}
@@ -22,7 +22,8 @@ abbrev Back : List ℕ → List ℕ → List ℕ → ℕ → ℕ → ℕ → Typ
 Back near begin l s u v = ((x : ℕ) × Side near begin u x × Older l s x) × (v ≡ u)
 
 abbrev Inv-loop : tie.InvT-loop
-Inv-loop near begin cells opens end since₀ queue₀ tail stamp at₀ k₀ since queue at k = (opens ≤ k) × (k ≤ end) × Grown stamp (λ v. (u : ℕ) × Between cells opens k u × Back near begin since₀ stamp u v) since₀ queue₀ tail since queue at × Roomy since queue at
+Inv-loop near begin cells opens end since₀ queue₀ tail stamp at₀ k₀ since queue at k =
+    (opens ≤ k) × (k ≤ end) × Grown stamp (Each cells opens k (Back near begin since₀ stamp)) since₀ queue₀ tail since queue at × Roomy since queue at
 
 abbrev μ-loop : tie.MeasureT-loop
 μ-loop near begin cells opens end since₀ queue₀ tail stamp at₀ k₀ since queue at k = end - k
