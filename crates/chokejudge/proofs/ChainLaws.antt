@@ -7,7 +7,7 @@ use native.Mathlib.Omega.{arith}
 use native.Mathlib.Nat.{eq-or-lt-of-le}
 use lib.ListN.{length, getD, set, replicate, length-set, length-replicate}
 use Rattle.model.specs.Limits.{maxCalls, maxSteps}
-use Rattle.network.proofs.TableLaws.{Entry, new, old, entry, zeros}
+use Rattle.floor.proofs.TableLaws.{Entry, new, old, entry, zeros}
 use Rattle.chokejudge.specs.Chains.{LastOf, Chains}
 use Rattle.chokejudge.proofs.Numbers.{below-or}
 
@@ -54,15 +54,15 @@ pub record Passed (keys : List ℕ) (n : ℕ) (Q : ℕ → Type 0) (t h : ℕ) :
   pub none : (k : ℕ) → k < n → h ≤ k → getD keys k 0 ≡ t → Q k → ⊥
 
 module _ {keys : List ℕ} {n : ℕ} {latest before : List ℕ} (r : Chains keys n latest before) (Q : ℕ → Type 0) (t : ℕ) where
-  pub passed-none : t < maxSteps → Passed keys n Q t (getD latest t 0)
-  passed-none b = let l = r .last t b in record { few = l .few; is = l .is; none = λ k h g e q. omega (arith, l .none k h e) }
+  pub passed-none : (m : ℕ) → m ≡ getD latest t 0 → t < maxSteps → Passed keys n Q t m
+  passed-none m f b = let l = r .last t b in rw f (record { few = l .few; is = l .is; none = λ k h g e q. omega (arith, l .none k h e) })
 
-  pub passed-more : (h : ℕ) → 0 < h → Passed keys n Q t h → (Q (h - 1) → ⊥) → Passed keys n Q t (getD before (h - 1) 0)
-  passed-more h p d out = record {
+  pub passed-more : (h m : ℕ) → m ≡ getD before (h - 1) 0 → 0 < h → Passed keys n Q t h → (Q (h - 1) → ⊥) → Passed keys n Q t m
+  passed-more h m f p d out = rw f (record {
     few = omega (arith, d .few, b .few);
     is = λ q. b .is q ∙ d .is p;
     none = none;
-  }
+  })
     where
       b : LastOf keys (h - 1) (getD keys (h - 1) 0) (getD before (h - 1) 0)
       b = r .back (h - 1) (omega (arith, d .few))

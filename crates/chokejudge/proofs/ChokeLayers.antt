@@ -4,7 +4,7 @@ use Prim.Native.Nat.{ℕ, zero, suc, _≤_, _<_}
 use mathlib.Core.Path.{_≡_, refl, sym, ap}
 use mathlib.Core.List.{List}
 use mathlib.Core.Bool.{true}
-use mathlib.Core.Logic.{_↔_, inl, inr}
+use mathlib.Core.Logic.{_↔_, inl}
 use native.Mathlib.Omega.{arith}
 use lib.Dec.{ltb, leb}
 use lib.ListN.{length, getD}
@@ -21,28 +21,14 @@ use Rattle.job.specs.declared.state.Job.{Job}
 use Rattle.job.specs.Held.{pointsOf}
 use Rattle.job.proofs.Pairs.{in-pairs, pairs-count}
 use Rattle.job.proofs.Arrays.{Whole, in-carts, in-calls, calls-count}
-use Rattle.network.specs.Rows.{Beside, Rows}
-use Rattle.network.proofs.JobTables.{arc}
-use Rattle.chokejudge.specs.ChokeLayers.{Placed, Choked, Row, Layer, Met, Floor}
+use Rattle.floor.specs.Tables.{Near}
+use Rattle.floor.proofs.JobTables.{arc-even, near-even}
+use Rattle.chokejudge.specs.ChokeLayers.{Placed, Choked, Layer, Met}
+use Rattle.chokejudge.proofs.Ranges.{Side}
 use Rattle.chokejudge.proofs.LayerLaws.{layer-known}
 use Rattle.chokejudge.proofs.ChokeWalks.{Free, point-eq, chokes}
 
-flip : (from to : List ℕ) (n c x : ℕ) → Beside from to n c x → Beside from to n x c
-flip from to n c x (inl e) = inl (sym e)
-flip from to n c x (inr (k, h, inl p)) = inr (k, h, inr p)
-flip from to n c x (inr (k, h, inr p)) = inr (k, h, inl p)
-
-module _ (s : Job) (w : Whole s) (ready : Ready (jobOf s)) {near start degree : List ℕ} (r : Rows (s .cells) (Beside (s .from) (s .to) (s .tracks)) near start degree) where
-  beside : (c x : ℕ) → c < s .cells → Row near start degree c x → Beside (s .from) (s .to) (s .tracks) c x
-  beside c x h (i, l, e) = rw e at (r .only c i h l)
-
-  pub floor-of : Floor (s .cells) near start degree
-  floor-of = record {
-    reads = λ c h. record { cell = omega (arith, ready .fit .few-cells); rows = r .rows; begins = r .begins; counts = r .counts; few = r .few c h; fits = r .fits c h };
-    stays = λ c h. r .all c c h (inl refl);
-    even = λ c x h p. let b = beside c x h p in let l = r .known c x h b in (l, r .all x c l (flip (s .from) (s .to) (s .tracks) c x b));
-  }
-
+module _ (s : Job) (w : Whole s) (ready : Ready (jobOf s)) {near begin : List ℕ} (r : Near (jobOf s) near begin) where
   pub carts-known : (k : ℕ) → k < s .carts → getD (s .starts) k 0 < s .cells
   carts-known k h = ready .fit .known-carts (getD (s .starts) k 0) (in-carts s w (getD (s .starts) k 0) .1 (k, h, refl))
 
@@ -57,20 +43,21 @@ module _ (s : Job) (w : Whole s) (ready : Ready (jobOf s)) {near start degree : 
         back (k, b, (e, f)) = in-pairs point cells steps n h g (point v t) .1 (k, b, point-eq (point v t) (getD cells k 0) (getD steps k 0) (sym f) (sym e))
 
     abbrev Reached : ℕ → ℕ → Type 0
-    Reached = Layer (Placed (s .starts) (s .carts)) (Row near start degree) (Choked cells steps n)
+    Reached = Layer (Placed (s .starts) (s .carts)) (Side near begin) (Choked cells steps n)
 
     known : (t v : ℕ) → Reached t v → v < s .cells
-    known = layer-known (Placed (s .starts) (s .carts)) (Row near start degree) (Choked cells steps n) (s .cells) (λ v p. rw (sym (p .2)) (carts-known (p .0) (p .1))) (floor-of .stays) (floor-of .even)
+    known = layer-known (Placed (s .starts) (s .carts)) (Side near begin) (Choked cells steps n) (s .cells) (λ v p. rw (sym (p .2)) (carts-known (p .0) (p .1)))
+        (λ c h. r .all c c h (inl refl)) (near-even r)
 
     free : (t v : ℕ) → Reached t v ↔ Free (jobOf s) (pointsOf cells steps n) t v
     free zero v = (λ p. (in-carts s w v .1 (p .0), λ q. p .1 (choked 0 v .0 q)), λ p. (in-carts s w v .0 (p .0), λ q. p .1 (choked 0 v .1 q)))
     free (suc t) v = (λ p. there p (λ u. free t u .0), λ p. back p (λ u. free t u .1))
       where
         there : Reached (suc t) v → ((u : ℕ) → Reached t u → Free (jobOf s) (pointsOf cells steps n) t u) → Free (jobOf s) (pointsOf cells steps n) (suc t) v
-        there ((u, f, p), q) is = ((u, is u f, arc s w v u t .0 (flip (s .from) (s .to) (s .tracks) u v (beside u v (known t u f) p))), λ o. q (choked (suc t) v .0 o))
+        there ((u, f, p), q) is = ((u, is u f, arc-even (jobOf s) v u (r .only u v (known t u f) p)), λ o. q (choked (suc t) v .0 o))
 
         back : Free (jobOf s) (pointsOf cells steps n) (suc t) v → ((u : ℕ) → Free (jobOf s) (pointsOf cells steps n) t u → Reached t u) → Reached (suc t) v
-        back ((u, f, p), q) is = ((u, is u f, r .all u v (known t u (is u f)) (flip (s .from) (s .to) (s .tracks) v u (arc s w v u t .1 p))), λ o. q (choked (suc t) v .1 o))
+        back ((u, f, p), q) is = ((u, is u f, r .all u v (known t u (is u f)) (arc-even (jobOf s) u v p)), λ o. q (choked (suc t) v .1 o))
 
     -- a call that is reached refutes the list
     pub chokes-wrong : Met (s .lifts) (s .deadlines) (s .calls) Reached → RightChokes (jobOf s) (pointsOf cells steps n) → ⊥
@@ -91,7 +78,8 @@ module _ (s : Job) (w : Whole s) (ready : Ready (jobOf s)) {near start degree : 
 
       -- a list that no call refutes is right
       pub chokes-right : (Met (s .lifts) (s .deadlines) (s .calls) Reached → ⊥) → n < s .calls → ChokesInOrder (pointsOf cells steps n) → RightChokes (jobOf s) (pointsOf cells steps n)
-      chokes-right out few order = (record { known = seen; few = omega (arith, few, pairs-count point cells steps n h g, calls-count s w); chokes = chokes (jobOf s) (pointsOf cells steps n) .0 none }, order)
+      chokes-right out few order =
+          (record { known = seen; few = omega (arith, few, pairs-count point cells steps n h g, calls-count s w); chokes = chokes (jobOf s) (pointsOf cells steps n) .0 none }, order)
         where
           none : (q : Call) → In q (jobOf s .calls) → Free (jobOf s) (pointsOf cells steps n) (q .deadline) (q .cell) → ⊥
           none q p f =

@@ -6,7 +6,7 @@ use mathlib.Core.Logic.{⊎-elim, _⊎_, _↔_, inl, inr}
 use native.Mathlib.Omega.{arith}
 use native.Mathlib.Nat.{eq-or-lt-of-le}
 use lib.ListN.{length, getD, set, length-set}
-use Rattle.network.proofs.TableLaws.{Entry, new, old, entry}
+use Rattle.floor.proofs.TableLaws.{Entry, new, old, entry}
 use Rattle.chokejudge.specs.ChokeLayers.{Choked}
 use Rattle.chokejudge.specs.Grown.{Between, Cleared, Climbs, Cursor}
 use Rattle.chokejudge.proofs.Numbers.{below-or}
@@ -35,6 +35,10 @@ cleared-more cells a i l₀ l h g r = record {
 pub cleared-as : {P Q : ℕ → Type 0} {l₀ l : List ℕ} → ((v : ℕ) → P v ↔ Q v) → Cleared P l₀ l → Cleared Q l₀ l
 cleared-as e r = record { size = r .size; gone = λ v q. r .gone v (e v .1 q); each = λ v. ⊎-elim (λ z. inl z) (λ p. inr (e v .0 p)) (r .each v) }
 
+-- The points from a to before i are of step t.
+abbrev pub Alike : List ℕ → ℕ → ℕ → ℕ → Type 0
+Alike steps t a i = (k : ℕ) → a ≤ k → k < i → getD steps k 0 ≡ t
+
 module _ (steps : List ℕ) (n : ℕ) where
   pub cursor-first : Cursor steps n 0 0
   cursor-first = record { few = omega arith; before = λ k h. absurd (omega arith); after = λ k h g. omega arith }
@@ -44,8 +48,7 @@ module _ (steps : List ℕ) (n : ℕ) where
     pub later : Climbs steps n → (i : ℕ) → a ≤ i → (getD steps i 0 ≡ t → ⊥) → (k : ℕ) → i ≤ k → k < n → t < getD steps k 0
     later up i h out k l g = ⊎-elim (λ e. absurd (out (sym e))) (λ m. omega (arith, up i k l g)) (eq-or-lt-of-le {n = t} {m = getD steps i 0} (c .after i h (omega arith)))
 
-    -- the points from the cursor to i are of step t
-    pub cursor-end : (i : ℕ) → i ≤ n → ((k : ℕ) → a ≤ k → k < i → getD steps k 0 ≡ t) → ((k : ℕ) → i ≤ k → k < n → t < getD steps k 0) → Cursor steps n (t + 1) i
+    pub cursor-end : (i : ℕ) → i ≤ n → Alike steps t a i → ((k : ℕ) → i ≤ k → k < n → t < getD steps k 0) → Cursor steps n (t + 1) i
     cursor-end i h same later = record {
       few = h;
       before = before;

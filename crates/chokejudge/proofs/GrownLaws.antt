@@ -9,7 +9,7 @@ use lib.ListN.{length, getD, set, length-set}
 use lib.Seq.{getD-set-same, getD-set-other}
 use Rattle.model.specs.Limits.{maxCells}
 use Rattle.job.specs.Held.{Some}
-use Rattle.network.proofs.TableLaws.{Entry, new, old, entry}
+use Rattle.floor.proofs.TableLaws.{Entry, new, old, entry}
 use Rattle.chokejudge.specs.Grown.{Between, Older, Roomy, Grown}
 use Rattle.chokejudge.proofs.Numbers.{zero-or}
 use Rattle.chokejudge.proofs.Ranges.{some-more, between-more}
@@ -110,23 +110,30 @@ module _ {s : ℕ} {P : ℕ → Type 0} {l queue l′ queue′ : List ℕ} {n n�
 -- One entry more of a list.
 pub listed-more : (f : ℕ → ℕ) (i : ℕ) {s : ℕ} {l queue l′ queue′ l″ queue″ : List ℕ} {n n′ n″ : ℕ} → Grown s (λ v. Some i (λ k. f k ≡ v)) l queue n l′ queue′ n′
     → Grown s (λ v. v ≡ f i) l′ queue′ n′ l″ queue″ n″ → Grown s (λ v. Some (i + 1) (λ k. f k ≡ v)) l queue n l″ queue″ n″
-listed-more f i g h = grown-as (λ v. (λ p. some-more (λ k. f k ≡ v) i .0 (⊎-elim (λ q. inl q) (λ e. inr (sym e)) p), λ p. ⊎-elim (λ q. inl q) (λ e. inr (sym e)) (some-more (λ k. f k ≡ v) i .1 p))) (grown-then g h)
+listed-more f i g h = grown-as (λ v. (λ p. some-more (λ k. f k ≡ v) i .0 (turn p), λ p. turn (some-more (λ k. f k ≡ v) i .1 p))) (grown-then g h)
+  where
+    turn : {A : Type 0} {x y : ℕ} → A ⊎ (x ≡ y) → A ⊎ (y ≡ x)
+    turn (inl q) = inl q
+    turn (inr e) = inr (sym e)
 
--- The cells that the entries of a list lead to, one entry more.
+-- The cells that the entries of a list from a to before i lead to.
+abbrev pub Each : List ℕ → ℕ → ℕ → (ℕ → ℕ → Type 0) → ℕ → Type 0
+Each list a i S v = (u : ℕ) × Between list a i u × S u v
+
 pub each-more : (list : List ℕ) (S : ℕ → ℕ → Type 0) (a i : ℕ) → a ≤ i → {s : ℕ} {l queue l′ queue′ l″ queue″ : List ℕ} {n n′ n″ : ℕ}
-    → Grown s (λ v. (u : ℕ) × Between list a i u × S u v) l queue n l′ queue′ n′ → Grown s (S (getD list i 0)) l′ queue′ n′ l″ queue″ n″
-    → Grown s (λ v. (u : ℕ) × Between list a (i + 1) u × S u v) l queue n l″ queue″ n″
+    → Grown s (Each list a i S) l queue n l′ queue′ n′ → Grown s (S (getD list i 0)) l′ queue′ n′ l″ queue″ n″ → Grown s (Each list a (i + 1) S) l queue n l″ queue″ n″
 each-more list S a i h g g′ = grown-as (λ v. (there v, back v)) (grown-then g g′)
   where
-    there : (v : ℕ) → ((u : ℕ) × Between list a i u × S u v) ⊎ S (getD list i 0) v → (u : ℕ) × Between list a (i + 1) u × S u v
+    there : (v : ℕ) → Each list a i S v ⊎ S (getD list i 0) v → Each list a (i + 1) S v
     there v (inl (u, b, p)) = (u, between-more list a i u h .1 (inl b), p)
     there v (inr p) = (getD list i 0, between-more list a i (getD list i 0) h .1 (inr refl), p)
 
-    back : (v : ℕ) → (u : ℕ) × Between list a (i + 1) u × S u v → ((u : ℕ) × Between list a i u × S u v) ⊎ S (getD list i 0) v
+    back : (v : ℕ) → Each list a (i + 1) S v → Each list a i S v ⊎ S (getD list i 0) v
     back v (u, b, p) = ⊎-elim (λ q. inl (u, q, p)) (λ e. inr (rw e p)) (between-more list a i u h .0 b)
 
 -- Entries that lead to themselves.
-pub themselves : (B R : ℕ → Type 0) {s : ℕ} {l queue l′ queue′ : List ℕ} {n n′ : ℕ} → Grown s (λ v. (u : ℕ) × B u × (R u × (v ≡ u))) l queue n l′ queue′ n′ → Grown s (λ v. B v × R v) l queue n l′ queue′ n′
+pub themselves : (B R : ℕ → Type 0) {s : ℕ} {l queue l′ queue′ : List ℕ} {n n′ : ℕ}
+    → Grown s (λ v. (u : ℕ) × B u × (R u × (v ≡ u))) l queue n l′ queue′ n′ → Grown s (λ v. B v × R v) l queue n l′ queue′ n′
 themselves B R g = grown-as (λ v. (λ p. let e = sym (p .2 .1) in (subst B e (p .1), subst R e (p .2 .0)), λ p. (v, p .0, (p .1, refl)))) g
 
 -- Some cells, and then what the older cells of the queue lead to: the queue has its old cells still, and those that are older are the same.
@@ -134,7 +141,10 @@ pub both : (P : ℕ → Type 0) (S : ℕ → ℕ → Type 0) (head : ℕ) {s : �
     → Grown s (λ v. (u : ℕ) × Between queue′ head tail u × (Older l′ s u × S u v)) l′ queue′ n′ l″ queue″ n″
     → Grown s (λ v. P v ⊎ ((u : ℕ) × Between queue head tail u × (Older l s u × S u v))) l queue tail l″ queue″ n″
 both P S head {queue = queue} {queue′ = queue′} {tail = tail} g h = grown-as
-    (λ v. (⊎-elim (λ p. inl p) (λ p. inr (p .0, there (p .0) (p .1), (older-same g (p .0) .0 (p .2 .0), p .2 .1))), ⊎-elim (λ p. inl p) (λ p. inr (p .0, back (p .0) (p .1), (older-same g (p .0) .1 (p .2 .0), p .2 .1)))))
+    (λ v. (
+      ⊎-elim (λ p. inl p) (λ p. inr (p .0, there (p .0) (p .1), (older-same g (p .0) .0 (p .2 .0), p .2 .1))),
+      ⊎-elim (λ p. inl p) (λ p. inr (p .0, back (p .0) (p .1), (older-same g (p .0) .1 (p .2 .0), p .2 .1))),
+    ))
     (grown-then g h)
   where
     there : (u : ℕ) → Between queue′ head tail u → Between queue head tail u

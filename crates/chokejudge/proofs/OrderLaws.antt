@@ -30,7 +30,9 @@ in-order cells steps n h g = (there, back)
     there o (suc k) b f = let e : suc k - 1 ≡ k = omega arith in rw e (rw (item k (omega arith), item (suc k) b) at (rising-at (point 0 0) Rises (pointsOf cells steps n) o k (omega (arith, size))))
 
     back : ((k : ℕ) → k < n → 1 ≤ k → Rises (pointAt cells steps (k - 1)) (pointAt cells steps k)) → ChokesInOrder (pointsOf cells steps n)
-    back f = rising-of (point 0 0) Rises (pointsOf cells steps n) (λ k b. let e : suc k - 1 ≡ k = omega arith in rw (item k (omega (arith, size)), item (suc k) (omega (arith, size))) (rw e at (f (suc k) (omega (arith, size)) (omega arith))))
+    back f = rising-of (point 0 0) Rises (pointsOf cells steps n) (λ k b.
+        let e : suc k - 1 ≡ k = omega arith in
+        rw (item k (omega (arith, size)), item (suc k) (omega (arith, size))) (rw e at (f (suc k) (omega (arith, size)) (omega arith))))
 
 pub climbs : (cells steps : List ℕ) (n : ℕ) → ((k : ℕ) → k < n → 1 ≤ k → Rises (pointAt cells steps (k - 1)) (pointAt cells steps k)) → Climbs steps n
 climbs cells steps n f i zero h b = let e : i ≡ 0 = omega arith in rw e (omega arith)

@@ -1,44 +1,53 @@
 -- What the loop over the steps holds, and that a step keeps it: the table is the layer of its step, the queue has what was added at it, and the two cursors stand round its choke
 -- points. The queue never overflows: each of its cells is in the table, or a choke point took it out. Assumes nothing.
 use Prim.Native.Nat.{ℕ, _+_, _≤_, _<_}
-use mathlib.Core.Path.{_≡_, sym, _∙_}
+use mathlib.Core.Path.{_≡_, refl, sym, _∙_}
 use mathlib.Core.List.{List}
 use mathlib.Core.Logic.{⊎-elim, _⊎_, _↔_, inl, inr}
 use native.Mathlib.Omega.{arith}
 use native.Mathlib.Nat.{eq-or-lt-of-le}
 use lib.ListN.{length, getD}
 use Rattle.model.specs.Limits.{maxCells, maxCalls}
+use Rattle.model.specs.Job.{Job}
 use Rattle.job.specs.Held.{Some}
-use Rattle.chokejudge.specs.ChokeLayers.{Placed, Choked, Row, RowAt, Layer, Met, Floor}
+use Rattle.floor.specs.Tables.{Near}
+use Rattle.floor.proofs.JobTables.{near-even}
+use Rattle.chokejudge.specs.ChokeLayers.{Placed, Choked, Layer, Met}
 use Rattle.chokejudge.specs.Grown.{Between, Older, Again, Onward, Roomy, Grown, Cleared, Cursor, members, queueSize}
+use Rattle.chokejudge.proofs.Ranges.{Side}
 use Rattle.chokejudge.proofs.GrownLaws.{grown-as}
 use Rattle.chokejudge.proofs.ClearedLaws.{cleared-as, cursor-first, points-of}
 use Rattle.chokejudge.proofs.LayerLaws.{Stands, stands-first, stands-next, layer-known}
 
-module _ (near start degree starts : List ℕ) (carts : ℕ) (cells steps : List ℕ) (n : ℕ) where
+module _ (near begin starts : List ℕ) (carts : ℕ) (cells steps : List ℕ) (n : ℕ) where
   abbrev pub Reached : ℕ → ℕ → Type 0
-  Reached = Layer (Placed starts carts) (Row near start degree) (Choked cells steps n)
+  Reached = Layer (Placed starts carts) (Side near begin) (Choked cells steps n)
 
-  -- The table, the queue from `head` to before `tail`, and the points of step t from `first` to before `end`.
-  pub record Holding (t : ℕ) (since queue : List ℕ) (head tail first end : ℕ) : Type 0 where
-    pub stands : Stands (Placed starts carts) (Row near start degree) (Choked cells steps n) t since queue head tail
+  -- The table, the queue from `head` to before `tail`, and the points of step t from `opens` to before `end`.
+  pub record Holding (t : ℕ) (since queue : List ℕ) (head tail opens end : ℕ) : Type 0 where
+    pub stands : Stands (Placed starts carts) (Side near begin) (Choked cells steps n) t since queue head tail
     pub size : length since ≡ maxCells
     pub places : length queue ≡ queueSize
     pub ends : tail ≤ members since + end
     pub queued : head ≤ tail
-    pub points : first ≤ end
-    pub from : Cursor steps n t first
+    pub points : opens ≤ end
+    pub from : Cursor steps n t opens
     pub to : Cursor steps n (t + 1) end
+
+-- No call with a deadline before t is in its layer.
+abbrev pub Unmet : (ℕ → ℕ → Type 0) → List ℕ → List ℕ → ℕ → ℕ → Type 0
+Unmet L lifts deadlines calls t = (k : ℕ) → k < calls → getD deadlines k 0 < t → L (getD deadlines k 0) (getD lifts k 0) → ⊥
 
 -- What taking out the choke points of step t gives.
 abbrev pub Gone : List ℕ → List ℕ → ℕ → ℕ → ℕ → List ℕ → List ℕ → ℕ → Type 0
-Gone cells steps n t first l l′ end = (first ≤ end) × Cursor steps n (t + 1) end × Cleared (Between cells first end) l l′ × (members l + first ≤ members l′ + end)
+Gone cells steps n t opens l l′ end = (opens ≤ end) × Cursor steps n (t + 1) end × Cleared (Between cells opens end) l l′ × (members l + opens ≤ members l′ + end)
 
-module _ {near start degree starts : List ℕ} {carts : ℕ} {cells steps : List ℕ} {n : ℕ} where
+module _ {near begin starts : List ℕ} {carts : ℕ} {cells steps : List ℕ} {n : ℕ} where
   pub holding-first : {l₀ queue₀ l queue l′ : List ℕ} {tail end : ℕ} → ((v : ℕ) → getD l₀ v 0 ≡ 0) → length l₀ ≡ maxCells → length queue₀ ≡ queueSize
-      → Grown 1 (Placed starts carts) l₀ queue₀ 0 l queue tail → Gone cells steps n 0 0 l l′ end → Holding near start degree starts carts cells steps n 0 l′ queue 0 tail 0 end
+      → Grown 1 (Placed starts carts) l₀ queue₀ 0 l queue tail → Gone cells steps n 0 0 l l′ end → Holding near begin starts carts cells steps n 0 l′ queue 0 tail 0 end
   holding-first {l₀} {queue₀} {l} {queue} {l′} {tail} {end} z h p g k = record {
-    stands = stands-first (Placed starts carts) (Row near start degree) (Choked cells steps n) l₀ l l′ queue₀ queue tail z g (cleared-as (points-of steps n 0 0 (cursor-first steps n) cells end (k .1)) (k .2));
+    stands = stands-first (Placed starts carts) (Side near begin) (Choked cells steps n) l₀ l l′ queue₀ queue tail z g
+        (cleared-as (points-of steps n 0 0 (cursor-first steps n) cells end (k .1)) (k .2));
     size = k .2 .size ∙ g .cells ∙ h;
     places = g .places ∙ p;
     ends = omega (arith, g .count, k .3);
@@ -48,22 +57,25 @@ module _ {near start degree starts : List ℕ} {carts : ℕ} {cells steps : List
     to = k .1;
   }
 
-  module _ {t : ℕ} {since queue : List ℕ} {head tail first end : ℕ} (h : Holding near start degree starts carts cells steps n t since queue head tail first end) where
+  module _ {t : ℕ} {since queue : List ℕ} {head tail opens end : ℕ} (h : Holding near begin starts carts cells steps n t since queue head tail opens end) where
     pub roomy : n ≤ maxCalls → Roomy since queue tail
     roomy few = record { cells = h .size; places = h .places; ends = omega (arith, h .ends, h .to .few) }
 
-    module _ {floor : ℕ} (f : Floor floor near start degree) (carts-known : (k : ℕ) → k < carts → getD starts k 0 < floor) where
-      known : (t v : ℕ) → Reached near start degree starts carts cells steps n t v → v < floor
-      known = layer-known (Placed starts carts) (Row near start degree) (Choked cells steps n) floor (λ v p. rw (sym (p .2)) (carts-known (p .0) (p .1))) (f .stays) (f .even)
+    module _ {j : Job} (f : Near j near begin) (carts-known : (k : ℕ) → k < carts → getD starts k 0 < j .cells) where
+      first-known : (v : ℕ) → Placed starts carts v → v < j .cells
+      first-known v p = rw (sym (p .2)) (carts-known (p .0) (p .1))
 
-      pub older-row : (v : ℕ) → Older since (t + 1 + 1) v → RowAt near start degree v
-      older-row v o = f .reads v (known t v (h .stands .layer v .0 (o .0)))
+      known : (t v : ℕ) → Reached near begin starts carts cells steps n t v → v < j .cells
+      known = layer-known (Placed starts carts) (Side near begin) (Choked cells steps n) (j .cells) first-known (λ c h. f .all c c h (inl refl)) (near-even f)
 
-      pub holding-next : (points-known : (k : ℕ) → k < n → getD cells k 0 < floor) {l₁ queue₁ l₂ : List ℕ} {n₁ end′ : ℕ}
-          → Grown (t + 1 + 1) (λ v. Again near start degree cells first end since (t + 1 + 1) v ⊎ Onward near start degree queue head tail since (t + 1 + 1) v) since queue tail l₁ queue₁ n₁
-          → Gone cells steps n (t + 1) end l₁ l₂ end′ → Holding near start degree starts carts cells steps n (t + 1) l₂ queue₁ tail n₁ end end′
+      pub older-known : (v : ℕ) → Older since (t + 1 + 1) v → v < j .cells
+      older-known v o = known t v (h .stands .layer v .0 (o .0))
+
+      pub holding-next : (points-known : (k : ℕ) → k < n → getD cells k 0 < j .cells) {l₁ queue₁ l₂ : List ℕ} {n₁ end′ : ℕ}
+          → Grown (t + 1 + 1) (λ v. Again near begin cells opens end since (t + 1 + 1) v ⊎ Onward near begin queue head tail since (t + 1 + 1) v) since queue tail l₁ queue₁ n₁
+          → Gone cells steps n (t + 1) end l₁ l₂ end′ → Holding near begin starts carts cells steps n (t + 1) l₂ queue₁ tail n₁ end end′
       holding-next points-known {l₁} {queue₁} {l₂} {n₁} {end′} g k = record {
-        stands = stands-next (Placed starts carts) (Row near start degree) (Choked cells steps n) floor (λ v p. rw (sym (p .2)) (carts-known (p .0) (p .1))) (f .stays) (f .even)
+        stands = stands-next (Placed starts carts) (Side near begin) (Choked cells steps n) (j .cells) first-known (λ c h. f .all c c h (inl refl)) (near-even f)
             t (λ v p. rw (sym (p .2 .1)) (points-known (p .0) (p .1))) since queue l₁ queue₁ l₂ head tail n₁ (h .stands)
             (grown-as (λ v. (⊎-elim (λ p. inl (at v .0 (p .0), p .1)) (λ p. inr p), ⊎-elim (λ p. inl (at v .1 (p .0), p .1)) (λ p. inr p))) g)
             (cleared-as (points-of steps n (t + 1) end (h .to) cells end′ (k .1)) (k .2));
@@ -76,19 +88,18 @@ module _ {near start degree starts : List ℕ} {carts : ℕ} {cells steps : List
         to = k .1;
       }
         where
-          at : (v : ℕ) → Between cells first end v ↔ Choked cells steps n t v
-          at = points-of steps n t first (h .from) cells end (h .to)
+          at : (v : ℕ) → Between cells opens end v ↔ Choked cells steps n t v
+          at = points-of steps n t opens (h .from) cells end (h .to)
 
     -- The calls of the step.
     module _ (lifts deadlines : List ℕ) (calls : ℕ) where
       abbrev pub Now : Type 0
       Now = Some calls (λ k. (getD deadlines k 0 ≡ t) × (0 < getD since (getD lifts k 0) 0))
 
-      pub met : Now → Met lifts deadlines calls (Reached near start degree starts carts cells steps n)
+      pub met : Now → Met lifts deadlines calls (Reached near begin starts carts cells steps n)
       met (k, b, (e, p)) = (k, b, rw e (h .stands .layer (getD lifts k 0) .0 p))
 
-      pub unmet-more : (Now → ⊥) → ((k : ℕ) → k < calls → getD deadlines k 0 < t → Reached near start degree starts carts cells steps n (getD deadlines k 0) (getD lifts k 0) → ⊥)
-          → (k : ℕ) → k < calls → getD deadlines k 0 < t + 1 → Reached near start degree starts carts cells steps n (getD deadlines k 0) (getD lifts k 0) → ⊥
+      pub unmet-more : (Now → ⊥) → Unmet (Reached near begin starts carts cells steps n) lifts deadlines calls t → Unmet (Reached near begin starts carts cells steps n) lifts deadlines calls (t + 1)
       unmet-more out u k b d r = ⊎-elim
           (λ e. out (k, b, (e, h .stands .layer (getD lifts k 0) .1 (rw e at r))))
           (λ l. u k b l r)

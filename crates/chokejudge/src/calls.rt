@@ -23,8 +23,8 @@ pub fn chain(deadlines: &[u8; Limits::CALLS], calls: usize, latest: &mut [u8], b
     }
 }
 
-// Whether a call of deadline t has its cell in the layer.
-pub fn meets(
+// Whether a call that is due at t has its cell in the layer.
+pub fn has_due(
     lifts: &[u8; Limits::CALLS],
     latest: &[u8],
     before: &[u8],

@@ -1,7 +1,7 @@
 // Whether choke points are a true choke list in the order of the sheet: no walk reaches a call without standing on one of them.
 use crate::calls::chain;
-use crate::calls::meets;
-use crate::layer::choke;
+use crate::calls::has_due;
+use crate::layer::close;
 use crate::layer::grow;
 use crate::layer::place;
 use job::state::Job;
@@ -11,14 +11,16 @@ ghost use mathlib.Core.Bool.{true};
 ghost use Prim.Native.Nat.{ℕ, _<_, _≤_};
 ghost use lib.ListN.{length, getD};
 ghost use Rattle.model.specs.Lists.{In};
-ghost use Rattle.model.specs.Limits.{maxCarts, maxCalls, maxSteps};
+ghost use Rattle.model.specs.Limits.{maxCarts, maxCalls};
+ghost use Rattle.model.specs.Job as model;
 ghost use Rattle.model.specs.Choke.{Point, point, Rises, ChokesInOrder};
 ghost use Rattle.model.specs.Ready.{Ready};
 ghost use Rattle.model.specs.ReadSheet.{knownPoint};
 ghost use Rattle.model.specs.Contracts.{RightChokes};
 ghost use Rattle.job.specs.Arrays.{jobOf, Sized};
 ghost use Rattle.job.specs.Held.{pointsOf, Decides};
-ghost use Rattle.chokejudge.specs.ChokeLayers.{Placed, Choked, Row, Layer, Met, Floor};
+ghost use Rattle.floor.specs.Tables.{rowOf, Near};
+ghost use Rattle.chokejudge.specs.ChokeLayers.{Placed, Choked, Layer, Met};
 ghost use Rattle.chokejudge.specs.Grown.{Climbs};
 
 // Whether a point stands before the next: by step, then by cell.
@@ -48,21 +50,20 @@ fn in_order(cells: &[u8], steps: &[u8], n: usize) -> bool
 // Whether a cart reaches a call at its deadline without having stood on a choke point.
 fn reaches<'a>(
     near: &[u8],
-    start: &[u16],
-    degree: &[u16],
+    begin: &[u16],
     starts: &'a [u8; Limits::CARTS],
     carts: usize,
     lifts: &'a [u8; Limits::CALLS],
     deadlines: &'a [u8; Limits::CALLS],
     calls: usize,
-    last: usize,
     cells: &[u8],
     steps: &[u8],
     n: usize,
 ) -> bool
-    requires { ⌜ (carts ≤ maxCarts) × (calls ≤ maxCalls) × (last < maxSteps) × (n ≤ maxCalls) × (n ≤ length (now cells)) × (n ≤ length (now steps)) × Climbs (now steps) n × ((k : ℕ) → k < calls → getD (now deadlines) k 0 ≤ last) × ((floor : ℕ) × Floor floor (now near) (now start) (now degree) × ((k : ℕ) → k < carts → getD (now starts) k 0 < floor) × ((k : ℕ) → k < n → getD (now cells) k 0 < floor)) ⌝ }
-    ensures { λ r. ⌜ Decides r (Met (now (lifts .entry)) (now (deadlines .entry)) calls (Layer (Placed (now (starts .entry)) carts) (Row (now (near .entry)) (now (start .entry)) (now (degree .entry))) (Choked (now (cells .entry)) (now (steps .entry)) n))) ⌝ }
+    requires { ⌜ (carts ≤ maxCarts) × (calls ≤ maxCalls) × (n ≤ maxCalls) × (n ≤ length (now cells)) × (n ≤ length (now steps)) × Climbs (now steps) n × ((j : model.Job) × Near j (now near) (now begin) × ((k : ℕ) → k < carts → getD (now starts) k 0 < j .cells) × ((k : ℕ) → k < n → getD (now cells) k 0 < j .cells)) ⌝ }
+    ensures { λ r. ⌜ Decides r (Met (now (lifts .entry)) (now (deadlines .entry)) calls (Layer (Placed (now (starts .entry)) carts) (λ c x. In x (rowOf (now (near .entry)) (now (begin .entry)) c)) (Choked (now (cells .entry)) (now (steps .entry)) n))) ⌝ }
 {
+    let last = job::size::horizon(deadlines, calls);
     let mut latest = [0u8; Limits::STEPS];
     let mut before = [0u8; Limits::CALLS];
     chain(deadlines, calls, &mut latest, &mut before);
@@ -70,11 +71,11 @@ fn reaches<'a>(
     let mut queue = [0u8; Limits::CELLS + Limits::CALLS];
     let mut head = 0;
     let mut tail = place(starts, carts, &mut since, &mut queue);
-    let mut first = 0;
-    let mut end = choke(cells, steps, n, 0, 0, &mut since);
+    let mut opens = 0;
+    let mut end = close(cells, steps, n, 0, 0, &mut since);
     let mut t = 0;
     while t <= last {
-        if meets(lifts, &latest, &before, t, &since) {
+        if has_due(lifts, &latest, &before, t, &since) {
             return true;
         }
         t += 1;
@@ -82,10 +83,9 @@ fn reaches<'a>(
         let old = tail;
         tail = grow(
             near,
-            start,
-            degree,
+            begin,
             cells,
-            first,
+            opens,
             end,
             &mut since,
             &mut queue,
@@ -94,8 +94,8 @@ fn reaches<'a>(
             stamp,
         );
         head = old;
-        first = end;
-        end = choke(cells, steps, n, t, first, &mut since);
+        opens = end;
+        end = close(cells, steps, n, t, opens, &mut since);
     }
     false
 }
@@ -107,29 +107,24 @@ pub fn is_choke_list(job: Job, cells: &[u8], steps: &[u8], n: usize) -> bool
     if !in_order(cells, steps, n) {
         return false;
     }
-    let last = job::size::horizon(&job.deadlines, job.calls);
     let mut near = [0u8; Limits::CELLS + 2 * Limits::TRACKS];
-    let mut start = [0u16; Limits::CELLS];
-    let mut degree = [0u16; Limits::CELLS];
-    network::tables::neighbours(
+    let mut begin = [0u16; Limits::CELLS + 1];
+    floor::tables::neighbours(
         &job.from,
         &job.to,
         job.tracks,
         job.cells,
         &mut near,
-        &mut start,
-        &mut degree,
+        &mut begin,
     );
     !reaches(
         &near,
-        &start,
-        &degree,
+        &begin,
         &job.starts,
         job.carts,
         &job.lifts,
         &job.deadlines,
         job.calls,
-        last,
         cells,
         steps,
         n,

@@ -7,8 +7,10 @@ ghost use mathlib.Core.Logic.{_⊎_};
 ghost use Prim.Native.Nat.{ℕ, _+_, _<_, _≤_};
 ghost use lib.ListN.{length, getD};
 ghost use Rattle.model.specs.Limits.{maxCells, maxCarts};
+ghost use Rattle.model.specs.Lists.{In};
 ghost use Rattle.job.specs.Held.{Decides};
-ghost use Rattle.chokejudge.specs.ChokeLayers.{Placed, Row, RowAt};
+ghost use Rattle.floor.specs.Tables.{Rows};
+ghost use Rattle.chokejudge.specs.ChokeLayers.{Placed};
 ghost use Rattle.chokejudge.specs.Grown.{Between, Older, Again, Onward, Roomy, Grown, Climbs, Cursor, Cleared, members};
 
 // Adds v where it is not in the layer. Answers where the queue ends then.
@@ -42,25 +44,14 @@ pub fn place(
     tail
 }
 
-// Adds the cells of row c.
-fn spread(
-    near: &[u8],
-    start: &[u16],
-    degree: &[u16],
-    c: usize,
-    since: &mut [u16],
-    queue: &mut [u8],
-    tail: usize,
-    stamp: u16,
-) -> usize
-    requires { ⌜ (0 < stamp) × Roomy (now since) (now queue) tail × RowAt (now near) (now start) (now degree) c ⌝ }
-    ensures { λ r. ⌜ Grown stamp (Row (now (near .entry)) (now (start .entry)) (now (degree .entry)) c) (now (since .entry)) (now (queue .entry)) tail (now (since .exit)) (now (queue .exit)) r ⌝ }
+// Adds the cells of a row.
+fn spread(row: &[u8], since: &mut [u16], queue: &mut [u8], tail: usize, stamp: u16) -> usize
+    requires { ⌜ (0 < stamp) × Roomy (now since) (now queue) tail ⌝ }
+    ensures { λ r. ⌜ Grown stamp (λ x. In x (now (row .entry))) (now (since .entry)) (now (queue .entry)) tail (now (since .exit)) (now (queue .exit)) r ⌝ }
 {
-    let first = start[c] as usize;
-    let n = degree[c] as usize;
     let mut end = tail;
-    for i in 0..n {
-        end = add(since, queue, end, near[first + i], stamp);
+    for i in 0..row.len() {
+        end = add(since, queue, end, row[i], stamp);
     }
     end
 }
@@ -75,15 +66,13 @@ fn is_older(entry: u16, stamp: u16) -> bool
     entry < stamp
 }
 
-// Whether row c has a cell that is older in the layer than this stamp.
-fn borders(near: &[u8], start: &[u16], degree: &[u16], c: usize, since: &[u16], stamp: u16) -> bool
-    requires { ⌜ (length (now since) ≡ maxCells) × RowAt (now near) (now start) (now degree) c ⌝ }
-    ensures { λ r. ⌜ Decides r ((x : ℕ) × Row (now (near .entry)) (now (start .entry)) (now (degree .entry)) c x × Older (now (since .entry)) stamp x) ⌝ }
+// Whether a row has a cell that is older in the layer than this stamp.
+fn borders(row: &[u8], since: &[u16], stamp: u16) -> bool
+    requires { ⌜ length (now since) ≡ maxCells ⌝ }
+    ensures { λ r. ⌜ Decides r ((x : ℕ) × In x (now (row .entry)) × Older (now (since .entry)) stamp x) ⌝ }
 {
-    let first = start[c] as usize;
-    let n = degree[c] as usize;
-    for i in 0..n {
-        let x = wide(near[first + i]);
+    for i in 0..row.len() {
+        let x = wide(row[i]);
         if is_older(since[x], stamp) {
             return true;
         }
@@ -91,26 +80,27 @@ fn borders(near: &[u8], start: &[u16], degree: &[u16], c: usize, since: &[u16], 
     false
 }
 
-// Adds the cells of the points from `first` to before `end` that an older cell leads to: they were choke points when it was spread from.
+// Adds the cells of the points from `opens` to before `end` that an older cell leads to: they were choke points when it was spread from.
 fn rejoin(
     near: &[u8],
-    start: &[u16],
-    degree: &[u16],
+    begin: &[u16],
     cells: &[u8],
-    first: usize,
+    opens: usize,
     end: usize,
     since: &mut [u16],
     queue: &mut [u8],
     tail: usize,
     stamp: u16,
 ) -> usize
-    requires { ⌜ (0 < stamp) × Roomy (now since) (now queue) tail × (first ≤ end) × (end ≤ length (now cells)) × ((k : ℕ) → k < end → RowAt (now near) (now start) (now degree) (getD (now cells) k 0)) ⌝ }
-    ensures { λ r. ⌜ Grown stamp (Again (now (near .entry)) (now (start .entry)) (now (degree .entry)) (now (cells .entry)) first end (now (since .entry)) stamp) (now (since .entry)) (now (queue .entry)) tail (now (since .exit)) (now (queue .exit)) r ⌝ }
+    requires { ⌜ (0 < stamp) × Roomy (now since) (now queue) tail × (opens ≤ end) × (end ≤ length (now cells)) × ((floor : ℕ) × Rows floor (now near) (now begin) × ((k : ℕ) → k < end → getD (now cells) k 0 < floor)) ⌝ }
+    ensures { λ r. ⌜ Grown stamp (Again (now (near .entry)) (now (begin .entry)) (now (cells .entry)) opens end (now (since .entry)) stamp) (now (since .entry)) (now (queue .entry)) tail (now (since .exit)) (now (queue .exit)) r ⌝ }
 {
     let mut at = tail;
-    for k in first..end {
+    for k in opens..end {
         let c = wide(cells[k]);
-        if borders(near, start, degree, c, since, stamp) {
+        let a = begin[c] as usize;
+        let e = begin[c + 1] as usize;
+        if borders(&near[a..e], since, stamp) {
             at = add(since, queue, at, cells[k], stamp);
         }
     }
@@ -120,8 +110,7 @@ fn rejoin(
 // Adds what the older cells of the queue from `head` to before `end` lead to.
 fn advance(
     near: &[u8],
-    start: &[u16],
-    degree: &[u16],
+    begin: &[u16],
     since: &mut [u16],
     queue: &mut [u8],
     head: usize,
@@ -129,27 +118,28 @@ fn advance(
     tail: usize,
     stamp: u16,
 ) -> usize
-    requires { ⌜ (0 < stamp) × Roomy (now since) (now queue) tail × (head ≤ end) × (end ≤ tail) × ((v : ℕ) → Older (now since) stamp v → RowAt (now near) (now start) (now degree) v) ⌝ }
-    ensures { λ r. ⌜ Grown stamp (Onward (now (near .entry)) (now (start .entry)) (now (degree .entry)) (now (queue .entry)) head end (now (since .entry)) stamp) (now (since .entry)) (now (queue .entry)) tail (now (since .exit)) (now (queue .exit)) r ⌝ }
+    requires { ⌜ (0 < stamp) × Roomy (now since) (now queue) tail × (head ≤ end) × (end ≤ tail) × ((floor : ℕ) × Rows floor (now near) (now begin) × ((v : ℕ) → Older (now since) stamp v → v < floor)) ⌝ }
+    ensures { λ r. ⌜ Grown stamp (Onward (now (near .entry)) (now (begin .entry)) (now (queue .entry)) head end (now (since .entry)) stamp) (now (since .entry)) (now (queue .entry)) tail (now (since .exit)) (now (queue .exit)) r ⌝ }
 {
     let mut at = tail;
     for i in head..end {
         let u = wide(queue[i]);
         if is_older(since[u], stamp) {
-            at = spread(near, start, degree, u, since, queue, at, stamp);
+            let a = begin[u] as usize;
+            let e = begin[u + 1] as usize;
+            at = spread(&near[a..e], since, queue, at, stamp);
         }
     }
     at
 }
 
 // The next layer but for its choke points. A cart may stand, so the cells of the layer stay, and only two kinds of cells can add to it: those added at the last step,
-// which stand in the queue from `head` on, and the choke points of the last step, from `first` to before `end`.
+// which stand in the queue from `head` on, and the choke points of the last step, from `opens` to before `end`.
 pub fn grow(
     near: &[u8],
-    start: &[u16],
-    degree: &[u16],
+    begin: &[u16],
     cells: &[u8],
-    first: usize,
+    opens: usize,
     end: usize,
     since: &mut [u16],
     queue: &mut [u8],
@@ -157,37 +147,19 @@ pub fn grow(
     tail: usize,
     stamp: u16,
 ) -> usize
-    requires { ⌜ (0 < stamp) × Roomy (now since) (now queue) tail × (first ≤ end) × (end ≤ length (now cells)) × (head ≤ tail) × ((k : ℕ) → k < end → RowAt (now near) (now start) (now degree) (getD (now cells) k 0)) × ((v : ℕ) → Older (now since) stamp v → RowAt (now near) (now start) (now degree) v) ⌝ }
-    ensures { λ r. ⌜ Grown stamp (λ v. Again (now (near .entry)) (now (start .entry)) (now (degree .entry)) (now (cells .entry)) first end (now (since .entry)) stamp v ⊎ Onward (now (near .entry)) (now (start .entry)) (now (degree .entry)) (now (queue .entry)) head tail (now (since .entry)) stamp v) (now (since .entry)) (now (queue .entry)) tail (now (since .exit)) (now (queue .exit)) r ⌝ }
+    requires { ⌜ (0 < stamp) × Roomy (now since) (now queue) tail × (opens ≤ end) × (end ≤ length (now cells)) × (head ≤ tail) × ((floor : ℕ) × Rows floor (now near) (now begin) × ((k : ℕ) → k < end → getD (now cells) k 0 < floor) × ((v : ℕ) → Older (now since) stamp v → v < floor)) ⌝ }
+    ensures { λ r. ⌜ Grown stamp (λ v. Again (now (near .entry)) (now (begin .entry)) (now (cells .entry)) opens end (now (since .entry)) stamp v ⊎ Onward (now (near .entry)) (now (begin .entry)) (now (queue .entry)) head tail (now (since .entry)) stamp v) (now (since .entry)) (now (queue .entry)) tail (now (since .exit)) (now (queue .exit)) r ⌝ }
 {
-    let at = rejoin(
-        near,
-        start,
-        degree,
-        cells,
-        first,
-        end,
-        since,
-        queue,
-        tail,
-        stamp,
-    );
-    advance(near, start, degree, since, queue, head, tail, at, stamp)
+    let at = rejoin(near, begin, cells, opens, end, since, queue, tail, stamp);
+    advance(near, begin, since, queue, head, tail, at, stamp)
 }
 
-// Takes the choke points of step t out, which begin at `first`. Answers where those of later steps begin.
-pub fn choke(
-    cells: &[u8],
-    steps: &[u8],
-    n: usize,
-    t: usize,
-    first: usize,
-    since: &mut [u16],
-) -> usize
-    requires { ⌜ (n ≤ length (now cells)) × (n ≤ length (now steps)) × (length (now since) ≡ maxCells) × Climbs (now steps) n × Cursor (now steps) n t first ⌝ }
-    ensures { λ r. ⌜ (first ≤ r) × Cursor (now (steps .entry)) n (t + 1) r × Cleared (Between (now (cells .entry)) first r) (now (since .entry)) (now (since .exit)) × (members (now (since .entry)) + first ≤ members (now (since .exit)) + r) ⌝ }
+// Takes the choke points of step t out, which begin at `at`. Answers where those of later steps begin.
+pub fn close(cells: &[u8], steps: &[u8], n: usize, t: usize, at: usize, since: &mut [u16]) -> usize
+    requires { ⌜ (n ≤ length (now cells)) × (n ≤ length (now steps)) × (length (now since) ≡ maxCells) × Climbs (now steps) n × Cursor (now steps) n t at ⌝ }
+    ensures { λ r. ⌜ (at ≤ r) × Cursor (now (steps .entry)) n (t + 1) r × Cleared (Between (now (cells .entry)) at r) (now (since .entry)) (now (since .exit)) × (members (now (since .entry)) + at ≤ members (now (since .exit)) + r) ⌝ }
 {
-    let mut i = first;
+    let mut i = at;
     while i < n {
         if wide(steps[i]) != t {
             return i;

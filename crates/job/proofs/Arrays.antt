@@ -49,7 +49,7 @@ pub latest-suc : (ys : List ℕ) (k : ℕ) → latest (map (call 0) (take (k + 1
 latest-suc ys k = rw add-one (latest-front ys k)
 
 -- each of them is at most the largest
-latest-le : (ys : List ℕ) (n k : ℕ) → k < n → getD ys k 0 ≤ latest (map (call 0) (take n ys))
+pub latest-le : (ys : List ℕ) (n k : ℕ) → k < n → getD ys k 0 ≤ latest (map (call 0) (take n ys))
 latest-le [] n k h = omega arith
 latest-le (y ∷ ys) zero k h = absurd (omega arith)
 latest-le (y ∷ ys) (suc n) zero h = omega arith

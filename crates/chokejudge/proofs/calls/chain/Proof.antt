@@ -1,6 +1,6 @@
 -- `chain` puts each call behind the last one with its deadline. Invariant: the chains are those of the first k calls. The measure is what is left of the calls. Assumes nothing.
 use Rattle.model.specs.Limits.{maxSteps}
-use Rattle.network.proofs.TableLaws.{zeroed}
+use Rattle.floor.proofs.TableLaws.{zeroed}
 use Rattle.chokejudge.proofs.ChainLaws.{chains-more, chains-none}
 use denote.Ref.{now}
 use Rattle.chokejudge.specs.Chains.{Chains}

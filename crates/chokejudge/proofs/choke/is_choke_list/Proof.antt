@@ -1,14 +1,15 @@
 -- `is_choke_list` decides what no walk gets round: the points are in order, and no call is reached without standing on one. Assumes nothing.
-use Rattle.job.proofs.Arrays.{Whole, deadline-by, last-deadline, long, whole}
+use Rattle.job.specs.Arrays.{jobOf}
+use Rattle.job.proofs.Arrays.{Whole, long, whole}
 use Prim.Native.Nat.{_≤_}
 use native.Mathlib.Omega.{arith}
-use Rattle.chokejudge.proofs.ChokeLayers.{carts-known, chokes-right, chokes-wrong, floor-of, points-known}
+use Rattle.chokejudge.proofs.ChokeLayers.{carts-known, chokes-right, chokes-wrong, points-known}
 use Rattle.chokejudge.proofs.OrderLaws.{climbs, in-order}
 use lib.ListN.{length}
 use Rattle.model.proofs.Basics.{nope}
 use borrow.Author.Tests.{not-false, not-true}
 use denote.Ref.{now}
-use Rattle.network.proofs.JobTables.{tracks-of}
+use Rattle.floor.proofs.JobTables.{tracks-of, near-of}
 use borrow.Author.Needs.{needs}
 use Rattle.chokejudge.proofs.choke.is_choke_list.Statement.{statement}
 use Rattle.chokejudge.proofs.choke.is_choke_list.Tie as tie
@@ -29,8 +30,8 @@ returns c = (λ e. nope (cc), λ e r. then1→in-order c .in-order .ensures .1 (
 
 neighbours-requires : tie.Need-neighbours-requires
 neighbours-requires c κs =
-    let s = degree→start c in
-    (tracks-of (s .args .t1) (arrays s) (s .pre .0), s .pre .1 .tracks, s .pre .0 .fit .few-cells, search needs, search needs, search needs)
+    let s = begin→start c in
+    (tracks-of (s .args .t1) (arrays s) (s .pre .0), s .pre .1 .tracks, s .pre .0 .fit .few-cells, search needs, search needs)
 
 reaches-requires : tie.Need-reaches-requires
 reaches-requires c κs =
@@ -41,16 +42,14 @@ reaches-requires c κs =
     let steps = now (s .args .steps) in
     let h = enough-cells s in
     let g = enough-steps s in
-    let r = reaches-arg3→neighbours c .neighbours .ensures in (
+    let r = near-of (s .args .t1) w (reaches-arg3→neighbours c .neighbours .ensures) in (
       p .1 .carts,
       p .1 .calls,
-      reaches-arg3→horizon c .horizon .ensures .1,
       omega (arith, p .1 .calls, p .4),
       h,
       g,
       climbs cells steps (s .args .n) (in-order cells steps (s .args .n) h g .0 (reaches-arg3→in-order c .in-order .ensures .0 (not-false _ (reaches-arg3→else1 c .if1 .left)))),
-      λ k b. omega (arith, deadline-by (s .args .t1) w k b, last-deadline (s .args .t1) w, reaches-arg3→horizon c .horizon .ensures .0),
-      (s .args .t1 .cells, floor-of (s .args .t1) w (p .0) r, carts-known (s .args .t1) w (p .0) r, points-known (s .args .t1) w (p .0) r cells steps (s .args .n) h g (p .5)),
+      (jobOf (s .args .t1), r, carts-known (s .args .t1) w (p .0) r, points-known (s .args .t1) w (p .0) r cells steps (s .args .n) h g (p .5)),
     )
 
 returns-2 : tie.Need-returns-2
@@ -62,7 +61,7 @@ returns-2 c =
     let steps = now (s .args .steps) in
     let h = enough-cells s in
     let g = enough-steps s in
-    let r = reaches→neighbours c .neighbours .ensures in (
+    let r = near-of (s .args .t1) w (reaches→neighbours c .neighbours .ensures) in (
       λ e. chokes-right (s .args .t1) w (p .0) r cells steps (s .args .n) h g (p .5) (c .reaches .ensures .1 (not-true _ e)) (p .4)
           (reaches→in-order c .in-order .ensures .0 (not-false _ (reaches→else1 c .if1 .left))),
       λ e. chokes-wrong (s .args .t1) w (p .0) r cells steps (s .args .n) h g (c .reaches .ensures .0 (not-false _ e)),
@@ -72,5 +71,4 @@ pub is-choke-list-spec : {M : Type 1} → statement M
 is-choke-list-spec =
     tie.close
     (tie.spec
-    (λ c κs. search needs) returns (λ c κs. search needs) (λ c. search needs) (λ c. search needs) (λ c. search needs) neighbours-requires (λ c. search needs) (λ c. search needs)
-    (λ c. search needs) reaches-requires returns-2)
+    (λ c κs. search needs) returns (λ c. search needs) (λ c. search needs) neighbours-requires (λ c. search needs) (λ c. search needs) reaches-requires returns-2)

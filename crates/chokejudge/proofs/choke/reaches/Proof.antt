@@ -1,15 +1,17 @@
 -- `reaches` holds the layer of one step after the other. Invariant: the table is the layer of step t, and no call with a deadline before t was reached. The measure is what is
 -- left of the steps. Assumes nothing.
+use Rattle.model.specs.Job.{horizon}
 use mathlib.Core.Path.{_∙_}
 use Rattle.model.proofs.Basics.{nope}
-use Rattle.chokejudge.proofs.StepLaws.{Holding, Reached, holding-first, holding-next, met, older-row, roomy, unmet-more}
+use Rattle.chokejudge.proofs.StepLaws.{Holding, Reached, Unmet, holding-first, holding-next, met, older-known, roomy, unmet-more}
 use Prim.Native.Nat.{_+_, _-_, _<_, _≤_, ℕ}
 use native.Mathlib.Omega.{arith}
 use Rattle.chokejudge.proofs.ClearedLaws.{cursor-first}
 use lib.ListN.{getD}
 use Rattle.model.specs.Limits.{maxCells}
 use denote.Ref.{now}
-use Rattle.network.proofs.TableLaws.{zeros}
+use Rattle.job.proofs.Arrays.{latest-le}
+use Rattle.floor.proofs.TableLaws.{zeros}
 use borrow.Author.Needs.{needs}
 use Rattle.chokejudge.proofs.choke.reaches.Statement.{statement}
 use Rattle.chokejudge.proofs.choke.reaches.Tie as tie
@@ -17,26 +19,28 @@ mod Places
 use Places.*
 
 abbrev Inv-loop : tie.InvT-loop
-Inv-loop near start degree starts carts lifts deadlines calls last cells steps n latest before since₀ queue₀ head₀ tail₀ first₀ end₀ t₀ since queue head tail first end t = (t ≤ last + 1) × Holding near start degree starts carts cells steps n t since queue head tail first end × ((k : ℕ) → k < calls → getD deadlines k 0 < t → Reached near start degree starts carts cells steps n (getD deadlines k 0) (getD lifts k 0) → ⊥)
+Inv-loop near begin starts carts lifts deadlines calls cells steps n last latest before since₀ queue₀ head₀ tail₀ opens₀ end₀ t₀ since queue head tail opens end t =
+    (t ≤ last + 1) × Holding near begin starts carts cells steps n t since queue head tail opens end
+    × Unmet (Reached near begin starts carts cells steps n) lifts deadlines calls t
 
 abbrev μ-loop : tie.MeasureT-loop
-μ-loop near start degree starts carts lifts deadlines calls last cells steps n latest before since₀ queue₀ head₀ tail₀ first₀ end₀ t₀ since queue head tail first end t = last + 1 - t
+μ-loop near begin starts carts lifts deadlines calls cells steps n last latest before since₀ queue₀ head₀ tail₀ opens₀ end₀ t₀ since queue head tail opens end t = last + 1 - t
 
 place-requires : tie.Need-place-requires Inv-loop μ-loop
 place-requires c κs = (queue→start c .pre .0, record { cells = search needs; places = search needs; ends = omega arith })
 
-choke-requires : tie.Need-choke-requires Inv-loop μ-loop
-choke-requires c κs =
+close-requires : tie.Need-close-requires Inv-loop μ-loop
+close-requires c κs =
     let p = since3→start c .pre in
-    (p .4, p .5, since3→place c .place .ensures .cells, p .6, cursor-first (now (since3→start c .args .steps)) (since3→start c .args .n))
+    (p .3, p .4, since3→place c .place .ensures .cells, p .5, cursor-first (now (since3→start c .args .steps)) (since3→start c .args .n))
 
 loop-holds : tie.Need-loop-holds Inv-loop μ-loop
-loop-holds c = (omega arith, holding-first (zeros maxCells) (search needs) (search needs) (since4→place c .place .ensures) (since4→choke c .choke .ensures), λ k h l. absurd (omega arith))
+loop-holds c = (omega arith, holding-first (zeros maxCells) (search needs) (search needs) (since4→place c .place .ensures) (since4→close c .close .ensures), λ k h l. absurd (omega arith))
 
-meets-requires : tie.Need-meets-requires Inv-loop μ-loop
-meets-requires c κs =
+has-due-requires : tie.Need-has-due-requires Inv-loop μ-loop
+has-due-requires c κs =
     let p = since5→start c .pre in (
-      omega (arith, since5→in-loop c .loop-test .taken, p .2),
+      omega (arith, since5→in-loop c .loop-test .taken, since5→horizon c .horizon .ensures .1),
       since5→loop c .loop .inv .1 .size,
       (now (since5→start c .args .deadlines), since5→start c .args .calls, p .1, since5→chain c .chain .ensures),
     )
@@ -45,7 +49,7 @@ returns : tie.Need-returns Inv-loop μ-loop
 returns c =
     let a = then1→start c .args in (
       λ e. met (then1→loop c .loop .inv .1) (now (a .lifts)) (now (a .deadlines)) (a .calls)
-          (then1→meets c .meets .ensures (now (a .deadlines)) (a .calls) (then1→start c .pre .1, then1→chain c .chain .ensures) .0 (c .if1 .taken)),
+          (then1→has-due c .has-due .ensures (now (a .deadlines)) (a .calls) (then1→start c .pre .1, then1→chain c .chain .ensures) .0 (c .if1 .taken)),
       λ e. nope (cc),
     )
 
@@ -54,19 +58,18 @@ grow-requires c κs =
     let p = queue3→start c .pre in
     let h = queue3→loop c .loop .inv .1 in (
       omega arith,
-      roomy h (p .3),
+      roomy h (p .2),
       h .points,
-      omega (arith, h .to .few, p .4),
+      omega (arith, h .to .few, p .3),
       h .queued,
-      λ k b. p .8 .1 .reads (getD (now (queue3→start c .args .cells)) k 0) (p .8 .3 k (omega (arith, h .to .few))),
-      older-row h (p .8 .1) (p .8 .2),
+      (p .6 .0 .cells, p .6 .1 .rows, λ k b. p .6 .3 k (omega (arith, h .to .few)), older-known h (p .6 .1) (p .6 .2)),
     )
 
-choke-requires-2 : tie.Need-choke-requires-2 Inv-loop μ-loop
-choke-requires-2 c κs =
+close-requires-2 : tie.Need-close-requires-2 Inv-loop μ-loop
+close-requires-2 c κs =
     let p = since8→start c .pre in
     let h = since8→loop c .loop .inv .1 in
-    (p .4, p .5, since8→grow c .grow .ensures .cells ∙ h .size, p .6, h .to)
+    (p .3, p .4, since8→grow c .grow .ensures .cells ∙ h .size, p .5, h .to)
 
 loop-again : tie.Need-loop-again Inv-loop μ-loop
 loop-again c =
@@ -75,21 +78,21 @@ loop-again c =
     let l = since9→loop c .loop in
     let h = l .inv .1 in (
       omega (arith, since9→in-loop c .loop-test .taken),
-      holding-next h (p .8 .1) (p .8 .2) (p .8 .3) (since9→grow c .grow .ensures) (since9→choke2 c .choke2 .ensures),
+      holding-next h (p .6 .1) (p .6 .2) (p .6 .3) (since9→grow c .grow .ensures) (since9→close2 c .close2 .ensures),
       unmet-more h (now (a .lifts)) (now (a .deadlines)) (a .calls)
-          (since9→meets c .meets .ensures (now (a .deadlines)) (a .calls) (p .1, since9→chain c .chain .ensures) .1 (since9→else1 c .if1 .left)) (l .inv .2),
+          (since9→has-due c .has-due .ensures (now (a .deadlines)) (a .calls) (p .1, since9→chain c .chain .ensures) .1 (since9→else1 c .if1 .left)) (l .inv .2),
     )
 
 returns-2 : tie.Need-returns-2 Inv-loop μ-loop
 returns-2 c =
-    let p = after-loop→start c .pre in
+    let a = after-loop→start c .args in
     let l = after-loop→loop c .loop in
-    (λ e. nope (cc), λ e m. l .inv .2 (m .0) (m .1) (omega (arith, p .7 (m .0) (m .1), c .loop-test .left)) (m .2))
+    (λ e. nope (cc), λ e m. l .inv .2 (m .0) (m .1) (omega (arith, latest-le (now (a .deadlines)) (a .calls) (m .0) (m .1), after-loop→horizon c .horizon .ensures .0, c .loop-test .left)) (m .2))
 
 pub reaches-spec : {M : Type 1} → statement M
 reaches-spec =
     tie.close
     (tie.spec
-    Inv-loop μ-loop (λ c. search needs) (λ c. search needs) (λ c κs. search needs) (λ c. search needs) (λ c. search needs) place-requires (λ c. search needs) choke-requires
-    loop-holds (λ c. search needs) (λ c. search needs) (λ c. search needs) meets-requires returns (λ c. search needs) (λ c. search needs) (λ c. search needs) (λ c. search needs)
-    (λ c. search needs) grow-requires (λ c. search needs) choke-requires-2 (λ c. search needs) loop-again returns-2)
+    Inv-loop μ-loop (λ c κs. search needs) (λ c. search needs) (λ c. search needs) (λ c κs. search needs) (λ c. search needs) (λ c. search needs) place-requires (λ c. search needs)
+    close-requires loop-holds (λ c. search needs) (λ c. search needs) (λ c. search needs) has-due-requires returns (λ c. search needs) (λ c. search needs) (λ c. search needs)
+    (λ c. search needs) (λ c. search needs) grow-requires (λ c. search needs) close-requires-2 (λ c. search needs) loop-again returns-2)

@@ -2,11 +2,11 @@
 -- added, and they come behind the end of the queue. The measure is what is left of the queue. Assumes nothing.
 use Rattle.chokejudge.specs.Grown.{Between, Grown, Older, Roomy}
 use mathlib.Core.List.{List}
-use Rattle.chokejudge.specs.ChokeLayers.{Row}
-use Prim.Native.Nat.{_-_, _≤_, ℕ}
+use Rattle.chokejudge.proofs.Ranges.{Side}
+use Prim.Native.Nat.{_+_, _-_, _≤_, _<_, ℕ}
 use mathlib.Core.Path.{_∙_, _≡_}
 use native.Mathlib.Omega.{arith}
-use Rattle.chokejudge.proofs.GrownLaws.{each-more, grown-as, grown-none, older-same, still-roomy, in-queue}
+use Rattle.chokejudge.proofs.GrownLaws.{Each, each-more, grown-as, grown-none, older-same, still-roomy, in-queue}
 use lib.ListN.{getD}
 use denote.Ref.{now}
 use mathlib.Core.Logic.{⊎-elim}
@@ -17,14 +17,15 @@ mod Places
 use Places.*
 
 -- what u leads to, where it is older
-abbrev Ahead : List ℕ → List ℕ → List ℕ → List ℕ → ℕ → ℕ → ℕ → Type 0
-Ahead near start degree l s u v = Older l s u × Row near start degree u v
+abbrev Ahead : List ℕ → List ℕ → List ℕ → ℕ → ℕ → ℕ → Type 0
+Ahead near begin l s u v = Older l s u × Side near begin u v
 
 abbrev Inv-loop : tie.InvT-loop
-Inv-loop near start degree since₀ queue₀ head end tail stamp at₀ i₀ since queue at i = (head ≤ i) × (i ≤ end) × Grown stamp (λ v. (u : ℕ) × Between queue₀ head i u × Ahead near start degree since₀ stamp u v) since₀ queue₀ tail since queue at × Roomy since queue at
+Inv-loop near begin since₀ queue₀ head end tail stamp at₀ i₀ since queue at i =
+    (head ≤ i) × (i ≤ end) × Grown stamp (Each queue₀ head i (Ahead near begin since₀ stamp)) since₀ queue₀ tail since queue at × Roomy since queue at
 
 abbrev μ-loop : tie.MeasureT-loop
-μ-loop near start degree since₀ queue₀ head end tail stamp at₀ i₀ since queue at i = end - i
+μ-loop near begin since₀ queue₀ head end tail stamp at₀ i₀ since queue at i = end - i
 
 loop-holds : tie.Need-loop-holds Inv-loop μ-loop
 loop-holds c =
@@ -34,37 +35,60 @@ loop-holds c =
 slice-read-wide : tie.Need-slice-read-wide Inv-loop μ-loop
 slice-read-wide c = omega (arith, in-queue (slice-known3→loop c .loop .inv .3), slice-known3→loop c .loop .inv .2 .more, slice-known3→start c .pre .3, slice-known3→in-loop c .loop-test .taken)
 
+shared-slice-read-a : tie.Need-shared-slice-read-a Inv-loop μ-loop
+shared-slice-read-a c = omega (arith, shared-slice-known3→wide c .wide .ensures .1, shared-slice-known3→start c .pre .4 .1 .begins)
+
+cast-a : tie.Need-cast-a Inv-loop μ-loop
+cast-a c = omega (arith, c .shared-slice-known3 .given (shared-slice-known3→wide c .wide .result))
+
+shared-slice-read-e : tie.Need-shared-slice-read-e Inv-loop μ-loop
+shared-slice-read-e c = omega (arith, shared-slice-known4→wide c .wide .ensures .1, shared-slice-known4→start c .pre .4 .1 .begins)
+
+cast-e : tie.Need-cast-e Inv-loop μ-loop
+cast-e c = omega (arith, c .shared-slice-known4 .given (shared-slice-known4→wide c .wide .result + 1))
+
+known : (c : tie.After-shared-slice-known4 Inv-loop μ-loop) → shared-slice-known4→wide c .wide .result < shared-slice-known4→start c .pre .4 .0
+known c =
+    shared-slice-known4→start c .pre .4 .2 (shared-slice-known4→wide c .wide .result)
+    (older-same (shared-slice-known4→loop c .loop .inv .2) (shared-slice-known4→wide c .wide .result) .0
+    (shared-slice-known4→is-older c .is-older .ensures .0 (shared-slice-known4→then1 c .if1 .taken)))
+
+sub-spread : tie.Need-sub-spread Inv-loop μ-loop
+sub-spread c = omega (arith, shared-slice-known4→start c .pre .4 .1 .climbs _ (known c), shared-slice-known4→start c .pre .4 .1 .fits _ (known c), shared-slice-known4→start c .pre .4 .1 .size)
+
+part-spread-start : tie.Need-part-spread-start Inv-loop μ-loop
+part-spread-start c = omega (arith, shared-slice-known4→start c .pre .4 .1 .climbs _ (known c), shared-slice-known4→start c .pre .4 .1 .fits _ (known c), shared-slice-known4→start c .pre .4 .1 .size)
+
+part-spread-end : tie.Need-part-spread-end Inv-loop μ-loop
+part-spread-end c = omega (arith, shared-slice-known4→start c .pre .4 .1 .climbs _ (known c), shared-slice-known4→start c .pre .4 .1 .fits _ (known c), shared-slice-known4→start c .pre .4 .1 .size)
+
 spread-requires : tie.Need-spread-requires Inv-loop μ-loop
-spread-requires c κs = (
-  spread-arg2→start c .pre .0,
-  spread-arg2→loop c .loop .inv .3,
-  spread-arg2→start c .pre .4 (spread-arg2→wide c .wide .result)
-      (older-same (spread-arg2→loop c .loop .inv .2) (spread-arg2→wide c .wide .result) .0 (spread-arg2→is-older c .is-older .ensures .0 (spread-arg2→then1 c .if1 .taken))),
-)
+spread-requires c κs = (spread-arg3→start c .pre .0, spread-arg3→loop c .loop .inv .3)
 
 loop-again : tie.Need-loop-again Inv-loop μ-loop
 loop-again c =
-    let a = c .before .before .before .before .before .before .before .before .before .before .before .before .args in
-    let l = c .before .before .before .before .before .before .loop in
+    let a = joined1→start c .args in
+    let l = joined1→loop c .loop in
     let g = l .inv .2 in
-    let e : c .before .before .before .wide .result ≡ getD (now (a .queue)) (l .i) 0 = c .before .before .before .wide .ensures .0
-    ∙ g .front (l .i) (omega (arith, c .before .before .before .before .before .before .before .before .before .before .before .before .pre .3)) in
+    let u = c .before .before .before .wide in
+    let e : u .result ≡ getD (now (a .queue)) (l .i) 0 = u .ensures .0 ∙ g .front (l .i) (omega (arith, joined1→start c .pre .3)) in
     let o = c .before .is-older .ensures in
+    let S = Ahead (now (a .near)) (now (a .begin)) (now (a .since)) (a .stamp) in
     ⊎-elim
     (λ w. (
       omega arith,
       omega arith,
-      rw (w .8, w .9, w .10)
-          (each-more (now (a .queue)) (Ahead (now (a .near)) (now (a .start)) (now (a .degree)) (now (a .since)) (a .stamp)) (a .head) (l .i) (l .inv .0) g
-          (grown-as (λ v. (λ q. (rw e at (older-same g (c .before .before .before .wide .result) .0 (o .0 (w .0 .taken))), rw e at q), λ q. rw e (q .1))) (w .3 .ensures))),
-      rw (w .8, w .9, w .10) (still-roomy (w .3 .ensures) (l .inv .3)),
+      rw (w .11, w .12, w .13)
+          (each-more (now (a .queue)) S (a .head) (l .i) (l .inv .0) g
+          (grown-as (λ v. (λ q. (rw e at (older-same g (u .result) .0 (o .0 (w .0 .taken))), rw e at q), λ q. rw e (q .1))) (w .6 .ensures))),
+      rw (w .11, w .12, w .13) (still-roomy (w .6 .ensures) (l .inv .3)),
     ))
     (λ w. (
       omega arith,
       omega arith,
       rw (w .1, w .2, w .3)
-          (each-more (now (a .queue)) (Ahead (now (a .near)) (now (a .start)) (now (a .degree)) (now (a .since)) (a .stamp)) (a .head) (l .i) (l .inv .0) g
-          (grown-none (a .stamp) (l .since) (l .queue) (l .at) (λ v q. absurd (o .1 (w .0 .left) (older-same g (c .before .before .before .wide .result) .1 (rw e (q .0))))))),
+          (each-more (now (a .queue)) S (a .head) (l .i) (l .inv .0) g
+          (grown-none (a .stamp) (l .since) (l .queue) (l .at) (λ v q. absurd (o .1 (w .0 .left) (older-same g (u .result) .1 (rw e (q .0))))))),
       rw (w .1, w .2, w .3) (l .inv .3),
     ))
     (c .if1 .came)
@@ -78,5 +102,6 @@ pub advance-spec : {M : Type 1} → statement M
 advance-spec =
     tie.close
     (tie.spec
-    Inv-loop μ-loop loop-holds slice-read-wide (λ c κs. search needs) (λ c. search needs) (λ c. search needs) (λ c κs. search needs) spread-requires (λ c. search needs)
-    (λ c. search needs) loop-again (λ c. search needs) (λ c. search needs) returns)
+    Inv-loop μ-loop loop-holds slice-read-wide (λ c κs. search needs) (λ c. search needs) (λ c. search needs) (λ c κs. search needs) (λ c. search needs) shared-slice-read-a cast-a
+    (λ c. search needs) (λ c. search needs) shared-slice-read-e cast-e sub-spread part-spread-start part-spread-end spread-requires (λ c. search needs) (λ c. search needs)
+    loop-again (λ c. search needs) (λ c. search needs) returns)

@@ -1,12 +1,13 @@
--- `rejoin` adds each of the points whose row has an older cell. Invariant: those from `first` to before k were looked at. What is older stays so, since only cells of this stamp
+-- `rejoin` adds each of the points whose row has an older cell. Invariant: those from `opens` to before k were looked at. What is older stays so, since only cells of this stamp
 -- are added. The measure is what is left of the points. Assumes nothing.
+use Rattle.floor.proofs.OrderLaws.{same}
 use Rattle.chokejudge.specs.Grown.{Between, Grown, Older, Roomy}
 use mathlib.Core.List.{List}
-use Rattle.chokejudge.specs.ChokeLayers.{Row}
-use Prim.Native.Nat.{_-_, _≤_, ℕ}
+use Rattle.chokejudge.proofs.Ranges.{Side}
+use Prim.Native.Nat.{_+_, _-_, _≤_, _<_, ℕ}
 use mathlib.Core.Path.{_≡_}
 use native.Mathlib.Omega.{arith}
-use Rattle.chokejudge.proofs.GrownLaws.{each-more, grown-as, grown-none, older-some, still-roomy, themselves}
+use Rattle.chokejudge.proofs.GrownLaws.{Each, each-more, grown-as, grown-none, older-some, still-roomy, themselves}
 use lib.ListN.{getD}
 use denote.Ref.{now}
 use mathlib.Core.Logic.{⊎-elim}
@@ -17,26 +18,50 @@ mod Places
 use Places.*
 
 -- u itself, where its row has an older cell
-abbrev Back : List ℕ → List ℕ → List ℕ → List ℕ → ℕ → ℕ → ℕ → Type 0
-Back near start degree l s u v = ((x : ℕ) × Row near start degree u x × Older l s x) × (v ≡ u)
+abbrev Back : List ℕ → List ℕ → List ℕ → ℕ → ℕ → ℕ → Type 0
+Back near begin l s u v = ((x : ℕ) × Side near begin u x × Older l s x) × (v ≡ u)
 
 abbrev Inv-loop : tie.InvT-loop
-Inv-loop near start degree cells first end since₀ queue₀ tail stamp at₀ k₀ since queue at k = (first ≤ k) × (k ≤ end) × Grown stamp (λ v. (u : ℕ) × Between cells first k u × Back near start degree since₀ stamp u v) since₀ queue₀ tail since queue at × Roomy since queue at
+Inv-loop near begin cells opens end since₀ queue₀ tail stamp at₀ k₀ since queue at k =
+    (opens ≤ k) × (k ≤ end) × Grown stamp (Each cells opens k (Back near begin since₀ stamp)) since₀ queue₀ tail since queue at × Roomy since queue at
 
 abbrev μ-loop : tie.MeasureT-loop
-μ-loop near start degree cells first end since₀ queue₀ tail stamp at₀ k₀ since queue at k = end - k
+μ-loop near begin cells opens end since₀ queue₀ tail stamp at₀ k₀ since queue at k = end - k
 
 loop-holds : tie.Need-loop-holds Inv-loop μ-loop
 loop-holds c =
     let a = slice-known2→start c .args in
     (omega arith, slice-known2→start c .pre .2, grown-none (a .stamp) (now (a .since)) (now (a .queue)) (a .tail) (λ v p. absurd (omega (arith, p .1 .1, p .1 .2))), slice-known2→start c .pre .1)
 
+shared-slice-read-a : tie.Need-shared-slice-read-a Inv-loop μ-loop
+shared-slice-read-a c = omega (arith, shared-slice-known5→wide c .wide .ensures .1, shared-slice-known5→start c .pre .4 .1 .begins)
+
+cast-a : tie.Need-cast-a Inv-loop μ-loop
+cast-a c = omega (arith, c .shared-slice-known5 .given (shared-slice-known5→wide c .wide .result))
+
+shared-slice-read-e : tie.Need-shared-slice-read-e Inv-loop μ-loop
+shared-slice-read-e c = omega (arith, shared-slice-known6→wide c .wide .ensures .1, shared-slice-known6→start c .pre .4 .1 .begins)
+
+cast-e : tie.Need-cast-e Inv-loop μ-loop
+cast-e c = omega (arith, c .shared-slice-known6 .given (shared-slice-known6→wide c .wide .result + 1))
+
+known : (c : tie.After-shared-slice-known6 Inv-loop μ-loop) → shared-slice-known6→wide c .wide .result < shared-slice-known6→start c .pre .4 .0
+known c = omega (arith, shared-slice-known6→wide c .wide .ensures .0, shared-slice-known6→start c .pre .4 .2 (shared-slice-known6→loop c .loop .k) (shared-slice-known6→in-loop c .loop-test .taken))
+
+sub-borders : tie.Need-sub-borders Inv-loop μ-loop
+sub-borders c = omega (arith, shared-slice-known6→start c .pre .4 .1 .climbs _ (known c), shared-slice-known6→start c .pre .4 .1 .fits _ (known c), shared-slice-known6→start c .pre .4 .1 .size)
+
+part-borders-start : tie.Need-part-borders-start Inv-loop μ-loop
+part-borders-start c = omega (arith, shared-slice-known6→start c .pre .4 .1 .climbs _ (known c), shared-slice-known6→start c .pre .4 .1 .fits _ (known c), shared-slice-known6→start c .pre .4 .1 .size)
+
+part-borders-end : tie.Need-part-borders-end Inv-loop μ-loop
+part-borders-end c = omega (arith, shared-slice-known6→start c .pre .4 .1 .climbs _ (known c), shared-slice-known6→start c .pre .4 .1 .fits _ (known c), shared-slice-known6→start c .pre .4 .1 .size)
+
 borders-requires : tie.Need-borders-requires Inv-loop μ-loop
-borders-requires c κs =
-    (borders-arg→loop c .loop .inv .3 .cells, rw (borders-arg→wide c .wide .ensures .0) (borders-arg→start c .pre .4 (borders-arg→loop c .loop .k) (borders-arg→in-loop c .loop-test .taken)))
+borders-requires c κs = borders-arg2→loop c .loop .inv .3 .cells
 
 add-requires : tie.Need-add-requires Inv-loop μ-loop
-add-requires c κs = (shared-slice-known6→start c .pre .0, shared-slice-known6→loop c .loop .inv .3)
+add-requires c κs = (shared-slice-known7→start c .pre .0, shared-slice-known7→loop c .loop .inv .3)
 
 loop-again : tie.Need-loop-again Inv-loop μ-loop
 loop-again c =
@@ -45,13 +70,14 @@ loop-again c =
     let g = l .inv .2 in
     let e = joined1→wide c .wide .ensures .0 in
     let b = rw e at (c .before .borders .ensures) in
-    let same = older-some g (Row (now (a .near)) (now (a .start)) (now (a .degree)) (getD (now (a .cells)) (l .k) 0)) in
+    let S = Back (now (a .near)) (now (a .begin)) (now (a .since)) (a .stamp) in
+    let same = older-some g (Side (now (a .near)) (now (a .begin)) (getD (now (a .cells)) (l .k) 0)) in
     ⊎-elim
     (λ w. (
       omega arith,
       omega arith,
       rw (w .9, w .10, w .11)
-          (each-more (now (a .cells)) (Back (now (a .near)) (now (a .start)) (now (a .degree)) (now (a .since)) (a .stamp)) (a .first) (l .k) (l .inv .0) g
+          (each-more (now (a .cells)) S (a .opens) (l .k) (l .inv .0) g
           (grown-as (λ v. (λ q. (same .0 (b .0 (w .0 .taken)), q), λ q. q .1)) (w .4 .ensures))),
       rw (w .9, w .10, w .11) (still-roomy (w .4 .ensures) (l .inv .3)),
     ))
@@ -59,7 +85,7 @@ loop-again c =
       omega arith,
       omega arith,
       rw (w .1, w .2, w .3)
-          (each-more (now (a .cells)) (Back (now (a .near)) (now (a .start)) (now (a .degree)) (now (a .since)) (a .stamp)) (a .first) (l .k) (l .inv .0) g
+          (each-more (now (a .cells)) S (a .opens) (l .k) (l .inv .0) g
           (grown-none (a .stamp) (l .since) (l .queue) (l .at) (λ v q. absurd (b .1 (w .0 .left) (same .1 (q .0)))))),
       rw (w .1, w .2, w .3) (l .inv .3),
     ))
@@ -69,11 +95,12 @@ returns : tie.Need-returns Inv-loop μ-loop
 returns c =
     let a = after-loop→start c .args in
     let e : after-loop→loop c .loop .k ≡ a .end = omega arith in
-    themselves (Between (now (a .cells)) (a .first) (a .end)) (λ u. (x : ℕ) × Row (now (a .near)) (now (a .start)) (now (a .degree)) u x × Older (now (a .since)) (a .stamp) x) (rw e at (c .before .loop .inv .2))
+    themselves (Between (now (a .cells)) (a .opens) (a .end)) (λ u. (x : ℕ) × Side (now (a .near)) (now (a .begin)) u x × Older (now (a .since)) (a .stamp) x) (rw e at (c .before .loop .inv .2))
 
 pub rejoin-spec : {M : Type 1} → statement M
 rejoin-spec =
     tie.close
     (tie.spec
-    Inv-loop μ-loop loop-holds (λ c. search needs) (λ c κs. search needs) borders-requires (λ c. search needs) add-requires (λ c. search needs) (λ c. search needs) loop-again
-    (λ c. search needs) (λ c. search needs) returns)
+    Inv-loop μ-loop loop-holds (λ c. search needs) (λ c κs. search needs) (λ c. search needs) shared-slice-read-a cast-a (λ c. search needs) (λ c. search needs) shared-slice-read-e
+    cast-e sub-borders part-borders-start part-borders-end borders-requires (λ c. search needs) add-requires (λ c. search needs) (λ c. search needs) loop-again (λ c. search needs)
+    (λ c. search needs) returns)

@@ -1,29 +1,24 @@
 -- The earlier places that the proof of `is_choke_list` names: `x→y c` is what is known at y, seen from the place x.
 -- Made of the code by proof-names, which reads the lists below when the code has changed.
 -- All places in the code's order, each behind the one in front of it; where it is behind another, `X<Y` names that:
--- Start After-shared-slice-known After-shared-slice-known2 After-in-order Then1 Else1<After-in-order After-job After-horizon-arg After-horizon After-job2 After-neighbours-arg
--- After-neighbours-arg2 After-near After-start After-degree After-neighbours After-near2 After-start2 After-degree2 After-near3 After-start3 After-degree3 After-job3
--- After-reaches-arg After-reaches-arg2 After-reaches-arg3 After-reaches
+-- Start After-shared-slice-known After-shared-slice-known2 After-in-order Then1 Else1<After-in-order After-job After-neighbours-arg After-neighbours-arg2 After-near After-begin
+-- After-neighbours After-near2 After-begin2 After-near3 After-begin3 After-job2 After-reaches-arg After-reaches-arg2 After-reaches-arg3 After-reaches
 -- The needs, each with its place:
--- in-order-requires@After-shared-slice-known2 returns@Then1 horizon-requires@After-horizon-arg slice-aggregate-neighbours@After-near slice-aggregate-neighbours-2@After-start
--- slice-aggregate-neighbours-3@After-degree neighbours-requires@After-degree slice-aggregate-reaches@After-near3 slice-aggregate-reaches-2@After-start3
--- slice-aggregate-reaches-3@After-degree3 reaches-requires@After-reaches-arg3 returns-2@After-reaches
+-- in-order-requires@After-shared-slice-known2 returns@Then1 slice-aggregate-neighbours@After-near slice-aggregate-neighbours-2@After-begin neighbours-requires@After-begin
+-- slice-aggregate-reaches@After-near3 slice-aggregate-reaches-2@After-begin3 reaches-requires@After-reaches-arg3 returns-2@After-reaches
 use Rattle.chokejudge.proofs.choke.is_choke_list.Tie as tie
 
 abbrev pub then1→in-order : tie.Then1 → tie.After-in-order
 then1→in-order c = c .before
 
-abbrev pub degree→start : tie.After-degree → tie.Start
-degree→start c = c .before .before .before .before .before .before .before .before .before .before .before .before .before
+abbrev pub begin→start : tie.After-begin → tie.Start
+begin→start c = c .before .before .before .before .before .before .before .before .before
 
 abbrev pub reaches-arg3→neighbours : tie.After-reaches-arg3 → tie.After-neighbours
-reaches-arg3→neighbours c = c .before .before .before .before .before .before .before .before .before .before
-
-abbrev pub reaches-arg3→horizon : tie.After-reaches-arg3 → tie.After-horizon
-reaches-arg3→horizon c = reaches-arg3→neighbours c .before .before .before .before .before .before .before
+reaches-arg3→neighbours c = c .before .before .before .before .before .before .before .before
 
 abbrev pub reaches-arg3→else1 : tie.After-reaches-arg3 → tie.Else1
-reaches-arg3→else1 c = reaches-arg3→horizon c .before .before .before
+reaches-arg3→else1 c = reaches-arg3→neighbours c .before .before .before .before .before .before
 
 abbrev pub reaches-arg3→in-order : tie.After-reaches-arg3 → tie.After-in-order
 reaches-arg3→in-order c = reaches-arg3→else1 c .before
