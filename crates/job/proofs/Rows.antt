@@ -7,6 +7,7 @@ use native.Mathlib.Omega.{arith}
 use native.Mathlib.Numerals.{add-one}
 use lib.ListN.{length, getD, take, drop, set, List·getD-append, length-append, length-set}
 use lib.Seq.{drop-at, length-take-le, getD-set-same, getD-set-other, take-append-le, getD-at}
+use borrow.Author.Count.{below-more}
 use borrow.Rule.Slice.PartMut.{mid-len, same-len-mid}
 use Rattle.model.specs.Limits.{maxCalls, maxSteps}
 use Rattle.model.specs.Lists.{In}
@@ -39,6 +40,9 @@ module _ {first second lasts rows : List ℕ} (room : Room first second lasts ro
     steps = simp length-set (room .steps);
     cells = same-len-mid (k * maxSteps) (k * maxSteps + maxSteps - k * maxSteps) rows row size ∙ room .cells;
   }
+
+  pub short-more : ((i : ℕ) → i < k → getD lasts i 0 < maxSteps) → d < maxSteps → (i : ℕ) → i < k + 1 → getD (set lasts k d) i 0 < maxSteps
+  short-more short h = below-more _ k (λ i l. rw (getD-set-other lasts k i d 0 (λ e. omega arith)) (short i l)) (rw (getD-set-same lasts k d 0 (omega arith)) h)
 
   pub path-kept : (i : ℕ) → i < k → getD lasts i 0 < maxSteps
       → pathAt (set first k a) (set second k b) (set lasts k d) (withRow rows k row) i ≡ pathAt first second lasts rows i
