@@ -1,4 +1,2 @@
-// The graph of a job and the tables of its floor.
+// The graph of a job.
 pub mod aim;
-pub mod order;
-pub mod tables;
