@@ -4,7 +4,7 @@ use Rattle.planjudge.specs.PlanTests.{Standing, cellOf}
 use Prim.Native.Nat.{_-_, _<_, _≤_}
 use mathlib.Core.Path.{_≡_, _∙_}
 use native.Mathlib.Omega.{arith}
-use Rattle.planjudge.proofs.PlanSteps.{denied, standing-apart, standing-none, standing-taken, told, standing-left, standing-more}
+use Rattle.planjudge.proofs.PlanSteps.{denied, standing-unshared, standing-none, standing-taken, told, standing-left, standing-more}
 use mathlib.Core.Bool.{false≢true}
 use lib.ListN.{getD, length, length-set, set}
 use Rattle.model.specs.Limits.{maxCells, maxCalls}
@@ -24,14 +24,17 @@ abbrev μ-loop : tie.MeasureT-loop
 
 loop-holds : tie.Need-loop-holds Inv-loop μ-loop
 loop-holds c =
-    let a = shared-slice-known→start c .args in
-    (omega arith, shared-slice-known→start c .pre .3, standing-none (now (a .last)) (now (a .rows)) (a .t) (now (a .on)) (shared-slice-known→start c .pre .4))
+    let a = shared-slice-known2→start c .args in (
+      omega arith,
+      shared-slice-known2→start c .pre .2,
+      standing-none (now (a .lasts)) (now (a .rows)) (a .t) (now (a .on)) (shared-slice-known2→start c .pre .3),
+    )
 
 returns : tie.Need-returns Inv-loop μ-loop
 returns c =
-    let a = c .before .before .before .before .before .before .before .before .before .args in
+    let a = c .before .before .before .before .before .before .before .before .before .before .args in
     let l = c .before .before .before .before .before .before .before .loop in
-    let last = now (a .last) in
+    let last = now (a .lasts) in
     let rows = now (a .rows) in
     let x : c .before .before .cell .result ≡ cellOf rows (l .k) (a .t) = c .before .before .cell .ensures .0 in
     let d : c .before .before .before .before .wide .result ≡ getD last (l .k) 0 = c .before .before .before .before .wide .ensures .0 in
@@ -47,7 +50,7 @@ loop-again : tie.Need-loop-again Inv-loop μ-loop
 loop-again c =
     let a = joined1→start c .args in
     let l = joined1→loop c .loop in
-    let last = now (a .last) in
+    let last = now (a .lasts) in
     let rows = now (a .rows) in
     let d : joined1→wide c .wide .result ≡ getD last (l .k) 0 = joined1→wide c .wide .ensures .0 in
     ⊎-elim
@@ -68,11 +71,11 @@ loop-again c =
 
 returns-2 : tie.Need-returns-2 Inv-loop μ-loop
 returns-2 c =
-    let a = c .before .before .before .args in
+    let a = c .before .before .before .before .args in
     let l = c .before .loop in
     let e : l .k ≡ a .n = omega arith in
-    let s : Standing (now (a .last)) (now (a .rows)) (a .n) (a .t) (l .on) = rw e at (l .inv .2) in
-    (told (standing-apart (now (a .last)) (now (a .rows)) (a .t) (a .n) (l .on) s), λ e. s)
+    let s : Standing (now (a .lasts)) (now (a .rows)) (a .n) (a .t) (l .on) = rw e at (l .inv .2) in
+    (told (standing-unshared (now (a .lasts)) (now (a .rows)) (a .t) (a .n) (l .on) s), λ e. s)
 
 pub stand-spec : {M : Type 1} → statement M
 stand-spec =

@@ -1,12 +1,13 @@
 -- The earlier places that the proof of `all_lead` names: `x→y c` is what is known at y, seen from the place x.
 -- Made of the code by proof-names, which reads the lists below when the code has changed.
 -- All places in the code's order, each behind the one in front of it; where it is behind another, `X<Y` names that:
--- Start After-shared-slice-known After-shared-slice-known2 After-shared-slice-known3 At-loop In-loop After-loop<At-loop After-shared-slice-known4<In-loop After-wide
--- After-shared-slice-known5 After-wide2 After-wide-arg After-wide3 After-wide-arg2 After-wide4 After-wide-arg3 After-wide5 After-leads Then1 Else1<After-leads
+-- Start After-shared-slice-known After-shared-slice-known2 After-shared-slice-known3 After-shared-slice-known4 At-loop In-loop After-loop<At-loop After-shared-slice-known5<In-loop
+-- After-wide After-shared-slice-known6 After-wide2 After-shared-slice-known7 After-wide3 After-wide-arg After-wide4 After-wide-arg2 After-wide5 After-leads Then1 Else1<After-leads
 -- The needs, each with its place:
--- loop-holds@After-shared-slice-known3 shared-slice-read-wide@After-shared-slice-known4 wide-requires@After-shared-slice-known4 shared-slice-read-wide-2@After-shared-slice-known5
--- wide-requires-2@After-shared-slice-known5 element-copy-out-wide@After-wide2 wide-requires-3@After-wide-arg element-copy-out-wide-2@After-wide3 wide-requires-4@After-wide-arg2
--- element-copy-out-wide-3@After-wide4 wide-requires-5@After-wide-arg3 leads-requires@After-wide5 returns@Then1 add-k@Else1 loop-less@Else1 loop-again@Else1 returns-2@After-loop
+-- loop-holds@After-shared-slice-known4 shared-slice-read-wide@After-shared-slice-known5 wide-requires@After-shared-slice-known5 shared-slice-read-wide-2@After-shared-slice-known6
+-- wide-requires-2@After-shared-slice-known6 shared-slice-read-wide-3@After-shared-slice-known7 wide-requires-3@After-shared-slice-known7 element-copy-out-wide@After-wide3
+-- wide-requires-4@After-wide-arg element-copy-out-wide-2@After-wide4 wide-requires-5@After-wide-arg2 leads-requires@After-wide5 returns@Then1 add-k@Else1 loop-less@Else1
+-- loop-again@Else1 returns-2@After-loop
 -- Declarations that keep their `.before`, since antt rewrites in them:
 -- answer
 use Rattle.planjudge.proofs.plan.all_lead.Tie as tie
@@ -22,7 +23,7 @@ module _ {Inv : tie.InvT-loop} {μ : tie.MeasureT-loop} where
   wide3→loop c = wide3→wide c .before .before .before
 
   abbrev pub wide3→start : tie.After-wide3 Inv μ → tie.Start Inv μ
-  wide3→start c = wide3→loop c .before .before .before .before
+  wide3→start c = wide3→loop c .before .before .before .before .before
 
   abbrev pub wide4→wide2 : tie.After-wide4 Inv μ → tie.After-wide2 Inv μ
   wide4→wide2 c = c .before .before .before .before

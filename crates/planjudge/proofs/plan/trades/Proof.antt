@@ -1,15 +1,15 @@
--- `meets` decides whether another path goes the other way. Only the path that stands where path k goes can, and `on` has its number.
+-- `trades` decides whether another path goes the other way. Only the path that stands where path k goes can, and `on` has its number.
 -- Assumes nothing.
 use Prim.Native.Nat.{_+_}
 use mathlib.Core.Path.{_∙_, _≡_, ap, sym}
 use native.Mathlib.Omega.{arith}
-use Rattle.planjudge.proofs.PlanSteps.{by-equal, denied, Met, met, meets-of}
-use Rattle.planjudge.specs.PlanTests.{cellOf, Meets}
+use Rattle.planjudge.proofs.PlanSteps.{by-equal, denied, Met, met, trades-of}
+use Rattle.planjudge.specs.PlanTests.{cellOf, Trades}
 use lib.ListN.{getD}
 use denote.Ref.{now}
 use borrow.Author.Needs.{needs}
-use Rattle.planjudge.proofs.plan.meets.Statement.{statement}
-use Rattle.planjudge.proofs.plan.meets.Tie as tie
+use Rattle.planjudge.proofs.plan.trades.Statement.{statement}
+use Rattle.planjudge.proofs.plan.trades.Tie as tie
 mod Places
 use Places.*
 
@@ -18,10 +18,10 @@ seen : (c : tie.After-wide) → c .wide .result ≡ getD (now (wide→start c .a
 seen c = c .wide .ensures .0 ∙ ap (λ x. getD (now (wide→start c .args .on)) x 0) (wide→cell c .cell .ensures .0)
 
 found : (c : tie.After-wide) → let a = wide→start c .args in
-    Meets (now (a .last)) (now (a .rows)) (a .n) (a .t) (a .k) → Met (now (a .last)) (now (a .rows)) (a .t) (a .k) (c .wide .result)
+    Trades (now (a .lasts)) (now (a .rows)) (a .n) (a .t) (a .k) → Met (now (a .lasts)) (now (a .rows)) (a .t) (a .k) (c .wide .result)
 found c =
     let a = wide→start c .args in
-    met (now (a .last)) (now (a .rows)) (a .t) (a .n) (a .k) (now (a .on)) (wide→start c .pre .1) (wide→start c .pre .4) (c .wide .result) (seen c)
+    met (now (a .lasts)) (now (a .rows)) (a .t) (a .n) (a .k) (now (a .on)) (wide→start c .pre .0 .few) (wide→start c .pre .3) (c .wide .result) (seen c)
 
 returns : tie.Need-returns
 returns c = denied (λ m. omega (arith, found (then1→wide c) m .known))
@@ -41,7 +41,7 @@ returns-4 c =
     let there : cell3→cell2 c .cell2 .result ≡ cellOf rows o (a .t + 1) = cell3→cell2 c .cell2 .ensures .0 in
     let here : c .cell3 .result ≡ cellOf rows (a .k) (a .t) = c .cell3 .ensures .0 in
     by-equal (cell3→cell2 c .cell2 .result) (c .cell3 .result)
-    (λ h. meets-of (now (a .last)) rows (a .t) (a .n) (a .k) (now (a .on)) (cell3→start c .pre .1) (cell3→start c .pre .4) o (seen b)
+    (λ h. trades-of (now (a .lasts)) rows (a .t) (a .n) (a .k) (now (a .on)) (cell3→start c .pre .0 .few) (cell3→start c .pre .3) o (seen b)
     (omega (arith, cell3→cell c .cell .ensures .0, cell3→cell c .cell .ensures .1))
     (record {
       known =
@@ -52,8 +52,8 @@ returns-4 c =
     }))
     (λ m. there ∙ found b m .back ∙ sym here)
 
-pub meets-spec : {M : Type 1} → statement M
-meets-spec =
+pub trades-spec : {M : Type 1} → statement M
+trades-spec =
     tie.close
     (tie.spec
     (λ c. search needs) (λ c κs. search needs) (λ c. search needs) (λ c κs. search needs) returns returns-2 (λ c. search needs) (λ c κs. search needs) returns-3 (λ c. search needs)
