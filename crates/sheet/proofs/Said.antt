@@ -26,7 +26,8 @@ use Rattle.sheet.specs.Parts.{Found, numbersAt, onlyOf, hasTwo, behind, 
 use Rattle.sheet.proofs.Numbers.{past, numbers-cases, behind-more, behind-none}
 
 -- what f says where there are no two numbers
-without-two : {B : Type 0} (f : Option (List ℕ) → B) (x : B) → f none ≡ x → f (some []) ≡ x → ((a : ℕ) → f (some (a ∷ [])) ≡ x) → (o : Option (List ℕ)) → hasTwo o ≡ false → f o ≡ x
+without-two : {B : Type 0} (f : Option (List ℕ) → B) (x : B) → f none ≡ x → f (some []) ≡ x → ((a : ℕ) → f (some (a ∷ [])) ≡ x)
+    → (o : Option (List ℕ)) → hasTwo o ≡ false → f o ≡ x
 without-two f x p q r none e = p
 without-two f x p q r (some []) e = q
 without-two f x p q r (some (a ∷ [])) e = r a

@@ -19,7 +19,8 @@ mod Places
 use Places.*
 
 abbrev Inv-loop : tie.InvT-loop
-Inv-loop line at limit count out₀ i₀ p₀ out i p = (i ≤ count) × (p ≤ length line) × (length out ≡ length out₀) × (allBelow limit (take i out) ≡ true) × (numbersAt line at ≡ prefixed (take i out) (numbersAt line p))
+Inv-loop line at limit count out₀ i₀ p₀ out i p =
+    (i ≤ count) × (p ≤ length line) × (length out ≡ length out₀) × (allBelow limit (take i out) ≡ true) × (numbersAt line at ≡ prefixed (take i out) (numbersAt line p))
 
 abbrev μ-loop : tie.MeasureT-loop
 μ-loop line at limit count out₀ i₀ p₀ out i p = count - i

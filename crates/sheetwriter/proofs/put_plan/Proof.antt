@@ -53,7 +53,12 @@ put-path-requires c κs =
     let r = room-one (share (jobOf j)) (l .k) (j .calls) (l .p) (length (l .out)) h (l .inv .1) in (
       omega arith,
       omega arith,
-      omega (arith, r, part-short (jobOf j) _ _ _ _ (s .pre .3) (l .k) n (put-path-arg2→wide2 c .wide2 .ensures .0) (put-path-arg2→wide3 c .wide3 .ensures .0) (put-path-arg2→wide c .wide .ensures .0)),
+      omega (
+        arith,
+        r,
+        part-short (jobOf j) _ _ _ _ (s .pre .3) (l .k) n (put-path-arg2→wide2 c .wide2 .ensures .0)
+            (put-path-arg2→wide3 c .wide3 .ensures .0) (put-path-arg2→wide c .wide .ensures .0),
+      ),
     )
 
 loop-again : tie.Need-loop-again Inv-loop μ-loop

@@ -3,7 +3,6 @@
 use Rattle.job.specs.Held.{Decides}
 use Rattle.floor.specs.Order.{SoonerIn}
 use Prim.Native.Nat.{_+_, _-_, _<_, ℕ, _≤_}
-use mathlib.Core.Path.{_≡_}
 use native.Mathlib.Omega.{arith}
 use borrow.Author.Count.{below-more}
 use denote.Ref.{now}

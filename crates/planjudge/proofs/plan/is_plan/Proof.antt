@@ -14,7 +14,6 @@ use Prim.Native.Nat.{ℕ, _*_, _/_, _≤_}
 use mathlib.Core.Path.{ap}
 use Rattle.model.specs.Job.{horizon}
 use Rattle.job.specs.Arrays.{jobOf}
-use borrow.Author.Needs.{needs}
 use Rattle.planjudge.proofs.plan.is_plan.Statement.{statement}
 use Rattle.planjudge.proofs.plan.is_plan.Tie as tie
 mod Places

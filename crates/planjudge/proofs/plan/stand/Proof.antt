@@ -1,8 +1,8 @@
 -- `stand` decides whether two paths share a cell at a step, and otherwise leaves in `on` who is on which. Invariant: `on` has the paths below k,
 -- each on its own cell. The measure is the paths left. Assumes nothing.
 use Rattle.planjudge.specs.PlanTests.{Standing, cellOf}
-use Prim.Native.Nat.{_-_, _<_, _≤_}
-use mathlib.Core.Path.{_≡_, _∙_}
+use Prim.Native.Nat.{_-_, _≤_}
+use mathlib.Core.Path.{_≡_, _∙_, ap}
 use native.Mathlib.Omega.{arith}
 use Rattle.planjudge.proofs.PlanSteps.{denied, standing-unshared, standing-none, standing-taken, told, standing-left, standing-more}
 use mathlib.Core.Bool.{false≢true}
@@ -17,10 +17,10 @@ mod Places
 use Places.*
 
 abbrev Inv-loop : tie.InvT-loop
-Inv-loop last rows n t on₀ k₀ on k = (k ≤ n) × (length on ≡ maxCells) × Standing last rows k t on
+Inv-loop lasts rows n t on₀ k₀ on k = (k ≤ n) × (length on ≡ maxCells) × Standing lasts rows k t on
 
 abbrev μ-loop : tie.MeasureT-loop
-μ-loop last rows n t on₀ k₀ on k = n - k
+μ-loop lasts rows n t on₀ k₀ on k = n - k
 
 loop-holds : tie.Need-loop-holds Inv-loop μ-loop
 loop-holds c =
@@ -32,17 +32,13 @@ loop-holds c =
 
 returns : tie.Need-returns Inv-loop μ-loop
 returns c =
-    let a = c .before .before .before .before .before .before .before .before .before .before .args in
-    let l = c .before .before .before .before .before .before .before .loop in
-    let last = now (a .lasts) in
-    let rows = now (a .rows) in
-    let x : c .before .before .cell .result ≡ cellOf rows (l .k) (a .t) = c .before .before .cell .ensures .0 in
-    let d : c .before .before .before .before .wide .result ≡ getD last (l .k) 0 = c .before .before .before .before .wide .ensures .0 in
-    let f : getD (l .on) (c .before .before .cell .result) 0 < maxCalls = c .if2 .taken in (
+    let a = then2→start c .args in
+    let l = then2→loop c .loop in
+    let x = then2→cell c .cell .ensures in
+    let f = ap (λ i. getD (l .on) i 0) (x .0) in (
       denied
-          (standing-taken last rows (a .t) (a .n) (l .k) (l .on) (l .inv .2) (c .before .before .before .before .before .before .loop-test .taken)
-          (omega (arith, x, c .before .before .cell .ensures .1))
-          (omega (arith, d, c .before .before .before .if1 .taken)) (rw x at f)),
+          (standing-taken (now (a .lasts)) (now (a .rows)) (a .t) (a .n) (l .k) (l .on) (l .inv .2) (then2→in-loop c .loop-test .taken)
+          (omega (arith, x .0, x .1)) (omega (arith, then2→wide c .wide .ensures .0, then2→then1 c .if1 .taken)) (omega (arith, f, c .if2 .taken))),
       λ e. absurd (false≢true e),
     )
 

@@ -16,10 +16,10 @@ mod Places
 use Places.*
 
 abbrev Inv-loop : tie.InvT-loop
-Inv-loop last rows n t on k₀ k = (k ≤ n) × ((m : ℕ) → m < k → t < getD last m 0 → Trades last rows n t m → ⊥)
+Inv-loop lasts rows n t on k₀ k = (k ≤ n) × ((m : ℕ) → m < k → t < getD lasts m 0 → Trades lasts rows n t m → ⊥)
 
 abbrev μ-loop : tie.MeasureT-loop
-μ-loop last rows n t on k₀ k = n - k
+μ-loop lasts rows n t on k₀ k = n - k
 
 loop-holds : tie.Need-loop-holds Inv-loop μ-loop
 loop-holds c = (omega arith, λ m h. absurd (omega arith))
