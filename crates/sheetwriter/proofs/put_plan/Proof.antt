@@ -43,6 +43,29 @@ loop-holds c =
       wrote-none (omega (arith, w .ensures .0 .next, w .ensures .0 .fits)),
     )
 
+loop-again : tie.Need-loop-again Inv-loop μ-loop
+loop-again c =
+    let s = slice-known3→start c in
+    let j = s .args .job in
+    let carts = now (s .args .carts) in
+    let calls = now (s .args .calls) in
+    let lasts = now (s .args .lasts) in
+    let rows = now (s .args .rows) in
+    let l = slice-known3→loop c .loop in
+    let w = slice-known3→put-path c .put-path in
+    let h : l .k < j .calls = omega (arith, slice-known3→then1 c .if1 .taken, l .inv .0) in
+    let n : l .k < length (jobOf j .calls) = omega (arith, counted s) in
+    let a = slice-known3→wide2 c .wide2 .ensures .0 in
+    let b = slice-known3→wide3 c .wide3 .ensures .0 in
+    let d = slice-known3→wide c .wide .ensures .0 in
+    let r = path-room (jobOf j) carts calls lasts rows (s .pre .3) (l .k) n a b d in
+    let x = wrote-path (jobOf j) carts calls lasts rows (s .pre .3) (l .k) n a b d (w .ensures) in (
+      omega (arith, h),
+      rw (w .kept .0) (room-rest (share (jobOf j)) (l .k) (j .calls) (l .p) (length (l .out)) h (l .inv .1) (w .result) (omega (arith, r, w .ensures .next))),
+      w .kept .0 ∙ l .inv .2,
+      rw add-one (wrote-lines pathWord pathNumbers (pathsTo carts calls lasts rows (l .k)) (pathAt carts calls lasts rows (l .k)) (l .inv .3) x),
+    )
+
 put-path-requires : tie.Need-put-path-requires Inv-loop μ-loop
 put-path-requires c κs =
     let s = put-path-arg2→start c in
@@ -59,29 +82,6 @@ put-path-requires c κs =
         part-short (jobOf j) _ _ _ _ (s .pre .3) (l .k) n (put-path-arg2→wide2 c .wide2 .ensures .0)
             (put-path-arg2→wide3 c .wide3 .ensures .0) (put-path-arg2→wide c .wide .ensures .0),
       ),
-    )
-
-loop-again : tie.Need-loop-again Inv-loop μ-loop
-loop-again c =
-    let s = slice-known3→start c in
-    let j = s .args .job in
-    let carts = now (s .args .carts) in
-    let calls = now (s .args .calls) in
-    let lasts = now (s .args .lasts) in
-    let rows = now (s .args .rows) in
-    let l = slice-known3→loop c .loop in
-    let w = slice-known3→put-path c .put-path in
-    let h : l .k < j .calls = slice-known3→then1 c .if1 .taken in
-    let n : l .k < length (jobOf j .calls) = omega (arith, counted s) in
-    let a = slice-known3→wide2 c .wide2 .ensures .0 in
-    let b = slice-known3→wide3 c .wide3 .ensures .0 in
-    let d = slice-known3→wide c .wide .ensures .0 in
-    let r = path-room (jobOf j) carts calls lasts rows (s .pre .3) (l .k) n a b d in
-    let x = wrote-path (jobOf j) carts calls lasts rows (s .pre .3) (l .k) n a b d (w .ensures) in (
-      omega (arith, h),
-      rw (w .kept .0) (room-rest (share (jobOf j)) (l .k) (j .calls) (l .p) (length (l .out)) h (l .inv .1) (w .result) (omega (arith, r, w .ensures .next))),
-      w .kept .0 ∙ l .inv .2,
-      rw add-one (wrote-lines pathWord pathNumbers (pathsTo carts calls lasts rows (l .k)) (pathAt carts calls lasts rows (l .k)) (l .inv .3) x),
     )
 
 returns : tie.Need-returns Inv-loop μ-loop

@@ -40,7 +40,7 @@ sooner-requires c κs =
     (omega (arith, wide2→wide c .wide .ensures .0, known k (omega arith)), omega (arith, c .wide2 .ensures .0, known (k + 1) (omega arith)))
 
 returns : tie.Need-returns Inv-loop μ-loop
-returns c = denied (λ o. answer (then1→sooner c) .1 (not-true _ (c .if1 .taken)) (o (then1→loop c .loop .k) (then1→in-loop c .loop-test .taken)))
+returns c = denied (λ o. answer (then1→sooner c) .1 (not-true _ (c .if1 .taken)) (o (then1→loop c .loop .k) (omega (arith, then1→in-loop c .loop-test .taken))))
 
 loop-again : tie.Need-loop-again Inv-loop μ-loop
 loop-again c = (omega arith, below-more _ (else1→loop c .loop .k) (else1→loop c .loop .inv .1) (answer (else1→sooner c) .0 (not-false _ (c .if1 .left))))

@@ -20,8 +20,14 @@ then1→value c = c .before .before
 abbrev pub then1→only-number : tie.Then1 → tie.After-only-number
 then1→only-number c = then1→value c .before .before
 
+abbrev pub then1→start : tie.Then1 → tie.Start
+then1→start c = then1→only-number c .before .before .before
+
 abbrev pub else1→value : tie.Else1 → tie.After-value
 else1→value c = c .before .before
 
 abbrev pub else1→only-number : tie.Else1 → tie.After-only-number
 else1→only-number c = else1→value c .before .before
+
+abbrev pub else1→start : tie.Else1 → tie.Start
+else1→start c = else1→only-number c .before .before .before
