@@ -6,11 +6,11 @@ use mathlib.Core.Logic.{inl, inr}
 use mathlib.Core.Bool.{true, _&&_}
 use native.Mathlib.Omega.{arith}
 use lib.Dec.{ltb, eqb}
-use lib.ListN.{length, getD, drop}
+use lib.ListN.{length, getD, drop, length-take, length-drop}
 use lib.Seq.{getD-take, getD-drop}
 use borrow.Author.Tests.{ltb-true, eqb-true}
 use Rattle.model.specs.Lists.{In, NoDup}
-use Rattle.model.specs.Limits.{maxSteps}
+use Rattle.model.specs.Limits.{maxCalls, maxSteps}
 use Rattle.model.specs.Job.{Job, callOf}
 use Rattle.model.specs.Plan.{Path}
 use Rattle.model.specs.ReadSheet.{allBelow, knownPath}
@@ -60,7 +60,9 @@ known-ranged j p e =
       cells = below-at (j .cells) (p .cells) (and-right (a && b && c) d e);
     }
 
-module _ (j : Job) (carts calls rows : List ℕ) where
-  pub cell-at : (k t : ℕ) → t ≤ callOf j (getD calls k 0) .deadline → getD (pathAt j carts calls rows k .cells) t 0 ≡ cellOf rows k t
-  cell-at k t h =
-      getD-take (suc (callOf j (getD calls k 0) .deadline)) (drop (k * maxSteps) rows) t 0 (omega arith) ∙ getD-drop (k * maxSteps) rows t 0
+module _ (carts calls lasts rows : List ℕ) (k : ℕ) where
+  pub cell-at : (t : ℕ) → t ≤ getD lasts k 0 → getD (pathAt carts calls lasts rows k .cells) t 0 ≡ cellOf rows k t
+  cell-at t h = getD-take (suc (getD lasts k 0)) (drop (k * maxSteps) rows) t 0 (omega arith) ∙ getD-drop (k * maxSteps) rows t 0
+
+  pub cells-count : k < maxCalls → length rows ≡ maxCalls * maxSteps → getD lasts k 0 < maxSteps → length (pathAt carts calls lasts rows k .cells) ≡ suc (getD lasts k 0)
+  cells-count h e l = simp (length-take, length-drop) (omega arith)

@@ -9,8 +9,8 @@ use native.Mathlib.Omega.{arith}
 use native.Mathlib.Numerals.{add-one}
 use lib.ListN.{length, getD}
 use Rattle.model.specs.Lists.{In, NoDup}
-use Rattle.model.specs.Limits.{maxCells}
-use Rattle.model.specs.Job.{track, cartCell, callOf, horizon}
+use Rattle.model.specs.Limits.{maxCells, maxSteps}
+use Rattle.model.specs.Job.{track, call, cartCell, callOf, horizon}
 use Rattle.model.specs.Walk.{Step}
 use Rattle.model.specs.Plan.{Path, Leads, Plan, Before, PlanInOrder, Share, Trade}
 use Rattle.model.specs.Ready.{Ready}
@@ -21,41 +21,43 @@ use Rattle.model.proofs.Lists.{place-of, rising-of, rising-at}
 use Rattle.model.proofs.Decisions.{track-eq, track-parts}
 use Rattle.job.specs.Arrays.{jobOf}
 use Rattle.job.specs.declared.state.Job.{Job}
-use Rattle.job.specs.Held.{pathAt, pathsOf}
+use Rattle.job.specs.Held.{pathAt, pathsTo}
 use Rattle.job.proofs.Triangle.{pair-back}
-use Rattle.planjudge.specs.PlanTests.{cellOf, Listed, Lasts, Precedes, Ordered, Marks, Goes, AllLed, Apart, Untraded, Clear}
+use Rattle.planjudge.specs.PlanTests.{cellOf, Fits, Listed, Ordered, Marks, Goes, AllLed, Unshared, Untraded, Clear}
 use Rattle.job.proofs.Arrays.{Whole, calls-count, carts-count, call-at, cart-at, in-tracks, deadline-by}
 use Rattle.job.proofs.Rows.{paths-length, path-at, in-paths, paths-in}
-use Rattle.planjudge.proofs.PlanLaws.{Ranged, known-ranged, nodup-of, cell-at}
-use Rattle.planjudge.proofs.PlanSteps.{before-later}
+use Rattle.planjudge.proofs.PlanLaws.{Ranged, known-ranged, nodup-of, cell-at, cells-count}
+use Rattle.planjudge.proofs.PlanSteps.{other-call}
 
 -- What is given: the job as its arrays have it, and paths whose numbers are known.
-pub record Given (s : Job) (carts calls rows : List ℕ) : Type 0 where
+pub record Given (s : Job) (carts calls lasts rows : List ℕ) : Type 0 where
   pub ready : Ready (jobOf s)
   pub full : Whole s
-  pub known : (p : Path) → In p (pathsOf (jobOf s) carts calls rows) → knownPath (jobOf s) p ≡ true
+  pub fits : Fits lasts rows (s .calls)
+  pub bytes : (k : ℕ) → getD lasts k 0 < maxSteps
+  pub known : (p : Path) → In p (pathsTo carts calls lasts rows (length (jobOf s .calls))) → knownPath (jobOf s) p ≡ true
 
-module _ {s : Job} {carts calls rows : List ℕ} (g : Given s carts calls rows) where
+module _ {s : Job} {carts calls lasts rows : List ℕ} (g : Given s carts calls lasts rows) where
   abbrev P : ℕ → Path
-  P k = pathAt (jobOf s) carts calls rows k
+  P k = pathAt carts calls lasts rows k
 
   abbrev Ps : List Path
-  Ps = pathsOf (jobOf s) carts calls rows
+  Ps = pathsTo carts calls lasts rows (length (jobOf s .calls))
 
   size : length (jobOf s .calls) ≡ s .calls
   size = calls-count s (g .full)
 
   in-plan : (k : ℕ) → k < s .calls → In (P k) Ps
-  in-plan k h = in-paths (jobOf s) carts calls rows (length (jobOf s .calls)) k (omega (arith, size))
+  in-plan k h = in-paths carts calls lasts rows (length (jobOf s .calls)) k (omega (arith, size))
 
   plan-in : (p : Path) → In p Ps → (k : ℕ) × (k < s .calls) × (p ≡ P k)
-  plan-in p h = let (k, l, e) = paths-in (jobOf s) carts calls rows (length (jobOf s .calls)) p h in (k, omega (arith, size), e)
+  plan-in p h = let (k, l, e) = paths-in carts calls lasts rows (length (jobOf s .calls)) p h in (k, omega (arith, size), e)
 
   plan-length : length Ps ≡ s .calls
-  plan-length = paths-length (jobOf s) carts calls rows (length (jobOf s .calls)) ∙ size
+  plan-length = paths-length carts calls lasts rows (length (jobOf s .calls)) ∙ size
 
   plan-at : (k : ℕ) → k < s .calls → getD Ps k (P 0) ≡ P k
-  plan-at k h = path-at (jobOf s) carts calls rows (length (jobOf s .calls)) k (P 0) (omega (arith, size))
+  plan-at k h = path-at carts calls lasts rows (length (jobOf s .calls)) k (P 0) (omega (arith, size))
 
   -- No two paths have one number, by the numbers of the paths.
   module _ (f : Path → ℕ) where
@@ -77,187 +79,170 @@ module _ {s : Job} {carts calls rows : List ℕ} (g : Given s carts calls rows) 
   pub known-cart : (k : ℕ) → k < s .calls → getD carts k 0 < s .carts
   known-cart k h = omega (arith, ranged k h .cart, carts-count s (g .full))
 
-  module _ (last : List ℕ) (due : Lasts (s .deadlines) calls last (s .calls)) where
-    deadline : (k : ℕ) → k < s .calls → callOf (jobOf s) (getD calls k 0) .deadline ≡ getD last k 0
-    deadline k h = ap (λ q. q .deadline) (call-at s (g .full) (getD calls k 0) (known-call k h)) ∙ sym (due k h)
+  long : (k : ℕ) → k < s .calls → length (P k .cells) ≡ suc (getD lasts k 0)
+  long k h = cells-count carts calls lasts rows k (omega (arith, g .fits .few)) (g .fits .cells) (g .bytes k)
 
-    long : (k : ℕ) → k < s .calls → length (P k .cells) ≡ suc (getD last k 0)
-    long k h = ranged k h .size ∙ ap suc (deadline k h)
+  deadline : (k : ℕ) → k < s .calls → callOf (jobOf s) (getD calls k 0) .deadline ≡ getD lasts k 0
+  deadline k h = omega (arith, ranged k h .size, long k h)
 
-    at : (k t : ℕ) → k < s .calls → t ≤ getD last k 0 → getD (P k .cells) t 0 ≡ cellOf rows k t
-    at k t h l = cell-at (jobOf s) carts calls rows k t (omega (arith, deadline k h))
+  at : (k t : ℕ) → k < s .calls → t ≤ getD lasts k 0 → getD (P k .cells) t 0 ≡ cellOf rows k t
+  at k t h l = cell-at carts calls lasts rows k t l
 
-    next-at : (k t : ℕ) → k < s .calls → t < getD last k 0 → getD (P k .cells) (suc t) 0 ≡ cellOf rows k (t + 1)
-    next-at k t h l = rw add-one (at k (suc t) h (omega arith))
+  next-at : (k t : ℕ) → k < s .calls → t < getD lasts k 0 → getD (P k .cells) (suc t) 0 ≡ cellOf rows k (t + 1)
+  next-at k t h l = rw add-one (at k (suc t) h (omega arith))
 
-    end-at : (k : ℕ) → k < s .calls → getD (P k .cells) (callOf (jobOf s) (getD calls k 0) .deadline) 0 ≡ cellOf rows k (getD last k 0)
-    end-at k h = ap (λ t. getD (P k .cells) t 0) (deadline k h) ∙ at k (getD last k 0) h (omega arith)
+  end-at : (k : ℕ) → k < s .calls → getD (P k .cells) (callOf (jobOf s) (getD calls k 0) .deadline) 0 ≡ cellOf rows k (getD lasts k 0)
+  end-at k h = ap (λ t. getD (P k .cells) t 0) (deadline k h) ∙ at k (getD lasts k 0) h (omega arith)
 
-    small : (k t : ℕ) → k < s .calls → t ≤ getD last k 0 → cellOf rows k t < maxCells
-    small k t h l = omega (arith, ranged k h .cells t (omega (arith, long k h)), at k t h l, g .ready .fit .few-cells)
+  small : (k t : ℕ) → k < s .calls → t ≤ getD lasts k 0 → cellOf rows k t < maxCells
+  small k t h l = omega (arith, ranged k h .cells t (omega (arith, long k h)), at k t h l, g .ready .fit .few-cells)
 
-    -- Order.
-    before : (k m : ℕ) → k < s .calls → m < s .calls → Precedes last calls k m → Before (jobOf s) (P k) (P m)
-    before k m a b (inl l) = inl (omega (arith, deadline k a, deadline m b))
-    before k m a b (inr l) = inr (omega (arith, deadline k a, deadline m b), l .1)
+  -- Order.
+  call-is : (k : ℕ) → k < s .calls → callOf (jobOf s) (getD calls k 0) ≡ call (getD (s .lifts) (getD calls k 0) 0) (getD (s .deadlines) (getD calls k 0) 0)
+  call-is k h = call-at s (g .full) (getD calls k 0) (known-call k h)
 
-    precedes : (k m : ℕ) → k < s .calls → m < s .calls → Before (jobOf s) (P k) (P m) → Precedes last calls k m
-    precedes k m a b (inl l) = inl (omega (arith, deadline k a, deadline m b))
-    precedes k m a b (inr l) = inr (omega (arith, deadline k a, deadline m b), l .1)
+  in-order : Ordered (s .lifts) (s .deadlines) calls (s .calls) → PlanInOrder (jobOf s) Ps
+  in-order o = rising-of (P 0) (Before (jobOf s)) Ps (λ k h.
+      let a : k < s .calls = omega (arith, plan-length) in
+      let b : suc k < s .calls = omega (arith, plan-length) in
+      rw (plan-at k a, plan-at (suc k) b, call-is k a, call-is (suc k) b) (rw add-one at (o k (omega arith))))
 
-    in-order : Ordered last calls (s .calls) → PlanInOrder (jobOf s) Ps
-    in-order o = rising-of (P 0) (Before (jobOf s)) Ps (λ k h.
-        let a : k < s .calls = omega (arith, plan-length) in
-        let b : suc k < s .calls = omega (arith, plan-length) in
-        rw (plan-at k a, plan-at (suc k) b) (before k (suc k) a b (rw add-one at (o k (omega arith)))))
+  pub right-ordered : PlanInOrder (jobOf s) Ps → Ordered (s .lifts) (s .deadlines) calls (s .calls)
+  right-ordered r k h =
+      let a : k < s .calls = omega arith in
+      let b : suc k < s .calls = omega arith in
+      rw add-one (rw (plan-at k a, plan-at (suc k) b, call-is k a, call-is (suc k) b) at (rising-at (P 0) (Before (jobOf s)) Ps r k (omega (arith, plan-length))))
 
-    pub right-ordered : PlanInOrder (jobOf s) Ps → Ordered last calls (s .calls)
-    right-ordered r k h =
-        let a : k < s .calls = omega arith in
-        let b : suc k < s .calls = omega arith in
-        rw add-one (precedes k (suc k) a b (rw (plan-at k a, plan-at (suc k) b) at (rising-at (P 0) (Before (jobOf s)) Ps r k (omega (arith, plan-length)))))
+  own-call : Ordered (s .lifts) (s .deadlines) calls (s .calls) → (i k : ℕ) → i < s .calls → k < s .calls → getD calls i 0 ≡ getD calls k 0 → i ≡ k
+  own-call o i k a b e = go (dec-le i k) (dec-le k i)
+    where
+      go : Dec (i ≤ k) → Dec (k ≤ i) → i ≡ k
+      go (yes l) (yes m) = omega arith
+      go (yes l) (no m) = absurd (other-call (s .lifts) (s .deadlines) calls (s .calls) o i k (omega arith) b e)
+      go (no l) m = absurd (other-call (s .lifts) (s .deadlines) calls (s .calls) o k i (omega arith) a (sym e))
 
-    -- Rising lines have no call twice.
-    other-call : Ordered last calls (s .calls) → (i k : ℕ) → i < k → k < s .calls → getD calls i 0 ≡ getD calls k 0 → ⊥
-    other-call o i k a b e = go (before-later last calls (s .calls) o k i a b)
-      where
-        same : getD last i 0 ≡ getD last k 0
-        same = due i (omega arith) ∙ ap (λ q. getD (s .deadlines) q 0) e ∙ sym (due k b)
+  -- No two paths in one place.
+  pub plan-clear : Plan (jobOf s) Ps → (t : ℕ) → Clear lasts rows (s .calls) t
+  plan-clear p t = (apart, untraded)
+    where
+      apart : Unshared lasts rows (s .calls) t
+      apart k m a b c d e = own-at (λ p. p .cart) (p .own-cart) k m a b (p .no-share (P k) (P m) (in-plan k a) (in-plan m b) t
+          (cellOf rows k t, (omega (arith, long k a), at k t a c), (omega (arith, long m b), at m t b d ∙ sym e)))
 
-        go : Precedes last calls i k → ⊥
-        go (inl l) = omega (arith, same)
-        go (inr l) = omega arith
+      untraded : Untraded lasts rows (s .calls) t
+      untraded k a c (m, b, n, d, e, f) = n (own-at (λ p. p .cart) (p .own-cart) m k b a (p .no-trade (P m) (P k) (in-plan m b) (in-plan k a) t (
+        cellOf rows m t,
+        cellOf rows m (t + 1),
+        (omega (arith, long m b), at m t b (omega arith)),
+        (omega (arith, long m b), next-at m t b d),
+        (omega (arith, long k a), at k t a (omega arith) ∙ sym f),
+        (omega (arith, long k a), next-at k t a c ∙ sym e),
+      )))
 
-    own-call : Ordered last calls (s .calls) → (i k : ℕ) → i < s .calls → k < s .calls → getD calls i 0 ≡ getD calls k 0 → i ≡ k
-    own-call o i k a b e = go (dec-le i k) (dec-le k i)
-      where
-        go : Dec (i ≤ k) → Dec (k ≤ i) → i ≡ k
-        go (yes l) (yes m) = omega arith
-        go (yes l) (no m) = absurd (other-call o i k (omega arith) b e)
-        go (no l) m = absurd (other-call o k i (omega arith) a (sym e))
+  -- Walks.
+  track-listed : (u v : ℕ) → In (track u v) (jobOf s .tracks) → Listed (s .from) (s .to) (s .tracks) u v
+  track-listed u v h =
+      let (i, l, e) = in-tracks s (g .full) (track u v) .0 h in (i, l, sym (track-parts e .0), sym (track-parts e .1))
 
-    -- No two paths in one place.
-    pub plan-clear : Plan (jobOf s) Ps → (t : ℕ) → Clear last rows (s .calls) t
-    plan-clear p t = (apart, untraded)
-      where
-        apart : Apart last rows (s .calls) t
-        apart k m a b c d e = own-at (λ p. p .cart) (p .own-cart) k m a b (p .no-share (P k) (P m) (in-plan k a) (in-plan m b) t
-            (cellOf rows k t, (omega (arith, long k a), at k t a c), (omega (arith, long m b), at m t b d ∙ sym e)))
+  listed-track : (u v : ℕ) → Listed (s .from) (s .to) (s .tracks) u v → In (track u v) (jobOf s .tracks)
+  listed-track u v (i, l, e, f) = in-tracks s (g .full) (track u v) .1 (i, l, track-eq (sym e, sym f))
 
-        untraded : Untraded last rows (s .calls) t
-        untraded k a c (m, b, n, d, e, f) = n (own-at (λ p. p .cart) (p .own-cart) m k b a (p .no-trade (P m) (P k) (in-plan m b) (in-plan k a) t (
-          cellOf rows m t,
-          cellOf rows m (t + 1),
-          (omega (arith, long m b), at m t b (omega arith)),
-          (omega (arith, long m b), next-at m t b d),
-          (omega (arith, long k a), at k t a (omega arith) ∙ sym f),
-          (omega (arith, long k a), next-at k t a c ∙ sym e),
-        )))
+  module _ {table : List ℕ} (marks : Marks (s .from) (s .to) (s .tracks) table) where
+    goes : (t u v : ℕ) → u < maxCells → v < maxCells → Step (jobOf s) t u v → Goes table u v
+    goes t u v a b (inl e) = inl e
+    goes t u v a b (inr (inl x)) = inr (marks .all u v a b (track-listed u v x))
+    goes t u v a b (inr (inr x)) = inr (rw (pair-back u v) (marks .all v u b a (track-listed v u x)))
 
-    -- Walks.
-    track-listed : (u v : ℕ) → In (track u v) (jobOf s .tracks) → Listed (s .from) (s .to) (s .tracks) u v
-    track-listed u v h =
-        let (i, l, e) = in-tracks s (g .full) (track u v) .0 h in (i, l, sym (track-parts e .0), sym (track-parts e .1))
+    step : (t u v : ℕ) → u < maxCells → v < maxCells → Goes table u v → Step (jobOf s) t u v
+    step t u v a b (inl e) = inl e
+    step t u v a b (inr x) = inr (⊎-elim (λ l. inl (listed-track u v l)) (λ l. inr (listed-track v u l)) (marks .only u v a b x))
 
-    listed-track : (u v : ℕ) → Listed (s .from) (s .to) (s .tracks) u v → In (track u v) (jobOf s .tracks)
-    listed-track u v (i, l, e, f) = in-tracks s (g .full) (track u v) .1 (i, l, track-eq (sym e, sym f))
+    start : (k : ℕ) → k < s .calls → cartCell (jobOf s) (getD carts k 0) ≡ getD (s .starts) (getD carts k 0) 0
+    start k h = cart-at s (g .full) (getD carts k 0) (known-cart k h)
 
-    module _ {table : List ℕ} (marks : Marks (s .from) (s .to) (s .tracks) table) where
-      goes : (t u v : ℕ) → u < maxCells → v < maxCells → Step (jobOf s) t u v → Goes table u v
-      goes t u v a b (inl e) = inl e
-      goes t u v a b (inr (inl x)) = inr (marks .all u v a b (track-listed u v x))
-      goes t u v a b (inr (inr x)) = inr (rw (pair-back u v) (marks .all v u b a (track-listed v u x)))
+    lift : (k : ℕ) → k < s .calls → callOf (jobOf s) (getD calls k 0) .cell ≡ getD (s .lifts) (getD calls k 0) 0
+    lift k h = ap (λ q. q .cell) (call-is k h)
 
-      step : (t u v : ℕ) → u < maxCells → v < maxCells → Goes table u v → Step (jobOf s) t u v
-      step t u v a b (inl e) = inl e
-      step t u v a b (inr x) = inr (⊎-elim (λ l. inl (listed-track u v l)) (λ l. inr (listed-track v u l)) (marks .only u v a b x))
+    abbrev All : Type 0
+    All = AllLed table rows lasts carts (s .starts) calls (s .lifts) (s .calls)
 
-      start : (k : ℕ) → k < s .calls → cartCell (jobOf s) (getD carts k 0) ≡ getD (s .starts) (getD carts k 0) 0
-      start k h = cart-at s (g .full) (getD carts k 0) (known-cart k h)
+    pub plan-led : ((p : Path) → In p Ps → Leads (jobOf s) p) → All
+    plan-led f k h =
+        let l = f (P k) (in-plan k h) in
+        record {
+          starts = sym (at k 0 h (omega arith)) ∙ l .walks .starts .1 ∙ start k h;
+          walks = λ t b. goes t (cellOf rows k t) (cellOf rows k (t + 1)) (small k t h (omega arith)) (small k (t + 1) h (omega arith))
+              (rw (at k t h (omega arith), next-at k t h b) at (l .walks .steps t (omega (arith, long k h))));
+          ends = sym (end-at k h) ∙ l .serves .ends ∙ lift k h;
+        }
 
-      lift : (k : ℕ) → k < s .calls → callOf (jobOf s) (getD calls k 0) .cell ≡ getD (s .lifts) (getD calls k 0) 0
-      lift k h = ap (λ q. q .cell) (call-at s (g .full) (getD calls k 0) (known-call k h))
+    leads : All → (k : ℕ) → k < s .calls → Leads (jobOf s) (P k)
+    leads f k h = record {
+      known-cart = ranged k h .cart;
+      known-call = ranged k h .call;
+      walks = record {
+        starts = (omega (arith, long k h), at k 0 h (omega arith) ∙ f k h .starts ∙ sym (start k h));
+        steps = λ t l.
+            let b : t < getD lasts k 0 = omega (arith, long k h) in
+            rw (at k t h (omega arith), next-at k t h b) (step t (cellOf rows k t) (cellOf rows k (t + 1)) (small k t h (omega arith)) (small k (t + 1) h (omega arith)) (f k h .walks t b));
+      };
+      serves = record {
+        size = ranged k h .size;
+        ends = end-at k h ∙ f k h .ends ∙ sym (lift k h);
+      };
+    }
 
-      abbrev All : Type 0
-      All = AllLed table rows last carts (s .starts) calls (s .lifts) (s .calls)
+    module _ (h : ℕ) (late : horizon (jobOf s) ≤ h) (clear : (t : ℕ) → t ≤ h → Clear lasts rows (s .calls) t) where
+      top : (k : ℕ) → k < s .calls → getD lasts k 0 ≤ h
+      top k a = omega (arith, late, deadline k a, ap (λ q. q .deadline) (call-is k a), deadline-by s (g .full) (getD calls k 0) (known-call k a))
 
-      pub plan-led : ((p : Path) → In p Ps → Leads (jobOf s) p) → All
-      plan-led f k h =
-          let l = f (P k) (in-plan k h) in
-          record {
-            starts = sym (at k 0 h (omega arith)) ∙ l .walks .starts .1 ∙ start k h;
-            walks = λ t b. goes t (cellOf rows k t) (cellOf rows k (t + 1)) (small k t h (omega arith)) (small k (t + 1) h (omega arith))
-                (rw (at k t h (omega arith), next-at k t h b) at (l .walks .steps t (omega (arith, long k h))));
-            ends = sym (end-at k h) ∙ l .serves .ends ∙ lift k h;
-          }
+      one-share : (k m t : ℕ) → k < s .calls → m < s .calls → Share (P k .cells) (P m .cells) t → k ≡ m
+      one-share k m t a b (v, x, y) =
+          let c : t ≤ getD lasts k 0 = omega (arith, long k a, x .0) in
+          let d : t ≤ getD lasts m 0 = omega (arith, long m b, y .0) in
+          clear t (omega (arith, top k a)) .0 k m a b c d (sym (at k t a c) ∙ x .1 ∙ sym (y .1) ∙ at m t b d)
 
-      leads : All → (k : ℕ) → k < s .calls → Leads (jobOf s) (P k)
-      leads f k h = record {
-        known-cart = ranged k h .cart;
-        known-call = ranged k h .call;
-        walks = record {
-          starts = (omega (arith, long k h), at k 0 h (omega arith) ∙ f k h .starts ∙ sym (start k h));
-          steps = λ t l.
-              let b : t < getD last k 0 = omega (arith, long k h) in
-              rw (at k t h (omega arith), next-at k t h b) (step t (cellOf rows k t) (cellOf rows k (t + 1)) (small k t h (omega arith)) (small k (t + 1) h (omega arith)) (f k h .walks t b));
-        };
-        serves = record {
-          size = ranged k h .size;
-          ends = end-at k h ∙ f k h .ends ∙ sym (lift k h);
-        };
-      }
+      one-trade : (k m t : ℕ) → k < s .calls → m < s .calls → Trade (P k .cells) (P m .cells) t → k ≡ m
+      one-trade k m t a b (u, v, x, x′, y, y′) = go (dec-eq m k)
+        where
+          c : t < getD lasts k 0
+          c = omega (arith, long k a, x′ .0)
 
-      module _ (h : ℕ) (late : horizon (jobOf s) ≤ h) (clear : (t : ℕ) → t ≤ h → Clear last rows (s .calls) t) where
-        top : (k : ℕ) → k < s .calls → getD last k 0 ≤ h
-        top k a = omega (arith, late, due k a, deadline-by s (g .full) (getD calls k 0) (known-call k a))
+          d : t < getD lasts m 0
+          d = omega (arith, long m b, y′ .0)
 
-        one-share : (k m t : ℕ) → k < s .calls → m < s .calls → Share (P k .cells) (P m .cells) t → k ≡ m
-        one-share k m t a b (v, x, y) =
-            let c : t ≤ getD last k 0 = omega (arith, long k a, x .0) in
-            let d : t ≤ getD last m 0 = omega (arith, long m b, y .0) in
-            clear t (omega (arith, top k a)) .0 k m a b c d (sym (at k t a c) ∙ x .1 ∙ sym (y .1) ∙ at m t b d)
+          go : Dec (m ≡ k) → k ≡ m
+          go (yes e) = sym e
+          go (no n) = absurd (clear t (omega (arith, top k a, c)) .1 k a c (
+            m,
+            b,
+            n,
+            d,
+            sym (at m t b (omega (arith, d))) ∙ y .1 ∙ sym (x′ .1) ∙ next-at k t a c,
+            sym (next-at m t b d) ∙ y′ .1 ∙ sym (x .1) ∙ at k t a (omega (arith, c)),
+          ))
 
-        one-trade : (k m t : ℕ) → k < s .calls → m < s .calls → Trade (P k .cells) (P m .cells) t → k ≡ m
-        one-trade k m t a b (u, v, x, x′, y, y′) = go (dec-eq m k)
-          where
-            c : t < getD last k 0
-            c = omega (arith, long k a, x′ .0)
+      -- what is one path has one cart
+      no-pair : (C : List ℕ → List ℕ → ℕ → Type 0) → ((k m t : ℕ) → k < s .calls → m < s .calls → C (P k .cells) (P m .cells) t → k ≡ m)
+          → (p q : Path) → In p Ps → In q Ps → (t : ℕ) → C (p .cells) (q .cells) t → p .cart ≡ q .cart
+      no-pair C one p q i j t w =
+          let (k, a, e) = plan-in p i in
+          let (m, b, f) = plan-in q j in
+          ap (λ p. p .cart) e ∙ ap (λ x. getD carts x 0) (one k m t a b (rw (e, f) at w)) ∙ sym (ap (λ p. p .cart) f)
 
-            d : t < getD last m 0
-            d = omega (arith, long m b, y′ .0)
+      own-cart : All → (i k : ℕ) → i < s .calls → k < s .calls → getD carts i 0 ≡ getD carts k 0 → i ≡ k
+      own-cart f i k a b e =
+          clear 0 (omega arith) .0 i k a b (omega arith) (omega arith) (f i a .starts ∙ ap (λ c. getD (s .starts) c 0) e ∙ sym (f k b .starts))
 
-            go : Dec (m ≡ k) → k ≡ m
-            go (yes e) = sym e
-            go (no n) = absurd (clear t (omega (arith, top k a, c)) .1 k a c (
-              m,
-              b,
-              n,
-              d,
-              sym (at m t b (omega (arith, d))) ∙ y .1 ∙ sym (x′ .1) ∙ next-at k t a c,
-              sym (next-at m t b d) ∙ y′ .1 ∙ sym (x .1) ∙ at k t a (omega (arith, c)),
-            ))
-
-        -- what is one path has one cart
-        no-pair : (C : List ℕ → List ℕ → ℕ → Type 0) → ((k m t : ℕ) → k < s .calls → m < s .calls → C (P k .cells) (P m .cells) t → k ≡ m)
-            → (p q : Path) → In p Ps → In q Ps → (t : ℕ) → C (p .cells) (q .cells) t → p .cart ≡ q .cart
-        no-pair C one p q i j t w =
-            let (k, a, e) = plan-in p i in
-            let (m, b, f) = plan-in q j in
-            ap (λ p. p .cart) e ∙ ap (λ x. getD carts x 0) (one k m t a b (rw (e, f) at w)) ∙ sym (ap (λ p. p .cart) f)
-
-        own-cart : All → (i k : ℕ) → i < s .calls → k < s .calls → getD carts i 0 ≡ getD carts k 0 → i ≡ k
-        own-cart f i k a b e =
-            clear 0 (omega arith) .0 i k a b (omega arith) (omega arith) (f i a .starts ∙ ap (λ c. getD (s .starts) c 0) e ∙ sym (f k b .starts))
-
-        pub tests-right : Ordered last calls (s .calls) → All → RightPlan (jobOf s) Ps
-        tests-right o f = (
-          record {
-            size = paths-length (jobOf s) carts calls rows (length (jobOf s .calls));
-            leads = λ p i. let (k, a, e) = plan-in p i in rw e (leads f k a);
-            own-call = own-of (λ p. p .call) (own-call o);
-            own-cart = own-of (λ p. p .cart) (own-cart f);
-            no-share = no-pair Share one-share;
-            no-trade = no-pair Trade one-trade;
-          },
-          in-order o,
-        )
+      pub tests-right : Ordered (s .lifts) (s .deadlines) calls (s .calls) → All → RightPlan (jobOf s) Ps
+      tests-right o f = (
+        record {
+          size = paths-length carts calls lasts rows (length (jobOf s .calls));
+          leads = λ p i. let (k, a, e) = plan-in p i in rw e (leads f k a);
+          own-call = own-of (λ p. p .call) (own-call o);
+          own-cart = own-of (λ p. p .cart) (own-cart f);
+          no-share = no-pair Share one-share;
+          no-trade = no-pair Trade one-trade;
+        },
+        in-order o,
+      )

@@ -5,19 +5,21 @@ use mathlib.Core.List.{List}
 use mathlib.Core.Logic.{inl, inr, _⊎_, ⊎-elim}
 use mathlib.Core.Bool.{Bool, true, false, false≢true}
 use native.Mathlib.Omega.{arith}
-use lib.Dec.{ltb, eqb}
+use native.Mathlib.Numerals.{add-one}
+use lib.Dec.{eqb}
 use lib.ListN.{length, getD, set}
 use lib.Seq.{getD-set-same, getD-set-other}
 use borrow.Author.Count.{below-more}
-use borrow.Author.Tests.{ltb-true, ltb-false, eqb-true, eqb-false}
+use borrow.Author.Tests.{eqb-true, eqb-false}
 use Rattle.model.specs.Limits.{maxCells, maxCalls}
 use Rattle.model.proofs.Decide.{dec-eq}
+use Rattle.floor.specs.Order.{SoonerIn}
 use Rattle.job.specs.Bits.{bitAt, withBit}
 use Rattle.job.specs.Held.{Decides}
 use Rattle.job.specs.Lines.{pairsBelow, pairAt}
 use Rattle.job.proofs.BitLaws.{bit-set, bit-other}
 use Rattle.job.proofs.Triangle.{pair-small, pair-same}
-use Rattle.planjudge.specs.PlanTests.{cellOf, Lasts, Precedes, Ordered, Listed, Marks, Goes, Apart, Meets, Standing}
+use Rattle.planjudge.specs.PlanTests.{cellOf, Ordered, Listed, Marks, Goes, Unshared, Trades, Standing}
 
 -- Answers.
 pub told : {P : Type 0} → P → Decides true P
@@ -26,49 +28,45 @@ told p = ((λ e. p), λ e. absurd (false≢true (sym e)))
 pub denied : {P : Type 0} → (P → ⊥) → Decides false P
 denied n = ((λ e. absurd (false≢true e)), λ e. n)
 
-pub by-less : {P : Type 0} (a b : ℕ) → (a < b → P) → (P → a < b) → Decides (ltb a b) P
-by-less a b f g = ((λ e. f (ltb-true a b e)), λ e p. omega (arith, g p, ltb-false a b e))
-
 pub by-equal : {P : Type 0} (a b : ℕ) → (a ≡ b → P) → (P → a ≡ b) → Decides (eqb a b) P
 by-equal a b f g = ((λ e. f (eqb-true a b e)), λ e p. eqb-false a b e (g p))
 
 pub same-answer : {P Q : Type 0} {r : Bool} → (P → Q) → (Q → P) → Decides r P → Decides r Q
 same-answer f g d = ((λ e. f (d .0 e)), λ e q. d .1 e (g q))
 
+-- what holds of two numbers holds of those that they are equal to
+pub at-both : (F : ℕ → ℕ → Type 0) {x y p q : ℕ} → x ≡ p → y ≡ q → F x y → F p q
+at-both F e f h = rw (e, f) at h
+
 -- Order.
-module _ (last calls : List ℕ) where
-  pub before-next : (k m l : ℕ) → Precedes last calls k m → Precedes last calls m l → Precedes last calls k l
+module _ (lifts deadlines calls : List ℕ) where
+  abbrev Before : ℕ → ℕ → Type 0
+  Before k m = SoonerIn lifts deadlines (getD calls k 0) (getD calls m 0)
+
+  before-next : (k m l : ℕ) → Before k m → Before m l → Before k l
   before-next k m l (inl a) (inl b) = inl (omega arith)
   before-next k m l (inl a) (inr b) = inl (omega arith)
   before-next k m l (inr a) (inl b) = inl (omega arith)
   before-next k m l (inr a) (inr b) = inr (omega arith, omega arith)
 
-  pub before-later : (n : ℕ) → Ordered last calls n → (m k : ℕ) → k < m → m < n → Precedes last calls k m
+  before-later : (n : ℕ) → Ordered lifts deadlines calls n → (m k : ℕ) → k < m → m < n → Before k m
   before-later n o zero k h l = absurd (omega arith)
   before-later n o (suc m) k h l = go (dec-eq k m) (λ h′. before-later n o m k h′ (omega arith))
     where
-      next : Precedes last calls m (suc m)
-      next = let e : m + 1 ≡ suc m = omega arith in rw e at (o m (omega arith))
+      next : Before m (suc m)
+      next = rw add-one at (o m (omega arith))
 
-      go : Dec (k ≡ m) → (k < m → Precedes last calls k m) → Precedes last calls k (suc m)
+      go : Dec (k ≡ m) → (k < m → Before k m) → Before k (suc m)
       go (yes e) f = rw e next
       go (no n) f = before-next k m (suc m) (f (omega arith)) next
 
-  -- where deadlines are equal the calls decide
-  pub by-calls : (k m : ℕ) → getD last m 0 ≤ getD last k 0 → Precedes last calls k m → getD calls k 0 < getD calls m 0
-  by-calls k m h (inl a) = absurd (omega arith)
-  by-calls k m h (inr a) = a .1
-
-  pub never-before : (k m : ℕ) → getD last m 0 < getD last k 0 → Precedes last calls k m → ⊥
-  never-before k m h (inl a) = omega arith
-  never-before k m h (inr a) = omega arith
-
--- The next entry of a list of deadlines.
-pub lasts-more : (deadlines calls last : List ℕ) (k : ℕ) → k < length last → Lasts deadlines calls last k
-    → Lasts deadlines calls (set last k (getD deadlines (getD calls k 0) 0)) (k + 1)
-lasts-more deadlines calls last k h l = below-more _ k
-    (λ m d. getD-set-other last k m (getD deadlines (getD calls k 0) 0) 0 (λ e. omega arith) ∙ l m d)
-    (getD-set-same last k (getD deadlines (getD calls k 0) 0) 0 h)
+  -- no call is twice
+  pub other-call : (n : ℕ) → Ordered lifts deadlines calls n → (i k : ℕ) → i < k → k < n → getD calls i 0 ≡ getD calls k 0 → ⊥
+  other-call n o i k a b e = go (before-later n o k i a b)
+    where
+      go : Before i k → ⊥
+      go (inl l) = omega (arith, ap (λ q. getD deadlines q 0) e)
+      go (inr l) = omega arith
 
 -- Tracks.
 module _ (from to : List ℕ) where
@@ -119,35 +117,35 @@ no-go table u v a (inl e) = absurd (a e)
 no-go table u v a (inr e) = e
 
 -- Who is on which cell at a step.
-module _ (last rows : List ℕ) (t : ℕ) where
-  pub standing-none : (on : List ℕ) → ((c : ℕ) → c < maxCells → getD on c 0 ≡ maxCalls) → Standing last rows 0 t on
+module _ (lasts rows : List ℕ) (t : ℕ) where
+  pub standing-none : (on : List ℕ) → ((c : ℕ) → c < maxCells → getD on c 0 ≡ maxCalls) → Standing lasts rows 0 t on
   standing-none on z = record {
     there = λ k h. absurd (omega arith);
     back = λ c h l. absurd (omega (arith, z c h));
   }
 
   -- path k has left the floor
-  pub standing-left : (k : ℕ) (on : List ℕ) → getD last k 0 < t → Standing last rows k t on → Standing last rows (k + 1) t on
+  pub standing-left : (k : ℕ) (on : List ℕ) → getD lasts k 0 < t → Standing lasts rows k t on → Standing lasts rows (k + 1) t on
   standing-left k on h s = record {
     there = below-more _ k (s .there) (λ l. absurd (omega arith));
     back = λ c l f. let b = s .back c l f in (omega (arith, b .0), b .1, b .2);
   }
 
   -- path k is put on a free cell
-  module _ (k : ℕ) (on : List ℕ) (size : length on ≡ maxCells) (small : k < maxCalls) (known : cellOf rows k t < maxCells) (lives : t ≤ getD last k 0)
-      (free : maxCalls ≤ getD on (cellOf rows k t) 0) (s : Standing last rows k t on) where
+  module _ (k : ℕ) (on : List ℕ) (size : length on ≡ maxCells) (small : k < maxCalls) (known : cellOf rows k t < maxCells) (lives : t ≤ getD lasts k 0)
+      (free : maxCalls ≤ getD on (cellOf rows k t) 0) (s : Standing lasts rows k t on) where
     abbrev on′ : List ℕ
     on′ = set on (cellOf rows k t) k
 
-    put-there : (m : ℕ) → m < k → t ≤ getD last m 0 → getD on′ (cellOf rows m t) 0 ≡ m
+    put-there : (m : ℕ) → m < k → t ≤ getD lasts m 0 → getD on′ (cellOf rows m t) 0 ≡ m
     put-there m h l =
         let e = s .there m h l in
         getD-set-other on (cellOf rows k t) (cellOf rows m t) k 0 (λ q. omega (arith, rw q at e)) ∙ e
 
-    put-back : (c : ℕ) → c < maxCells → getD on′ c 0 < maxCalls → (getD on′ c 0 < k + 1) × (t ≤ getD last (getD on′ c 0) 0) × (cellOf rows (getD on′ c 0) t ≡ c)
+    put-back : (c : ℕ) → c < maxCells → getD on′ c 0 < maxCalls → (getD on′ c 0 < k + 1) × (t ≤ getD lasts (getD on′ c 0) 0) × (cellOf rows (getD on′ c 0) t ≡ c)
     put-back c h f = go (dec-eq c (cellOf rows k t))
       where
-        go : Dec (c ≡ cellOf rows k t) → (getD on′ c 0 < k + 1) × (t ≤ getD last (getD on′ c 0) 0) × (cellOf rows (getD on′ c 0) t ≡ c)
+        go : Dec (c ≡ cellOf rows k t) → (getD on′ c 0 < k + 1) × (t ≤ getD lasts (getD on′ c 0) 0) × (cellOf rows (getD on′ c 0) t ≡ c)
         go (yes q) =
             let e : getD on′ c 0 ≡ k = rw q (getD-set-same on (cellOf rows k t) k 0 (omega arith)) in
             rw e (omega arith, lives, sym q)
@@ -156,18 +154,18 @@ module _ (last rows : List ℕ) (t : ℕ) where
             let b = s .back c h (rw e at f) in
             rw e (omega (arith, b .0), b .1, b .2)
 
-    pub standing-more : Standing last rows (k + 1) t on′
+    pub standing-more : Standing lasts rows (k + 1) t on′
     standing-more = record {
       there = below-more _ k put-there (λ l. getD-set-same on (cellOf rows k t) k 0 (omega arith));
       back = put-back;
     }
 
-  pub standing-apart : (n : ℕ) (on : List ℕ) → Standing last rows n t on → Apart last rows n t
-  standing-apart n on s k m a b h l e = sym (s .there k a h) ∙ ap (λ c. getD on c 0) e ∙ s .there m b l
+  pub standing-unshared : (n : ℕ) (on : List ℕ) → Standing lasts rows n t on → Unshared lasts rows n t
+  standing-unshared n on s k m a b h l e = sym (s .there k a h) ∙ ap (λ c. getD on c 0) e ∙ s .there m b l
 
   -- the cell of path k is taken by an earlier path
-  pub standing-taken : (n k : ℕ) (on : List ℕ) → Standing last rows k t on → k < n → cellOf rows k t < maxCells → t ≤ getD last k 0
-      → getD on (cellOf rows k t) 0 < maxCalls → Apart last rows n t → ⊥
+  pub standing-taken : (n k : ℕ) (on : List ℕ) → Standing lasts rows k t on → k < n → cellOf rows k t < maxCells → t ≤ getD lasts k 0
+      → getD on (cellOf rows k t) 0 < maxCalls → Unshared lasts rows n t → ⊥
   standing-taken n k on s h c l f a =
       let (m, d, e) = s .back (cellOf rows k t) c f in
       omega (arith, a (getD on (cellOf rows k t) 0) k (omega arith) h d l e)
@@ -176,16 +174,16 @@ module _ (last rows : List ℕ) (t : ℕ) where
   pub record Met (k o : ℕ) : Type 0 where
     pub known : o < maxCalls
     pub other : o ≡ k → ⊥
-    pub lives : t < getD last o 0
+    pub lives : t < getD lasts o 0
     pub back : cellOf rows o (t + 1) ≡ cellOf rows k t
 
-  module _ (n k : ℕ) (on : List ℕ) (few : n ≤ maxCalls) (s : Standing last rows n t on) (o : ℕ) (e : o ≡ getD on (cellOf rows k (t + 1)) 0) where
-    pub met : Meets last rows n t k → Met k o
+  module _ (n k : ℕ) (on : List ℕ) (few : n ≤ maxCalls) (s : Standing lasts rows n t on) (o : ℕ) (e : o ≡ getD on (cellOf rows k (t + 1)) 0) where
+    pub met : Trades lasts rows n t k → Met k o
     met (m, h, d, l, f, f′) =
         let q : o ≡ m = e ∙ ap (λ c. getD on c 0) (sym f) ∙ s .there m h (omega arith) in
         rw q (record { known = omega arith; other = d; lives = l; back = f′ })
 
-    pub meets-of : cellOf rows k (t + 1) < maxCells → Met k o → Meets last rows n t k
-    meets-of c m =
+    pub trades-of : cellOf rows k (t + 1) < maxCells → Met k o → Trades lasts rows n t k
+    trades-of c m =
         let b = s .back (cellOf rows k (t + 1)) c (rw e at (m .known)) in
         (o, rw e (b .0), m .other, m .lives, rw e (b .2), m .back)

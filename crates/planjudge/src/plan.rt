@@ -1,4 +1,5 @@
 // Whether paths are a plan in the order of the sheet: each a walk of its cart to its call, no two sharing a cell or trading places.
+use floor::order::sooner;
 use job::bits;
 use job::state::Job;
 use job::state::pair;
@@ -16,9 +17,9 @@ ghost use Rattle.model.specs.ReadSheet.{knownPath};
 ghost use Rattle.model.specs.Contracts.{RightPlan};
 ghost use Rattle.job.specs.Bits.{bitAt};
 ghost use Rattle.job.specs.Arrays.{jobOf, Sized};
-ghost use Rattle.job.specs.Held.{Room, pathsOf, Decides};
+ghost use Rattle.job.specs.Held.{Room, pathsTo, Decides};
 ghost use Rattle.job.specs.Lines.{pairsBelow};
-ghost use Rattle.planjudge.specs.PlanTests.{cellOf, Known, Lasts, Precedes, Ordered, Marks, Goes, Walks, Led, AllLed, Apart, Meets, Untraded, Clear, Standing};
+ghost use Rattle.planjudge.specs.PlanTests.{cellOf, Fits, Below, Ordered, Marks, Goes, Walks, Led, AllLed, Unshared, Trades, Untraded, Clear, Standing};
 
 // In the place of a path's number: no path.
 const NONE: u8 = Limits::CALLS as u8;
@@ -34,43 +35,19 @@ fn cell(rows: &[u8], k: usize, t: usize) -> usize
     wide(rows[k * Limits::STEPS + t])
 }
 
-// The last step of each path: the deadline of its call.
-fn lasts(calls: &[u8], deadlines: &[u8; Limits::CALLS], n: usize) -> [u8; Limits::CALLS]
-    requires { ⌜ (length (now calls) ≡ maxCalls) × (n ≤ maxCalls) × Known (now calls) n ⌝ }
-    ensures { λ r. ⌜ Lasts (now (deadlines .entry)) (now (calls .entry)) r n ⌝ }
-{
-    let mut last = [0u8; Limits::CALLS];
-    let mut k = 0;
-    while k < n {
-        let call = wide(calls[k]);
-        last[k] = deadlines[call];
-        k += 1;
-    }
-    last
-}
-
-// Whether path k stands before the next: its deadline is earlier, or the same and its call the earlier one.
-fn precedes(calls: &[u8], last: &[u8; Limits::CALLS], k: usize) -> bool
-    requires { ⌜ (length (now calls) ≡ maxCalls) × (k + 1 < maxCalls) ⌝ }
-    ensures { λ r. ⌜ Decides r (Precedes (now (last .entry)) (now (calls .entry)) k (k + 1)) ⌝ }
-{
-    if last[k] < last[k + 1] {
-        return true;
-    }
-    if last[k + 1] < last[k] {
-        return false;
-    }
-    calls[k] < calls[k + 1]
-}
-
-// Whether each of the first n paths stands before the next.
-fn in_order(calls: &[u8], last: &[u8; Limits::CALLS], n: usize) -> bool
-    requires { ⌜ (length (now calls) ≡ maxCalls) × (n ≤ maxCalls) ⌝ }
-    ensures { λ r. ⌜ Decides r (Ordered (now (last .entry)) (now (calls .entry)) n) ⌝ }
+// Whether the calls of the first n paths are in order, each before the next.
+fn in_order<'a>(
+    lifts: &'a [u8; Limits::CALLS],
+    deadlines: &'a [u8; Limits::CALLS],
+    calls: &[u8],
+    n: usize,
+) -> bool
+    requires { ⌜ (length (now calls) ≡ maxCalls) × (n ≤ maxCalls) × Below (now calls) n ⌝ }
+    ensures { λ r. ⌜ Decides r (Ordered (now (lifts .entry)) (now (deadlines .entry)) (now (calls .entry)) n) ⌝ }
 {
     let mut k = 0;
     while k + 1 < n {
-        if !precedes(calls, last, k) {
+        if !sooner(lifts, deadlines, wide(calls[k]), wide(calls[k + 1])) {
             return false;
         }
         k += 1;
@@ -141,15 +118,15 @@ fn leads(table: &[u8; PAIRS / 8], rows: &[u8], k: usize, d: usize, a: usize, b: 
 fn all_lead<'a>(
     table: &[u8; PAIRS / 8],
     rows: &[u8],
-    last: &[u8; Limits::CALLS],
+    lasts: &[u8],
     carts: &[u8],
     starts: &'a [u8; Limits::CARTS],
     calls: &[u8],
     lifts: &'a [u8; Limits::CALLS],
     n: usize,
 ) -> bool
-    requires { ⌜ (length (now rows) ≡ maxCalls * maxSteps) × (length (now carts) ≡ maxCalls) × (length (now calls) ≡ maxCalls) × (n ≤ maxCalls) × Known (now carts) n × Known (now calls) n ⌝ }
-    ensures { λ r. ⌜ Decides r (AllLed (now (table .entry)) (now (rows .entry)) (now (last .entry)) (now (carts .entry)) (now (starts .entry)) (now (calls .entry)) (now (lifts .entry)) n) ⌝ }
+    requires { ⌜ Fits (now lasts) (now rows) n × (length (now carts) ≡ maxCalls) × (length (now calls) ≡ maxCalls) × Below (now carts) n × Below (now calls) n ⌝ }
+    ensures { λ r. ⌜ Decides r (AllLed (now (table .entry)) (now (rows .entry)) (now (lasts .entry)) (now (carts .entry)) (now (starts .entry)) (now (calls .entry)) (now (lifts .entry)) n) ⌝ }
 {
     let mut k = 0;
     while k < n {
@@ -159,7 +136,7 @@ fn all_lead<'a>(
             table,
             rows,
             k,
-            wide(last[k]),
+            wide(lasts[k]),
             wide(starts[cart]),
             wide(lifts[call]),
         ) {
@@ -171,19 +148,13 @@ fn all_lead<'a>(
 }
 
 // Puts each path on its cell at the step t, until one is taken already.
-fn stand(
-    last: &[u8; Limits::CALLS],
-    rows: &[u8],
-    n: usize,
-    t: usize,
-    on: &mut [u8; Limits::CELLS],
-) -> bool
-    requires { ⌜ (length (now rows) ≡ maxCalls * maxSteps) × (n ≤ maxCalls) × (t < maxSteps) × (length (now on) ≡ maxCells) × ((c : ℕ) → c < maxCells → getD (now on) c 0 ≡ maxCalls) ⌝ }
-    ensures { λ r. ⌜ Decides r (Apart (now (last .entry)) (now (rows .entry)) n t) × (r ≡ true → Standing (now (last .entry)) (now (rows .entry)) n t (now (on .exit))) ⌝ }
+fn stand(lasts: &[u8], rows: &[u8], n: usize, t: usize, on: &mut [u8; Limits::CELLS]) -> bool
+    requires { ⌜ Fits (now lasts) (now rows) n × (t < maxSteps) × (length (now on) ≡ maxCells) × ((c : ℕ) → c < maxCells → getD (now on) c 0 ≡ maxCalls) ⌝ }
+    ensures { λ r. ⌜ Decides r (Unshared (now (lasts .entry)) (now (rows .entry)) n t) × (r ≡ true → Standing (now (lasts .entry)) (now (rows .entry)) n t (now (on .exit))) ⌝ }
 {
     let mut k: usize = 0;
     while k < n {
-        if t <= wide(last[k]) {
+        if t <= wide(lasts[k]) {
             let c = cell(rows, k, t);
             if on[c] < NONE {
                 return false;
@@ -196,16 +167,9 @@ fn stand(
 }
 
 // Whether the path on the cell that path k goes to is going to the cell that path k leaves.
-fn meets(
-    last: &[u8; Limits::CALLS],
-    rows: &[u8],
-    n: usize,
-    t: usize,
-    on: &[u8; Limits::CELLS],
-    k: usize,
-) -> bool
-    requires { ⌜ (length (now rows) ≡ maxCalls * maxSteps) × (n ≤ maxCalls) × (t + 1 < maxSteps) × (k < n) × Standing (now last) (now rows) n t (now on) ⌝ }
-    ensures { λ r. ⌜ Decides r (Meets (now (last .entry)) (now (rows .entry)) n t k) ⌝ }
+fn trades(lasts: &[u8], rows: &[u8], n: usize, t: usize, on: &[u8; Limits::CELLS], k: usize) -> bool
+    requires { ⌜ Fits (now lasts) (now rows) n × (t + 1 < maxSteps) × (k < n) × Standing (now lasts) (now rows) n t (now on) ⌝ }
+    ensures { λ r. ⌜ Decides r (Trades (now (lasts .entry)) (now (rows .entry)) n t k) ⌝ }
 {
     let m = wide(on[cell(rows, k, t + 1)]);
     if Limits::CALLS <= m {
@@ -214,27 +178,21 @@ fn meets(
     if m == k {
         return false;
     }
-    if wide(last[m]) <= t {
+    if wide(lasts[m]) <= t {
         return false;
     }
     cell(rows, m, t + 1) == cell(rows, k, t)
 }
 
 // Whether none of the first n paths trades places from the step t to the next.
-fn untraded(
-    last: &[u8; Limits::CALLS],
-    rows: &[u8],
-    n: usize,
-    t: usize,
-    on: &[u8; Limits::CELLS],
-) -> bool
-    requires { ⌜ (length (now rows) ≡ maxCalls * maxSteps) × (n ≤ maxCalls) × (t < maxSteps) × Standing (now last) (now rows) n t (now on) ⌝ }
-    ensures { λ r. ⌜ Decides r (Untraded (now (last .entry)) (now (rows .entry)) n t) ⌝ }
+fn untraded(lasts: &[u8], rows: &[u8], n: usize, t: usize, on: &[u8; Limits::CELLS]) -> bool
+    requires { ⌜ Fits (now lasts) (now rows) n × (t < maxSteps) × Standing (now lasts) (now rows) n t (now on) ⌝ }
+    ensures { λ r. ⌜ Decides r (Untraded (now (lasts .entry)) (now (rows .entry)) n t) ⌝ }
 {
     let mut k = 0;
     while k < n {
-        if t < wide(last[k]) {
-            if meets(last, rows, n, t, on, k) {
+        if t < wide(lasts[k]) {
+            if trades(lasts, rows, n, t, on, k) {
                 return false;
             }
         }
@@ -244,25 +202,25 @@ fn untraded(
 }
 
 // Whether the first n paths are in nobody's way at the step t.
-fn clear(last: &[u8; Limits::CALLS], rows: &[u8], n: usize, t: usize) -> bool
-    requires { ⌜ (length (now rows) ≡ maxCalls * maxSteps) × (n ≤ maxCalls) × (t < maxSteps) ⌝ }
-    ensures { λ r. ⌜ Decides r (Clear (now (last .entry)) (now (rows .entry)) n t) ⌝ }
+fn clear(lasts: &[u8], rows: &[u8], n: usize, t: usize) -> bool
+    requires { ⌜ Fits (now lasts) (now rows) n × (t < maxSteps) ⌝ }
+    ensures { λ r. ⌜ Decides r (Clear (now (lasts .entry)) (now (rows .entry)) n t) ⌝ }
 {
     let mut on = [NONE; Limits::CELLS];
-    if !stand(last, rows, n, t, &mut on) {
+    if !stand(lasts, rows, n, t, &mut on) {
         return false;
     }
-    untraded(last, rows, n, t, &on)
+    untraded(lasts, rows, n, t, &on)
 }
 
 // Whether they are so at every step up to h.
-fn all_clear(last: &[u8; Limits::CALLS], rows: &[u8], n: usize, h: usize) -> bool
-    requires { ⌜ (length (now rows) ≡ maxCalls * maxSteps) × (n ≤ maxCalls) × (h < maxSteps) ⌝ }
-    ensures { λ r. ⌜ Decides r ((t : ℕ) → t ≤ h → Clear (now (last .entry)) (now (rows .entry)) n t) ⌝ }
+fn all_clear(lasts: &[u8], rows: &[u8], n: usize, h: usize) -> bool
+    requires { ⌜ Fits (now lasts) (now rows) n × (h < maxSteps) ⌝ }
+    ensures { λ r. ⌜ Decides r ((t : ℕ) → t ≤ h → Clear (now (lasts .entry)) (now (rows .entry)) n t) ⌝ }
 {
     let mut t = 0;
     while t <= h {
-        if !clear(last, rows, n, t) {
+        if !clear(lasts, rows, n, t) {
             return false;
         }
         t += 1;
@@ -270,13 +228,12 @@ fn all_clear(last: &[u8; Limits::CALLS], rows: &[u8], n: usize, h: usize) -> boo
     true
 }
 
-pub fn is_plan(job: Job, carts: &[u8], calls: &[u8], rows: &[u8]) -> bool
-    requires { ⌜ Ready (jobOf job) × Sized job × Room (now carts) (now calls) (now rows) × ((p : Path) → In p (pathsOf (jobOf job) (now carts) (now calls) (now rows)) → knownPath (jobOf job) p ≡ true) ⌝ }
-    ensures { λ r. ⌜ Decides r (RightPlan (jobOf job) (pathsOf (jobOf job) (now (carts .entry)) (now (calls .entry)) (now (rows .entry)))) ⌝ }
+pub fn is_plan(job: Job, carts: &[u8], calls: &[u8], lasts: &[u8], rows: &[u8]) -> bool
+    requires { ⌜ Ready (jobOf job) × Sized job × Room (now carts) (now calls) (now lasts) (now rows) × ((p : Path) → In p (pathsTo (now carts) (now calls) (now lasts) (now rows) (length (jobOf job .calls))) → knownPath (jobOf job) p ≡ true) ⌝ }
+    ensures { λ r. ⌜ Decides r (RightPlan (jobOf job) (pathsTo (now (carts .entry)) (now (calls .entry)) (now (lasts .entry)) (now (rows .entry)) (length (jobOf job .calls)))) ⌝ }
 {
     let n = job.calls;
-    let last = lasts(calls, &job.deadlines, n);
-    if !in_order(calls, &last, n) {
+    if !in_order(&job.lifts, &job.deadlines, calls, n) {
         return false;
     }
     let mut table = [0u8; PAIRS / 8];
@@ -284,7 +241,7 @@ pub fn is_plan(job: Job, carts: &[u8], calls: &[u8], rows: &[u8]) -> bool
     if !all_lead(
         &table,
         rows,
-        &last,
+        lasts,
         carts,
         &job.starts,
         calls,
@@ -293,5 +250,5 @@ pub fn is_plan(job: Job, carts: &[u8], calls: &[u8], rows: &[u8]) -> bool
     ) {
         return false;
     }
-    all_clear(&last, rows, n, job::size::horizon(&job.deadlines, n))
+    all_clear(lasts, rows, n, job::size::horizon(&job.deadlines, n))
 }

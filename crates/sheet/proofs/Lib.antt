@@ -1,6 +1,4 @@
-pub mod FormNumbers
-pub mod FormSaid
-pub mod FormLines
-pub mod FormHeld
-pub mod FormWhole
-pub mod FormTold
+pub mod Numbers
+pub mod Said
+pub mod Lines
+pub mod Whole

@@ -1,17 +1,18 @@
 -- What the reader's answer stands for.
 use Prim.Native.Nat.{ℕ, _+_, _≤_}
 use mathlib.Core.List.{List}
+use lib.ListN.{length}
 use Rattle.model.specs.Limits.{maxCalls}
 use Rattle.model.specs.Job.{Job}
 use Rattle.model.specs.ReadSheet.{Sheet, bad, plan, cannot}
-use Rattle.job.specs.Held.{pathsOf, pointsOf}
-use Rattle.sheet.specs.declared.form.Form.{Form}
-use Rattle.sheet.specs.declared.form.Form.the-variants.{Bad, Plan, Cannot}
+use Rattle.job.specs.Held.{pathsTo, pointsOf}
+use Rattle.sheet.specs.declared.Form.{Form}
+use Rattle.sheet.specs.declared.Form.the-variants.{Bad, Plan, Cannot}
 
-abbrev pub formOf : Job → Form → List ℕ → List ℕ → List ℕ → Sheet
-formOf j (Bad l) first second rows = bad l
-formOf j Plan first second rows = plan (pathsOf j first second rows)
-formOf j (Cannot n) first second rows = cannot (pointsOf first second n)
+abbrev pub formOf : Job → Form → List ℕ → List ℕ → List ℕ → List ℕ → Sheet
+formOf j (Bad l) first second lasts rows = bad l
+formOf j Plan first second lasts rows = plan (pathsTo first second lasts rows (length (j .calls)))
+formOf j (Cannot n) first second lasts rows = cannot (pointsOf first second n)
 
 -- A sheet in the form has a first line and at most one for each call, so a bad one is at most the line after those; and there are fewer choke points
 -- than calls can be.

@@ -1,2 +1,2 @@
 pub mod Form
-pub mod FormParts
+pub mod Parts

@@ -2,15 +2,14 @@
 -- By induction over lists and counts. Assumes nothing.
 use Rattle.job.proofs.Rows.{in-paths}
 use Prim.Native.Nat.{ℕ, zero, suc, _+_, _-_, _*_, _≤_, _<_}
-use mathlib.Core.Path.{_≡_, refl, sym, _∙_, subst}
+use mathlib.Core.Path.{_≡_, refl, ap}
 use mathlib.Core.List.{List, [], _∷_, _++_, append-assoc, append-nil}
-use mathlib.Core.Logic.{_⊎_, inl, inr, ⊎-elim}
-use mathlib.Core.Bool.{Bool, true, false, _&&_}
+use mathlib.Core.Bool.{true, _&&_}
 use native.Mathlib.Omega.{arith}
 use native.Mathlib.Nat.{add-mul, one-mul, mul-le-mul}
 use lib.Dec.{ltb, eqb}
-use lib.ListN.{length, getD, take, drop, length-append, length-take}
-use borrow.Author.Tests.{ltb-true, ltb-false}
+use lib.ListN.{length, getD, take, drop, length-append}
+use borrow.Author.Tests.{eqb-true}
 use Rattle.model.specs.Lists.{In}
 use Rattle.model.specs.Limits.{maxSteps}
 use Rattle.model.specs.Text.{numeral, fields, line, pathWord}
@@ -20,12 +19,9 @@ use Rattle.model.specs.Ready.{Ready}
 use Rattle.model.specs.SheetText.{linesText, pathNumbers}
 use Rattle.model.specs.ReadSheet.{knownPath, allBelow}
 use Rattle.model.proofs.Basics.{and-left, and-right}
-use Rattle.job.specs.declared.state.Job as declared
-use Rattle.job.specs.Arrays.{jobOf, Sized}
-use Rattle.job.proofs.Arrays.{Long, whole, calls-count, deadline-at}
 use Rattle.text.specs.Wrote.{Wrote}
 use Rattle.text.proofs.Wrote.{wrote-more, fields-append, fields-room, line-room, lines-append}
-use Rattle.job.specs.Held.{pathAt, pathsTo, pathsOf}
+use Rattle.job.specs.Held.{pathAt, pathsTo}
 
 -- A line that is written in pieces.
 pub wrote-pair : {s : List ℕ} {at : ℕ} {word t : List ℕ} {p : ℕ} (a b : ℕ) {u : List ℕ} {q : ℕ} {v : List ℕ} {r : ℕ}
@@ -55,19 +51,8 @@ module _ (b k n p l : ℕ) (h : k < n) (room : p + (n - k) * b ≤ l) where
   pub room-rest : (r : ℕ) → r ≤ p + b → r + (n - (k + 1)) * b ≤ l
   room-rest r i = omega (arith, apart)
 
--- Paths.
-module _ (j : Job) (carts calls rows : List ℕ) where
-  call-known : ((p : Path) → In p (pathsOf j carts calls rows) → knownPath j p ≡ true) → (k : ℕ) → k < length (j .calls) → getD calls k 0 < length (j .calls)
-  call-known known k h =
-      let p = pathAt j carts calls rows k in
-      let a = ltb (p .cart) (length (j .carts)) in
-      let b = ltb (p .call) (length (j .calls)) in
-      let c = eqb (length (p .cells)) (suc (callOf j (p .call) .deadline)) in
-      let d = allBelow (j .cells) (p .cells) in
-      ltb-true (p .call) (length (j .calls)) (and-right a b (and-left (a && b) c (and-left (a && b && c) d (known p (in-paths j carts calls rows (length (j .calls)) k h)))))
-
 -- a deadline is no later than the last step
-pub latest-most : (l : List Call) (k : ℕ) → getD l k (call 0 0) .deadline ≤ latest l
+latest-most : (l : List Call) (k : ℕ) → getD l k (call 0 0) .deadline ≤ latest l
 latest-most [] k = omega arith
 latest-most (q ∷ l) zero = omega arith
 latest-most (q ∷ l) (suc k) = omega (arith, latest-most l k)
@@ -89,29 +74,30 @@ module _ (j : Job) (ready : Ready j) (n : ℕ) where
       let l : n ≤ length (j .carts) = omega (arith, ready .even) in
       omega (arith, mul-le-mul l b)
 
--- The path of line k, as the code finds it: its line is no longer than its share.
-module _ (j : Job) (carts calls rows : List ℕ) (k cart at d a e : ℕ) (p : cart ≡ getD carts k 0) (q : at ≡ getD calls k 0)
-    (r : callOf j at .deadline ≡ d) (s : a ≡ k * maxSteps) (t : e ≡ a + d + 1) where
-  path-numbers : pathNumbers (pathAt j carts calls rows k) ≡ cart ∷ at ∷ take (e - a) (drop a rows)
-  path-numbers =
-      let m : e - a ≡ suc d = omega arith in
-      rw (m, s, ← r, q, p) refl
+-- The path of line k, as the code finds it: its line is no longer than its share, since a known path has a cell for each step to its deadline.
+module _ (j : Job) (carts calls lasts rows : List ℕ) (known : (p : Path) → In p (pathsTo carts calls lasts rows (length (j .calls))) → knownPath j p ≡ true)
+    (k : ℕ) (h : k < length (j .calls)) {cart at d : ℕ} (e : cart ≡ getD carts k 0) (f : at ≡ getD calls k 0) (g : d ≡ getD lasts k 0) where
+  abbrev P : Path
+  P = pathAt carts calls lasts rows k
 
-  pub wrote-path : {u : List ℕ} {x : ℕ} {v : List ℕ} {y : ℕ} → Wrote u x (line pathWord (cart ∷ at ∷ take (e - a) (drop a rows))) v y
-      → Wrote u x (line pathWord (pathNumbers (pathAt j carts calls rows k))) v y
-  wrote-path {u} {x} {v} {y} w = subst (λ (ns : List ℕ). Wrote u x (line pathWord ns) v y) (sym path-numbers) w
+  abbrev part : List ℕ
+  part = take (k * maxSteps + d + 1 - k * maxSteps) (drop (k * maxSteps) rows)
 
-  pub path-room : length (line pathWord (cart ∷ at ∷ take (e - a) (drop a rows))) ≤ share j
-  path-room =
-      omega (arith, line-room pathWord (cart ∷ at ∷ take (e - a) (drop a rows)), length-take (e - a) (drop a rows), latest-most (j .calls) at)
+  part-is : part ≡ P .cells
+  part-is =
+      let m : k * maxSteps + d + 1 - k * maxSteps ≡ suc d = omega arith in
+      rw (m, g) refl
 
--- the call of line k, as the arrays have it
-module _ (s : declared.Job) (sized : Sized s) (g : Long s) (carts calls rows : List ℕ)
-    (known : (p : Path) → In p (pathsOf (jobOf s) carts calls rows) → knownPath (jobOf s) p ≡ true) (k at : ℕ) (h : k < s .calls) (q : at ≡ getD calls k 0) where
-  pub call-below : at < s .calls
-  call-below =
-      let e = calls-count s (whole s sized g) in
-      omega (arith, call-known (jobOf s) carts calls rows known k (omega arith))
+  pub part-short : length part ≤ horizon j + 1
+  part-short =
+      let a = ltb (P .cart) (length (j .carts)) in
+      let b = ltb (P .call) (length (j .calls)) in
+      let c = eqb (length (P .cells)) (suc (callOf j (P .call) .deadline)) in
+      let w = and-left (a && b && c) (allBelow (j .cells) (P .cells)) (known P (in-paths carts calls lasts rows (length (j .calls)) k h)) in
+      omega (arith, ap length part-is, eqb-true (length (P .cells)) (suc (callOf j (P .call) .deadline)) (and-right (a && b) c w), latest-most (j .calls) (P .call))
 
-  pub call-deadline : callOf (jobOf s) at .deadline ≡ getD (s .deadlines) at 0
-  call-deadline = deadline-at s (whole s sized g) at call-below
+  pub path-room : length (line pathWord (cart ∷ at ∷ part)) ≤ share j
+  path-room = omega (arith, line-room pathWord (cart ∷ at ∷ part), part-short)
+
+  pub wrote-path : {u : List ℕ} {x : ℕ} {v : List ℕ} {y : ℕ} → Wrote u x (line pathWord (cart ∷ at ∷ part)) v y → Wrote u x (line pathWord (pathNumbers P)) v y
+  wrote-path w = rw (← e, ← f, ← part-is) w

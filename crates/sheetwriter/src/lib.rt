@@ -18,7 +18,7 @@ ghost use Rattle.model.specs.ReadSheet.{knownPath};
 ghost use Rattle.model.specs.SheetText.{planText, cannotText};
 ghost use Rattle.job.specs.Arrays.{jobOf, Sized};
 ghost use Rattle.text.specs.Wrote.{Wrote};
-ghost use Rattle.job.specs.Held.{Room, pathsOf, pointsOf};
+ghost use Rattle.job.specs.Held.{Room, pathsTo, pointsOf};
 
 // The first line: a word and a count.
 fn put_head(out: &mut [u8], at: usize, word: &[u8], n: usize) -> usize
@@ -58,18 +58,23 @@ fn put_choke(out: &mut [u8], at: usize, cell: usize, step: usize) -> usize
 }
 
 // PLAN, and a PATH line for each call.
-pub fn put_plan(job: Job, carts: &[u8], calls: &[u8], rows: &[u8], out: &mut [u8]) -> usize
-    requires { ⌜ Ready (jobOf job) × Sized job × Room (now carts) (now calls) (now rows) × ((p : Path) → In p (pathsOf (jobOf job) (now carts) (now calls) (now rows)) → knownPath (jobOf job) p ≡ true) × (sheetLeast (jobOf job) ≤ length (now out)) ⌝ }
-    ensures { λ r. ⌜ Wrote (now (out .entry)) 0 (planText (pathsOf (jobOf job) (now (carts .entry)) (now (calls .entry)) (now (rows .entry)))) (now (out .exit)) r ⌝ }
+pub fn put_plan(
+    job: Job,
+    carts: &[u8],
+    calls: &[u8],
+    lasts: &[u8],
+    rows: &[u8],
+    out: &mut [u8],
+) -> usize
+    requires { ⌜ Ready (jobOf job) × Sized job × Room (now carts) (now calls) (now lasts) (now rows) × ((p : Path) → In p (pathsTo (now carts) (now calls) (now lasts) (now rows) (length (jobOf job .calls))) → knownPath (jobOf job) p ≡ true) × (sheetLeast (jobOf job) ≤ length (now out)) ⌝ }
+    ensures { λ r. ⌜ Wrote (now (out .entry)) 0 (planText (pathsTo (now (carts .entry)) (now (calls .entry)) (now (lasts .entry)) (now (rows .entry)) (length (jobOf job .calls)))) (now (out .exit)) r ⌝ }
 {
-    let n = job.calls;
-    let mut p = put_head(out, 0, b"PLAN", n);
+    let mut p = put_head(out, 0, b"PLAN", job.calls);
     let mut k = 0;
-    while k < n {
-        let call = wide(calls[k]);
+    while k < job.calls {
         let a = k * Limits::STEPS;
-        let e = a + wide(job.deadlines[call]) + 1;
-        p = put_path(out, p, wide(carts[k]), call, &rows[a..e]);
+        let e = a + wide(lasts[k]) + 1;
+        p = put_path(out, p, wide(carts[k]), wide(calls[k]), &rows[a..e]);
         k += 1;
     }
     p

@@ -11,10 +11,10 @@ use Rattle.planjudge.proofs.plan.all_clear.Statement.{statement}
 use Rattle.planjudge.proofs.plan.all_clear.Tie as tie
 
 abbrev Inv-loop : tie.InvT-loop
-Inv-loop last rows n h t₀ t = (t ≤ h + 1) × ((s : ℕ) → s < t → Clear last rows n s)
+Inv-loop lasts rows n h t₀ t = (t ≤ h + 1) × ((s : ℕ) → s < t → Clear lasts rows n s)
 
 abbrev μ-loop : tie.MeasureT-loop
-μ-loop last rows n h t₀ t = h + 1 - t
+μ-loop lasts rows n h t₀ t = h + 1 - t
 
 loop-holds : tie.Need-loop-holds Inv-loop μ-loop
 loop-holds c = (omega arith, λ s l. absurd (omega arith))

@@ -14,25 +14,30 @@ use Prim.Native.Nat.{ℕ, _*_, _/_, _≤_}
 use mathlib.Core.Path.{ap}
 use Rattle.model.specs.Job.{horizon}
 use Rattle.job.specs.Arrays.{jobOf}
-use borrow.Author.Needs.{needs}
 use Rattle.planjudge.proofs.plan.is_plan.Statement.{statement}
 use Rattle.planjudge.proofs.plan.is_plan.Tie as tie
 mod Places
 use Places.*
 
-given : (c : tie.Start) → Given (c .args .t1) (now (c .args .carts)) (now (c .args .calls)) (now (c .args .rows))
-given c = record {
-  ready = c .pre .0;
-  full = whole (c .args .t1) (c .pre .1) (long (c .args .t1) (c .good .0 .0) (c .good .0 .1 .1));
-  known = c .pre .3;
-}
+given : (c : tie.After-shared-slice-known3) → let a = shared-slice-known3→start c .args in Given (a .t1) (now (a .carts)) (now (a .calls)) (now (a .lasts)) (now (a .rows))
+given c =
+    let s = shared-slice-known3→start c in
+    let j = s .args .t1 in
+    record {
+      ready = s .pre .0;
+      full = whole j (s .pre .1) (long j (s .good .0 .0) (s .good .0 .1 .1));
+      fits = record { few = s .pre .1 .calls; ends = s .pre .2 .steps; cells = s .pre .2 .cells };
+      bytes = λ k. omega (arith, c .shared-slice-known3 .given k);
+      known = s .pre .3;
+    }
 
-lasts-requires : tie.Need-lasts-requires
-lasts-requires c κs = (lasts-arg→start c .pre .2 .seconds, lasts-arg→start c .pre .1 .calls, λ k h. omega (arith, lasts-arg→start c .pre .1 .calls, known-call (given (lasts-arg→start c)) k h))
+in-order-requires : tie.Need-in-order-requires
+in-order-requires c κs =
+    let p = in-order-arg2→start c .pre in
+    (p .2 .seconds, p .1 .calls, λ k h. omega (arith, p .1 .calls, known-call (given (in-order-arg2→shared-slice-known3 c)) k h))
 
 returns : tie.Need-returns
-returns c =
-    denied (λ r. then1→in-order c .in-order .ensures .1 (not-true _ (c .if1 .taken)) (right-ordered (given (then1→start c)) (then1→lasts c .lasts .result) (then1→lasts c .lasts .ensures) (r .1)))
+returns c = denied (λ r. then1→in-order c .in-order .ensures .1 (not-true _ (c .if1 .taken)) (right-ordered (given (then1→shared-slice-known3 c)) (r .1)))
 
 mark-requires : tie.Need-mark-requires
 mark-requires c κs = (table→start c .pre .1 .tracks, ap (λ n. 8 * n) (length-replicate {A = ℕ} (pairsBelow maxCells / 8) 0), no-bits (pairsBelow maxCells / 8))
@@ -40,32 +45,27 @@ mark-requires c κs = (table→start c .pre .1 .tracks, ap (λ n. 8 * n) (length
 all-lead-requires : tie.Need-all-lead-requires
 all-lead-requires c κs =
     let p = all-lead-arg2→start c .pre in
-    let g = given (all-lead-arg2→start c) in
-    (p .2 .cells, p .2 .firsts, p .2 .seconds, p .1 .calls, (λ k h. omega (arith, p .1 .carts, known-cart g k h)), λ k h. omega (arith, p .1 .calls, known-call g k h))
+    let g = given (all-lead-arg2→shared-slice-known3 c) in
+    (g .fits, p .2 .firsts, p .2 .seconds, (λ k h. omega (arith, p .1 .carts, known-cart g k h)), λ k h. omega (arith, p .1 .calls, known-call g k h))
 
 returns-2 : tie.Need-returns-2
-returns-2 c =
-    denied
-    (λ r. then2→all-lead c .all-lead .ensures .1 (not-true _ (c .if2 .taken))
-    (plan-led (given (then2→start c)) (then2→lasts c .lasts .result) (then2→lasts c .lasts .ensures) (then2→mark c .mark .ensures) (r .0 .leads)))
+returns-2 c = denied (λ r. then2→all-lead c .all-lead .ensures .1 (not-true _ (c .if2 .taken)) (plan-led (given (then2→shared-slice-known3 c)) (then2→mark c .mark .ensures) (r .0 .leads)))
 
 horizon-requires : tie.Need-horizon-requires
 horizon-requires c κs = horizon-arg→start c .pre .1 .calls
 
 all-clear-requires : tie.Need-all-clear-requires
-all-clear-requires c κs = (horizon→start c .pre .2 .cells, horizon→start c .pre .1 .calls, c .horizon .ensures .1)
+all-clear-requires c κs = (given (horizon→shared-slice-known3 c) .fits, c .horizon .ensures .1)
 
 returns-3 : tie.Need-returns-3
 returns-3 c =
-    let g = given (all-clear→start c) in
-    let last = all-clear→lasts c .lasts .result in
-    let due = all-clear→lasts c .lasts .ensures in
+    let g = given (all-clear→shared-slice-known3 c) in
     let j = all-clear→start c .args .t1 in
     let h = all-clear→horizon c .horizon in
     let order = all-clear→in-order c .in-order .ensures .0 (not-false _ (all-clear→else1 c .if1 .left)) in
     let led = all-clear→all-lead c .all-lead .ensures .0 (not-false _ (all-clear→else2 c .if2 .left)) in
     let late : horizon (jobOf j) ≤ h .result = omega (arith, last-deadline j (g .full), h .ensures .0) in
-    same-answer (λ clear. tests-right g last due (all-clear→mark c .mark .ensures) (h .result) late clear order led) (λ r t l. plan-clear g last due (r .0) t) (c .all-clear .ensures)
+    same-answer (λ clear. tests-right g (all-clear→mark c .mark .ensures) (h .result) late clear order led) (λ r t l. plan-clear g (r .0) t) (c .all-clear .ensures)
 
 pub is-plan-spec : {M : Type 1} → statement M
-is-plan-spec = tie.close (tie.spec lasts-requires (λ c κs. search needs) returns mark-requires all-lead-requires returns-2 horizon-requires all-clear-requires returns-3)
+is-plan-spec = tie.close (tie.spec in-order-requires returns mark-requires all-lead-requires returns-2 horizon-requires all-clear-requires returns-3)

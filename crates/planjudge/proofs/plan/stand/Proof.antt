@@ -1,10 +1,10 @@
 -- `stand` decides whether two paths share a cell at a step, and otherwise leaves in `on` who is on which. Invariant: `on` has the paths below k,
 -- each on its own cell. The measure is the paths left. Assumes nothing.
 use Rattle.planjudge.specs.PlanTests.{Standing, cellOf}
-use Prim.Native.Nat.{_-_, _<_, _≤_}
-use mathlib.Core.Path.{_≡_, _∙_}
+use Prim.Native.Nat.{_-_, _≤_}
+use mathlib.Core.Path.{_≡_, _∙_, ap}
 use native.Mathlib.Omega.{arith}
-use Rattle.planjudge.proofs.PlanSteps.{denied, standing-apart, standing-none, standing-taken, told, standing-left, standing-more}
+use Rattle.planjudge.proofs.PlanSteps.{denied, standing-unshared, standing-none, standing-taken, told, standing-left, standing-more}
 use mathlib.Core.Bool.{false≢true}
 use lib.ListN.{getD, length, length-set, set}
 use Rattle.model.specs.Limits.{maxCells, maxCalls}
@@ -17,29 +17,28 @@ mod Places
 use Places.*
 
 abbrev Inv-loop : tie.InvT-loop
-Inv-loop last rows n t on₀ k₀ on k = (k ≤ n) × (length on ≡ maxCells) × Standing last rows k t on
+Inv-loop lasts rows n t on₀ k₀ on k = (k ≤ n) × (length on ≡ maxCells) × Standing lasts rows k t on
 
 abbrev μ-loop : tie.MeasureT-loop
-μ-loop last rows n t on₀ k₀ on k = n - k
+μ-loop lasts rows n t on₀ k₀ on k = n - k
 
 loop-holds : tie.Need-loop-holds Inv-loop μ-loop
 loop-holds c =
-    let a = shared-slice-known→start c .args in
-    (omega arith, shared-slice-known→start c .pre .3, standing-none (now (a .last)) (now (a .rows)) (a .t) (now (a .on)) (shared-slice-known→start c .pre .4))
+    let a = shared-slice-known2→start c .args in (
+      omega arith,
+      shared-slice-known2→start c .pre .2,
+      standing-none (now (a .lasts)) (now (a .rows)) (a .t) (now (a .on)) (shared-slice-known2→start c .pre .3),
+    )
 
 returns : tie.Need-returns Inv-loop μ-loop
 returns c =
-    let a = c .before .before .before .before .before .before .before .before .before .args in
-    let l = c .before .before .before .before .before .before .before .loop in
-    let last = now (a .last) in
-    let rows = now (a .rows) in
-    let x : c .before .before .cell .result ≡ cellOf rows (l .k) (a .t) = c .before .before .cell .ensures .0 in
-    let d : c .before .before .before .before .wide .result ≡ getD last (l .k) 0 = c .before .before .before .before .wide .ensures .0 in
-    let f : getD (l .on) (c .before .before .cell .result) 0 < maxCalls = c .if2 .taken in (
+    let a = then2→start c .args in
+    let l = then2→loop c .loop in
+    let x = then2→cell c .cell .ensures in
+    let f = ap (λ i. getD (l .on) i 0) (x .0) in (
       denied
-          (standing-taken last rows (a .t) (a .n) (l .k) (l .on) (l .inv .2) (c .before .before .before .before .before .before .loop-test .taken)
-          (omega (arith, x, c .before .before .cell .ensures .1))
-          (omega (arith, d, c .before .before .before .if1 .taken)) (rw x at f)),
+          (standing-taken (now (a .lasts)) (now (a .rows)) (a .t) (a .n) (l .k) (l .on) (l .inv .2) (then2→in-loop c .loop-test .taken)
+          (omega (arith, x .0, x .1)) (omega (arith, then2→wide c .wide .ensures .0, then2→then1 c .if1 .taken)) (omega (arith, f, c .if2 .taken))),
       λ e. absurd (false≢true e),
     )
 
@@ -47,7 +46,7 @@ loop-again : tie.Need-loop-again Inv-loop μ-loop
 loop-again c =
     let a = joined1→start c .args in
     let l = joined1→loop c .loop in
-    let last = now (a .last) in
+    let last = now (a .lasts) in
     let rows = now (a .rows) in
     let d : joined1→wide c .wide .result ≡ getD last (l .k) 0 = joined1→wide c .wide .ensures .0 in
     ⊎-elim
@@ -68,11 +67,11 @@ loop-again c =
 
 returns-2 : tie.Need-returns-2 Inv-loop μ-loop
 returns-2 c =
-    let a = c .before .before .before .args in
+    let a = c .before .before .before .before .args in
     let l = c .before .loop in
     let e : l .k ≡ a .n = omega arith in
-    let s : Standing (now (a .last)) (now (a .rows)) (a .n) (a .t) (l .on) = rw e at (l .inv .2) in
-    (told (standing-apart (now (a .last)) (now (a .rows)) (a .t) (a .n) (l .on) s), λ e. s)
+    let s : Standing (now (a .lasts)) (now (a .rows)) (a .n) (a .t) (l .on) = rw e at (l .inv .2) in
+    (told (standing-unshared (now (a .lasts)) (now (a .rows)) (a .t) (a .n) (l .on) s), λ e. s)
 
 pub stand-spec : {M : Type 1} → statement M
 stand-spec =

@@ -1,6 +1,6 @@
 -- `untraded` decides whether no path trades places from a step to the next. Invariant: none below k does. The measure is the paths left.
 -- Assumes nothing.
-use Rattle.planjudge.specs.PlanTests.{Meets}
+use Rattle.planjudge.specs.PlanTests.{Trades}
 use Prim.Native.Nat.{_-_, _<_, _≤_, ℕ}
 use mathlib.Core.Path.{_≡_}
 use borrow.Author.Count.{below-more}
@@ -16,10 +16,10 @@ mod Places
 use Places.*
 
 abbrev Inv-loop : tie.InvT-loop
-Inv-loop last rows n t on k₀ k = (k ≤ n) × ((m : ℕ) → m < k → t < getD last m 0 → Meets last rows n t m → ⊥)
+Inv-loop lasts rows n t on k₀ k = (k ≤ n) × ((m : ℕ) → m < k → t < getD lasts m 0 → Trades lasts rows n t m → ⊥)
 
 abbrev μ-loop : tie.MeasureT-loop
-μ-loop last rows n t on k₀ k = n - k
+μ-loop lasts rows n t on k₀ k = n - k
 
 loop-holds : tie.Need-loop-holds Inv-loop μ-loop
 loop-holds c = (omega arith, λ m h. absurd (omega arith))
@@ -27,14 +27,14 @@ loop-holds c = (omega arith, λ m h. absurd (omega arith))
 returns : tie.Need-returns Inv-loop μ-loop
 returns c =
     let a = then2→start c .args in
-    let d : then2→wide c .wide .result ≡ getD (now (a .last)) (then2→loop c .loop .k) 0 = then2→wide c .wide .ensures .0 in
-    denied (λ u. u (then2→loop c .loop .k) (then2→in-loop c .loop-test .taken) (omega (arith, d, then2→then1 c .if1 .taken)) (then2→meets c .meets .ensures .0 (c .if2 .taken)))
+    let d : then2→wide c .wide .result ≡ getD (now (a .lasts)) (then2→loop c .loop .k) 0 = then2→wide c .wide .ensures .0 in
+    denied (λ u. u (then2→loop c .loop .k) (then2→in-loop c .loop-test .taken) (omega (arith, d, then2→then1 c .if1 .taken)) (then2→trades c .trades .ensures .0 (c .if2 .taken)))
 
 loop-again : tie.Need-loop-again Inv-loop μ-loop
 loop-again c =
     let a = joined1→start c .args in
     let l = joined1→loop c .loop in
-    let d : joined1→wide c .wide .result ≡ getD (now (a .last)) (l .k) 0 = joined1→wide c .wide .ensures .0 in
+    let d : joined1→wide c .wide .result ≡ getD (now (a .lasts)) (l .k) 0 = joined1→wide c .wide .ensures .0 in
     (omega arith, below-more _ (l .k) (l .inv .1) (⊎-elim (λ w h. w .1 .ensures .1 (w .2 .left)) (λ w h. absurd (omega arith)) (c .if1 .came)))
 
 returns-2 : tie.Need-returns-2 Inv-loop μ-loop

@@ -2,9 +2,8 @@
 use Rattle.job.specs.Held.{Decides}
 use Rattle.planjudge.specs.PlanTests.{Goes, cellOf}
 use Prim.Native.Nat.{_+_, _-_, _<_, _≤_, ℕ}
-use mathlib.Core.Path.{_≡_}
 use borrow.Author.Count.{below-more}
-use Rattle.planjudge.proofs.PlanSteps.{denied, told}
+use Rattle.planjudge.proofs.PlanSteps.{at-both, denied, told}
 use native.Mathlib.Omega.{arith}
 use borrow.Author.Needs.{needs}
 use borrow.Author.Tests.{not-false, not-true}
@@ -21,14 +20,11 @@ abbrev μ-loop : tie.MeasureT-loop
 μ-loop table rows k d t₀ t = d - t
 
 -- what `goes` answers, by the path's cells
-answer : (c : tie.After-goes Inv-loop μ-loop) → let a = c .before .before .before .before .before .before .args in let t = c .before .before .before .before .loop .t in
+answer : (c : tie.After-goes Inv-loop μ-loop) → let a = goes→start c .args in let t = goes→loop c .loop .t in
     Decides (c .goes .result) (Goes (now (a .table)) (cellOf (now (a .rows)) (a .k) t) (cellOf (now (a .rows)) (a .k) (t + 1)))
 answer c =
-    let a = c .before .before .before .before .before .before .args in
-    let t = c .before .before .before .before .loop .t in
-    let u : c .before .before .cell .result ≡ cellOf (now (a .rows)) (a .k) t = c .before .before .cell .ensures .0 in
-    let v : c .before .cell2 .result ≡ cellOf (now (a .rows)) (a .k) (t + 1) = c .before .cell2 .ensures .0 in
-    rw (u, v) at (c .goes .ensures)
+    at-both (λ u v. Decides (c .goes .result) (Goes (now (goes→start c .args .table)) u v)) (goes→cell c .cell .ensures .0) (goes→cell2 c .cell2 .ensures .0)
+    (c .goes .ensures)
 
 loop-holds : tie.Need-loop-holds Inv-loop μ-loop
 loop-holds c = (omega arith, λ s h. absurd (omega arith))

@@ -1,15 +1,15 @@
 -- The earlier places that the proof of `put_plan` names: `x→y c` is what is known at y, seen from the place x.
 -- Made of the code by proof-names, which reads the lists below when the code has changed.
 -- All places in the code's order, each behind the one in front of it; where it is behind another, `X<Y` names that:
--- Start After-shared-slice-known After-shared-slice-known2 After-shared-slice-known3 After-slice-known After-put-head-arg After-put-head-arg2 After-put-head After-out
--- After-slice-known2 At-loop In-loop After-loop<At-loop After-shared-slice-known4<In-loop After-wide After-wide-arg After-wide2 After-put-path-arg After-shared-slice-known5
--- After-wide3 After-put-path-arg2 After-put-path After-out2 After-slice-known3
+-- Start After-shared-slice-known After-shared-slice-known2 After-shared-slice-known3 After-shared-slice-known4 After-slice-known After-put-head-arg After-put-head-arg2
+-- After-put-head After-out After-slice-known2 At-loop After-struct-known Then1 Else1<After-struct-known After-shared-slice-known5<Then1 After-wide After-put-path-arg
+-- After-shared-slice-known6 After-wide2 After-shared-slice-known7 After-wide3 After-put-path-arg2 After-put-path After-out2 After-slice-known3
 -- The needs, each with its place:
--- slice-aggregate-put-head@After-put-head-arg2 put-head-requires@After-put-head-arg2 loop-holds@After-slice-known2 shared-slice-read-wide@After-shared-slice-known4
--- wide-requires@After-shared-slice-known4 mul-a@After-wide element-copy-out-wide@After-wide wide-requires-2@After-wide-arg add-e@After-wide2 add-e-2@After-wide2
--- shared-slice-read-wide-2@After-shared-slice-known5 wide-requires-3@After-shared-slice-known5 sub-put-path@After-wide3 part-put-path-start@After-wide3
--- part-put-path-end@After-wide3 put-path-requires@After-put-path-arg2 add-k@After-slice-known3 loop-less@After-slice-known3 loop-again@After-slice-known3 same-length@After-loop
--- returns@After-loop
+-- slice-aggregate-put-head@After-put-head-arg2 put-head-requires@After-put-head-arg2 loop-holds@After-slice-known2 mul-a@Then1 shared-slice-read-wide@After-shared-slice-known5
+-- wide-requires@After-shared-slice-known5 add-e@After-wide add-e-2@After-wide shared-slice-read-wide-2@After-shared-slice-known6 wide-requires-2@After-shared-slice-known6
+-- shared-slice-read-wide-3@After-shared-slice-known7 wide-requires-3@After-shared-slice-known7 sub-put-path@After-wide3 part-put-path-start@After-wide3
+-- part-put-path-end@After-wide3 put-path-requires@After-put-path-arg2 add-k@After-slice-known3 loop-less@After-slice-known3 loop-again@After-slice-known3 same-length@Else1
+-- returns@Else1
 use Rattle.sheetwriter.proofs.put_plan.Tie as tie
 
 module _ {Inv : tie.InvT-loop} {μ : tie.MeasureT-loop} where
@@ -17,31 +17,28 @@ module _ {Inv : tie.InvT-loop} {μ : tie.MeasureT-loop} where
   slice-known2→put-head c = c .before .before
 
   abbrev pub slice-known2→start : tie.After-slice-known2 Inv μ → tie.Start Inv μ
-  slice-known2→start c = slice-known2→put-head c .before .before .before .before .before .before .before
+  slice-known2→start c = slice-known2→put-head c .before .before .before .before .before .before .before .before
 
-  abbrev pub after-loop→put-head : tie.After-loop Inv μ → tie.After-put-head Inv μ
-  after-loop→put-head c = slice-known2→put-head (c .before .before)
+  abbrev pub else1→put-head : tie.Else1 Inv μ → tie.After-put-head Inv μ
+  else1→put-head c = slice-known2→put-head (c .before .before .before)
 
-  abbrev pub after-loop→start : tie.After-loop Inv μ → tie.Start Inv μ
-  after-loop→start c = slice-known2→start (c .before .before)
+  abbrev pub else1→start : tie.Else1 Inv μ → tie.Start Inv μ
+  else1→start c = slice-known2→start (c .before .before .before)
 
-  abbrev pub wide→loop : tie.After-wide Inv μ → tie.At-loop Inv μ
-  wide→loop c = c .before .before .before
-
-  abbrev pub wide→start : tie.After-wide Inv μ → tie.Start Inv μ
-  wide→start c = slice-known2→start (c .before .before .before .before)
+  abbrev pub put-path-arg2→wide3 : tie.After-put-path-arg2 Inv μ → tie.After-wide3 Inv μ
+  put-path-arg2→wide3 c = c .before
 
   abbrev pub put-path-arg2→wide2 : tie.After-put-path-arg2 Inv μ → tie.After-wide2 Inv μ
-  put-path-arg2→wide2 c = c .before .before .before .before
+  put-path-arg2→wide2 c = put-path-arg2→wide3 c .before .before
 
   abbrev pub put-path-arg2→wide : tie.After-put-path-arg2 Inv μ → tie.After-wide Inv μ
-  put-path-arg2→wide c = put-path-arg2→wide2 c .before .before
+  put-path-arg2→wide c = put-path-arg2→wide2 c .before .before .before
 
   abbrev pub put-path-arg2→loop : tie.After-put-path-arg2 Inv μ → tie.At-loop Inv μ
-  put-path-arg2→loop c = wide→loop (put-path-arg2→wide c)
+  put-path-arg2→loop c = put-path-arg2→wide c .before .before .before .before
 
   abbrev pub put-path-arg2→start : tie.After-put-path-arg2 Inv μ → tie.Start Inv μ
-  put-path-arg2→start c = wide→start (put-path-arg2→wide c)
+  put-path-arg2→start c = put-path-arg2→loop c .before .before .before .before .before .before .before .before .before .before .before
 
   abbrev pub slice-known3→put-path : tie.After-slice-known3 Inv μ → tie.After-put-path Inv μ
   slice-known3→put-path c = c .before .before
@@ -50,16 +47,16 @@ module _ {Inv : tie.InvT-loop} {μ : tie.MeasureT-loop} where
   slice-known3→wide3 c = slice-known3→put-path c .before .before
 
   abbrev pub slice-known3→wide2 : tie.After-slice-known3 Inv μ → tie.After-wide2 Inv μ
-  slice-known3→wide2 c = put-path-arg2→wide2 (c .before .before .before)
+  slice-known3→wide2 c = slice-known3→wide3 c .before .before
 
   abbrev pub slice-known3→wide : tie.After-slice-known3 Inv μ → tie.After-wide Inv μ
-  slice-known3→wide c = slice-known3→wide2 c .before .before
+  slice-known3→wide c = put-path-arg2→wide (c .before .before .before)
 
-  abbrev pub slice-known3→in-loop : tie.After-slice-known3 Inv μ → tie.In-loop Inv μ
-  slice-known3→in-loop c = slice-known3→wide c .before .before
+  abbrev pub slice-known3→then1 : tie.After-slice-known3 Inv μ → tie.Then1 Inv μ
+  slice-known3→then1 c = slice-known3→wide c .before .before
 
   abbrev pub slice-known3→loop : tie.After-slice-known3 Inv μ → tie.At-loop Inv μ
-  slice-known3→loop c = wide→loop (slice-known3→wide c)
+  slice-known3→loop c = slice-known3→then1 c .before .before
 
   abbrev pub slice-known3→start : tie.After-slice-known3 Inv μ → tie.Start Inv μ
-  slice-known3→start c = wide→start (slice-known3→wide c)
+  slice-known3→start c = put-path-arg2→start (c .before .before .before)

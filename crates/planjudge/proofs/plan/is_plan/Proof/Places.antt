@@ -1,61 +1,64 @@
 -- The earlier places that the proof of `is_plan` names: `x→y c` is what is known at y, seen from the place x.
 -- Made of the code by proof-names, which reads the lists below when the code has changed.
 -- All places in the code's order, each behind the one in front of it; where it is behind another, `X<Y` names that:
--- Start After-shared-slice-known After-shared-slice-known2 After-shared-slice-known3 After-job After-lasts-arg After-lasts After-last After-in-order Then1 Else1<After-in-order
--- After-job2 After-mark-arg After-mark-arg2 After-table After-mark After-table2 After-last2 After-job3 After-all-lead-arg After-all-lead-arg2 After-all-lead Then2
--- Else2<After-all-lead After-last3 After-job4 After-horizon-arg After-horizon After-all-clear
+-- Start After-shared-slice-known After-shared-slice-known2 After-shared-slice-known3 After-shared-slice-known4 After-job After-in-order-arg After-in-order-arg2 After-in-order
+-- Then1 Else1<After-in-order After-job2 After-mark-arg After-mark-arg2 After-table After-mark After-table2 After-job3 After-all-lead-arg After-all-lead-arg2 After-all-lead Then2
+-- Else2<After-all-lead After-job4 After-horizon-arg After-horizon After-all-clear
 -- The needs, each with its place:
--- lasts-requires@After-lasts-arg in-order-requires@After-last returns@Then1 mark-requires@After-table all-lead-requires@After-all-lead-arg2 returns-2@Then2
--- horizon-requires@After-horizon-arg all-clear-requires@After-horizon returns-3@After-all-clear
+-- in-order-requires@After-in-order-arg2 returns@Then1 mark-requires@After-table all-lead-requires@After-all-lead-arg2 returns-2@Then2 horizon-requires@After-horizon-arg
+-- all-clear-requires@After-horizon returns-3@After-all-clear
 use Rattle.planjudge.proofs.plan.is_plan.Tie as tie
 
-abbrev pub lasts-arg→start : tie.After-lasts-arg → tie.Start
-lasts-arg→start c = c .before .before .before .before .before
+abbrev pub shared-slice-known3→start : tie.After-shared-slice-known3 → tie.Start
+shared-slice-known3→start c = c .before .before .before
+
+abbrev pub in-order-arg2→shared-slice-known3 : tie.After-in-order-arg2 → tie.After-shared-slice-known3
+in-order-arg2→shared-slice-known3 c = c .before .before .before .before
+
+abbrev pub in-order-arg2→start : tie.After-in-order-arg2 → tie.Start
+in-order-arg2→start c = shared-slice-known3→start (in-order-arg2→shared-slice-known3 c)
 
 abbrev pub then1→in-order : tie.Then1 → tie.After-in-order
 then1→in-order c = c .before
 
-abbrev pub then1→lasts : tie.Then1 → tie.After-lasts
-then1→lasts c = then1→in-order c .before .before
-
-abbrev pub then1→start : tie.Then1 → tie.Start
-then1→start c = lasts-arg→start (c .before .before .before .before)
+abbrev pub then1→shared-slice-known3 : tie.Then1 → tie.After-shared-slice-known3
+then1→shared-slice-known3 c = in-order-arg2→shared-slice-known3 (c .before .before)
 
 abbrev pub table→start : tie.After-table → tie.Start
-table→start c = lasts-arg→start (c .before .before .before .before .before .before .before .before)
+table→start c = in-order-arg2→start (c .before .before .before .before .before .before)
+
+abbrev pub all-lead-arg2→shared-slice-known3 : tie.After-all-lead-arg2 → tie.After-shared-slice-known3
+all-lead-arg2→shared-slice-known3 c = in-order-arg2→shared-slice-known3 (c .before .before .before .before .before .before .before .before .before .before .before)
 
 abbrev pub all-lead-arg2→start : tie.After-all-lead-arg2 → tie.Start
-all-lead-arg2→start c = table→start (c .before .before .before .before .before .before)
+all-lead-arg2→start c = shared-slice-known3→start (all-lead-arg2→shared-slice-known3 c)
 
 abbrev pub then2→all-lead : tie.Then2 → tie.After-all-lead
 then2→all-lead c = c .before
 
 abbrev pub then2→mark : tie.Then2 → tie.After-mark
-then2→mark c = then2→all-lead c .before .before .before .before .before .before
+then2→mark c = then2→all-lead c .before .before .before .before .before
 
-abbrev pub then2→lasts : tie.Then2 → tie.After-lasts
-then2→lasts c = then2→mark c .before .before .before .before .before .before .before .before
-
-abbrev pub then2→start : tie.Then2 → tie.Start
-then2→start c = all-lead-arg2→start (c .before .before)
+abbrev pub then2→shared-slice-known3 : tie.Then2 → tie.After-shared-slice-known3
+then2→shared-slice-known3 c = all-lead-arg2→shared-slice-known3 (c .before .before)
 
 abbrev pub horizon-arg→start : tie.After-horizon-arg → tie.Start
-horizon-arg→start c = all-lead-arg2→start (c .before .before .before .before .before)
+horizon-arg→start c = all-lead-arg2→start (c .before .before .before .before)
 
-abbrev pub horizon→start : tie.After-horizon → tie.Start
-horizon→start c = horizon-arg→start (c .before)
+abbrev pub horizon→shared-slice-known3 : tie.After-horizon → tie.After-shared-slice-known3
+horizon→shared-slice-known3 c = all-lead-arg2→shared-slice-known3 (c .before .before .before .before .before)
 
 abbrev pub all-clear→horizon : tie.After-all-clear → tie.After-horizon
 all-clear→horizon c = c .before
 
 abbrev pub all-clear→else2 : tie.After-all-clear → tie.Else2
-all-clear→else2 c = all-clear→horizon c .before .before .before .before
+all-clear→else2 c = all-clear→horizon c .before .before .before
 
 abbrev pub all-clear→all-lead : tie.After-all-clear → tie.After-all-lead
 all-clear→all-lead c = all-clear→else2 c .before
 
 abbrev pub all-clear→mark : tie.After-all-clear → tie.After-mark
-all-clear→mark c = all-clear→all-lead c .before .before .before .before .before .before
+all-clear→mark c = all-clear→all-lead c .before .before .before .before .before
 
 abbrev pub all-clear→else1 : tie.After-all-clear → tie.Else1
 all-clear→else1 c = all-clear→mark c .before .before .before .before .before
@@ -63,8 +66,8 @@ all-clear→else1 c = all-clear→mark c .before .before .before .before .before
 abbrev pub all-clear→in-order : tie.After-all-clear → tie.After-in-order
 all-clear→in-order c = all-clear→else1 c .before
 
-abbrev pub all-clear→lasts : tie.After-all-clear → tie.After-lasts
-all-clear→lasts c = all-clear→in-order c .before .before
+abbrev pub all-clear→shared-slice-known3 : tie.After-all-clear → tie.After-shared-slice-known3
+all-clear→shared-slice-known3 c = horizon→shared-slice-known3 (all-clear→horizon c)
 
 abbrev pub all-clear→start : tie.After-all-clear → tie.Start
-all-clear→start c = horizon→start (all-clear→horizon c)
+all-clear→start c = shared-slice-known3→start (all-clear→shared-slice-known3 c)

@@ -1,21 +1,22 @@
 -- The earlier places that the proof of `untraded` names: `x→y c` is what is known at y, seen from the place x.
 -- Made of the code by proof-names, which reads the lists below when the code has changed.
 -- All places in the code's order, each behind the one in front of it; where it is behind another, `X<Y` names that:
--- Start After-shared-slice-known At-loop In-loop After-loop<At-loop After-wide-arg<In-loop After-wide Then1 After-meets Then2 Else2<After-meets Else1<After-wide Joined1<After-wide
+-- Start After-shared-slice-known After-shared-slice-known2 At-loop In-loop After-loop<At-loop After-shared-slice-known3<In-loop After-wide Then1 After-trades Then2
+-- Else2<After-trades Else1<After-wide Joined1<After-wide
 -- The needs, each with its place:
--- loop-holds@After-shared-slice-known element-copy-out-wide@In-loop wide-requires@After-wide-arg meets-requires@Then1 returns@Then2 add-k@Joined1 loop-less@Joined1
--- loop-again@Joined1 returns-2@After-loop
+-- loop-holds@After-shared-slice-known2 shared-slice-read-wide@After-shared-slice-known3 wide-requires@After-shared-slice-known3 trades-requires@Then1 returns@Then2 add-k@Joined1
+-- loop-less@Joined1 loop-again@Joined1 returns-2@After-loop
 use Rattle.planjudge.proofs.plan.untraded.Tie as tie
 
 module _ {Inv : tie.InvT-loop} {μ : tie.MeasureT-loop} where
   abbrev pub after-loop→loop : tie.After-loop Inv μ → tie.At-loop Inv μ
   after-loop→loop c = c .before
 
-  abbrev pub then2→meets : tie.Then2 Inv μ → tie.After-meets Inv μ
-  then2→meets c = c .before
+  abbrev pub then2→trades : tie.Then2 Inv μ → tie.After-trades Inv μ
+  then2→trades c = c .before
 
   abbrev pub then2→then1 : tie.Then2 Inv μ → tie.Then1 Inv μ
-  then2→then1 c = then2→meets c .before
+  then2→then1 c = then2→trades c .before
 
   abbrev pub then2→wide : tie.Then2 Inv μ → tie.After-wide Inv μ
   then2→wide c = then2→then1 c .before
@@ -27,7 +28,7 @@ module _ {Inv : tie.InvT-loop} {μ : tie.MeasureT-loop} where
   then2→loop c = then2→in-loop c .before
 
   abbrev pub then2→start : tie.Then2 Inv μ → tie.Start Inv μ
-  then2→start c = then2→loop c .before .before
+  then2→start c = then2→loop c .before .before .before
 
   abbrev pub joined1→wide : tie.Joined1 Inv μ → tie.After-wide Inv μ
   joined1→wide c = c .before
@@ -36,4 +37,4 @@ module _ {Inv : tie.InvT-loop} {μ : tie.MeasureT-loop} where
   joined1→loop c = joined1→wide c .before .before .before
 
   abbrev pub joined1→start : tie.Joined1 Inv μ → tie.Start Inv μ
-  joined1→start c = joined1→loop c .before .before
+  joined1→start c = joined1→loop c .before .before .before

@@ -5,8 +5,6 @@
 -- The needs, each with its place:
 -- loop-holds@After-shared-slice-known cell-requires@In-loop add-cell@After-cell cell-requires-2@After-cell goes-requires@After-cell2 returns@Then1 add-t@Else1 loop-less@Else1
 -- loop-again@Else1 returns-2@After-loop
--- Declarations that keep their `.before`, since antt rewrites in them:
--- answer
 use Rattle.planjudge.proofs.plan.walks.Tie as tie
 
 module _ {Inv : tie.InvT-loop} {μ : tie.MeasureT-loop} where
@@ -16,14 +14,26 @@ module _ {Inv : tie.InvT-loop} {μ : tie.MeasureT-loop} where
   abbrev pub cell2→cell : tie.After-cell2 Inv μ → tie.After-cell Inv μ
   cell2→cell c = c .before
 
+  abbrev pub goes→cell2 : tie.After-goes Inv μ → tie.After-cell2 Inv μ
+  goes→cell2 c = c .before
+
+  abbrev pub goes→cell : tie.After-goes Inv μ → tie.After-cell Inv μ
+  goes→cell c = cell2→cell (goes→cell2 c)
+
+  abbrev pub goes→loop : tie.After-goes Inv μ → tie.At-loop Inv μ
+  goes→loop c = goes→cell c .before .before
+
+  abbrev pub goes→start : tie.After-goes Inv μ → tie.Start Inv μ
+  goes→start c = goes→loop c .before .before
+
   abbrev pub then1→goes : tie.Then1 Inv μ → tie.After-goes Inv μ
   then1→goes c = c .before
 
   abbrev pub then1→loop : tie.Then1 Inv μ → tie.At-loop Inv μ
-  then1→loop c = then1→goes c .before .before .before .before
+  then1→loop c = goes→loop (then1→goes c)
 
   abbrev pub else1→goes : tie.Else1 Inv μ → tie.After-goes Inv μ
   else1→goes c = c .before
 
   abbrev pub else1→loop : tie.Else1 Inv μ → tie.At-loop Inv μ
-  else1→loop c = else1→goes c .before .before .before .before
+  else1→loop c = goes→loop (else1→goes c)

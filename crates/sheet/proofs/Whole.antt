@@ -1,0 +1,34 @@
+-- What the whole sheet says, by the end and the head of its first line and by what the lines after it say. Assumes nothing.
+use Prim.Native.Nat.{ℕ, _+_, _≤_, _<_}
+use mathlib.Core.Path.{_≡_, refl, sym, ap, _∙_}
+use mathlib.Core.List.{List}
+use mathlib.Core.Bool.{Bool, true, false}
+use lib.Dec.{ltb}
+use lib.ListN.{length, drop}
+use borrow.Author.Tests.{ltb-true, ltb-false, eq-eqb, ne-eqb}
+use Rattle.model.specs.Job.{Job}
+use Rattle.model.specs.Text.{Lines, more, linesOf}
+use Rattle.model.specs.ReadSheet.{Sheet, bad, headSays, readSheet}
+use Rattle.text.specs.Scan.{lineOf}
+use Rattle.text.proofs.LineLaws.{lines-done, next-cut, next-more}
+use Rattle.sheet.specs.declared.Head.{Head}
+use Rattle.sheet.specs.Parts.{headGoes, unlessBad}
+
+pub stops : (l : ℕ) (x : Sheet) → (l ≡ 0 → ⊥) → bad l ≡ unlessBad l x
+stops l x h = simp (ne-eqb _ _ h)
+
+pub goes-on : (l : ℕ) (x : Sheet) → l ≡ 0 → x ≡ unlessBad l x
+goes-on l x h = simp (eq-eqb _ _ h)
+
+module _ (j : Job) (s : List ℕ) {line : List ℕ} {q : ℕ} (taken : (line ≡ lineOf (drop 0 s)) × (q ≡ 0 + length (lineOf (drop 0 s)) + 1)) where
+  pub whole-cut : length s < q → bad 1 ≡ readSheet j s
+  unfolding readSheet
+  whole-cut h = sym (go (ltb 0 (length s)) refl)
+    where
+      go : (t : Bool) → ltb 0 (length s) ≡ t → headSays j (linesOf (drop 0 s)) ≡ bad 1
+      go true w = ap (headSays j) (next-cut s 0 line q taken (ltb-true _ _ w) h)
+      go false w = ap (headSays j) (lines-done s 0 (ltb-false _ _ w))
+
+  pub whole-head : q ≤ length s → (head r : Head) → ((ls : Lines) → headGoes j head ls ≡ headSays j (more line ls)) → head ≡ r → headGoes j r (linesOf (drop q s)) ≡ readSheet j s
+  unfolding readSheet
+  whole-head h head r said f = ap (λ x. headGoes j x (linesOf (drop q s))) (sym f) ∙ said (linesOf (drop q s)) ∙ ap (headSays j) (sym (next-more s 0 line q taken h))

@@ -1,0 +1,97 @@
+-- `read_sheet` reads the first line, and the lines after it by what that says. The arrays of the job hold what its counts promise, so the functions
+-- that read lines are told the job's numbers. Assumes nothing.
+use Prim.Native.Nat.{_<_}
+use mathlib.Core.Path.{_∙_, _≡_, refl, sym}
+use native.Mathlib.Omega.{arith}
+use denote.Ref.{now}
+use lib.ListN.{length, drop}
+use Rattle.model.specs.Text.{linesOf}
+use Rattle.model.specs.ReadSheet.{cannot, plan, readSheet}
+use Rattle.job.specs.Arrays.{jobOf}
+use Rattle.job.specs.Held.{Room, pathsTo, pointsOf}
+use Rattle.job.proofs.Arrays.{Whole, long, whole, calls-count, carts-count, deadline-at, last-deadline}
+use Rattle.sheet.specs.declared.Head.{Head}
+use Rattle.sheet.specs.declared.Head.the-variants.{Bad, Plan}
+use Rattle.sheet.specs.Parts.{headGoes, unlessBad}
+use Rattle.sheet.proofs.Whole.{goes-on, stops, whole-cut, whole-head}
+use borrow.Author.Needs.{needs}
+use Rattle.sheet.proofs.read_sheet.Statement.{statement}
+use Rattle.sheet.proofs.read_sheet.Tie as tie
+mod Places
+use Places.*
+
+arrays : (c : tie.Start) → Whole (c .args .t1)
+arrays c = whole (c .args .t1) (c .pre .1) (long (c .args .t1) (c .good .0 .0) (c .good .0 .1 .1))
+
+counted : (c : tie.Start) → length (jobOf (c .args .t1) .calls) ≡ c .args .t1 .calls
+counted c = calls-count (c .args .t1) (arrays c)
+
+returns : tie.Need-returns
+returns c = (whole-cut _ _ (then1→next c .next .ensures) (c .if1 .taken), then1→start c .pre .2, omega arith)
+
+-- what the first line says, with the lines after it
+said : (c : tie.After-head-line) → let j = jobOf (head-line→start c .args .t1) in (r : Head) → c .head-line .result ≡ r
+    → headGoes j r (linesOf (drop (head-line→next c .next .last .1 .0) (now (head-line→start c .args .sheet)))) ≡ readSheet j (now (head-line→start c .args .sheet))
+said c r e =
+    let j = jobOf (head-line→start c .args .t1) in
+    whole-head j _ (head-line→next c .next .ensures) (head-line→else1 c .if1 .left) (c .head-line .result) r (λ ls. c .head-line .ensures .0 j ls (counted (head-line→start c))) e
+
+returns-2 : tie.Need-returns-2
+returns-2 c = (said (enum-told→head-line c) Bad (c .enum-told .given .1), enum-told→start c .pre .2, omega arith)
+
+plan-said : (c : tie.After-read-paths) → let j =
+    jobOf (c .before .before .before .before .before .before .before .before .before .before .before .before .before .before .before .before .before .before .args .t1) in let l =
+    c .read-paths .last .1 .1 .1 .1 .1 .1 in
+    unlessBad (c .read-paths .result) (plan (pathsTo (l .0) (l .1 .0) (l .1 .1 .0) (l .1 .1 .1 .0) (length (j .calls)))) ≡ readSheet j
+    (now (c .before .before .before .before .before .before .before .before .before .before .before .before .before .before .before .before .before .before .args .sheet))
+plan-said c =
+    let s = read-paths→start c .args .t1 in
+    let w = arrays (read-paths→start c) in
+    let n = counted (read-paths→start c) in
+    rw n (c .read-paths .ensures .0 (jobOf s) (record { cells-are = refl; carts-are = carts-count s w; calls-are = n; deadlines-are = deadline-at s w })
+    ∙ rw n at (said (c .before .before .before .before .before .before .before .before .before) Plan (c .before .before .before .before .before .before .before .enum-told2 .given .1)))
+
+returns-3 : tie.Need-returns-3
+returns-3 c = (stops _ _ (c .if2 .taken) ∙ plan-said (then2→read-paths c), then2→read-paths c .read-paths .ensures .1, then2→read-paths c .read-paths .ensures .2)
+
+returns-4 : tie.Need-returns-4
+returns-4 c = (goes-on _ _ (c .if2 .left) ∙ plan-said (else2→read-paths c), else2→read-paths c .read-paths .ensures .1, tt)
+
+few : (c : tie.After-known-told) → c .before .head .given .0 .0 < c .before .before .before .before .before .before .before .before .before .before .before .before .args .t1 .calls
+few c = rw (known-told→head c .head .given .1) at (c .before .before .before .head-line .ensures .1)
+
+read-chokes-requires : tie.Need-read-chokes-requires
+read-chokes-requires c κs =
+    let s = read-chokes-arg2→start c .pre in
+    let m = few (read-chokes-arg2→known-told c) in
+    (omega arith, omega arith, s .0 .fit .few-cells, read-chokes-arg2→horizon c .horizon .ensures .1, s .2 .firsts, s .2 .seconds)
+
+cannot-said : (c : tie.After-read-chokes) → let j = jobOf (read-chokes→start c .args .t1) in let l = c .read-chokes .last .1 .1 .1 .1 .1 in
+    unlessBad (c .read-chokes .result) (cannot (pointsOf (l .0) (l .1 .0) (read-chokes→head c .head .given .0 .0))) ≡ readSheet j (now (read-chokes→start c .args .sheet))
+cannot-said c =
+    let s = read-chokes→start c .args .t1 in
+    c .read-chokes .ensures .0 (jobOf s) refl (last-deadline s (arrays (read-chokes→start c)) ∙ sym (read-chokes→horizon c .horizon .ensures .0))
+    ∙ said (read-chokes→head-line c) _ (read-chokes→head c .head .given .1)
+
+-- the two lists are as long as they were, and the others are as they were
+room : (c : tie.After-read-chokes) → let l = c .read-chokes .last .1 .1 .1 .1 .1 in Room (l .0) (l .1 .0) (now (read-chokes→start c .args .lasts)) (now (read-chokes→start c .args .rows))
+room c =
+    let k = c .read-chokes .kept .1 .1 .1 .1 .1 in
+    let r = read-chokes→start c .pre .2 in
+    record { firsts = k .0 ∙ r .firsts; seconds = k .1 .0 ∙ r .seconds; steps = r .steps; cells = r .cells }
+
+returns-5 : tie.Need-returns-5
+returns-5 c = (stops _ _ (c .if3 .taken) ∙ cannot-said (then3→read-chokes c), room (then3→read-chokes c), then3→read-chokes c .read-chokes .ensures .1)
+
+returns-6 : tie.Need-returns-6
+returns-6 c =
+    let m = few (else3→known-told c) in
+    (goes-on _ _ (c .if3 .left) ∙ cannot-said (else3→read-chokes c), room (else3→read-chokes c), omega arith)
+
+pub read-sheet-spec : {M : Type 1} → statement M
+read-sheet-spec =
+    tie.close
+    (tie.spec
+    (λ c κs. search needs) returns (λ c κs. search needs) (λ c. search needs) returns-2 (λ c. search needs) (λ c κs. search needs) (λ c. search needs) (λ c. search needs)
+    (λ c. search needs) (λ c. search needs) returns-3 (λ c. search needs) (λ c. search needs) (λ c. search needs) (λ c. search needs) returns-4 (λ c. search needs)
+    (λ c κs. search needs) read-chokes-requires (λ c. search needs) (λ c. search needs) returns-5 (λ c. search needs) (λ c. search needs) returns-6)
