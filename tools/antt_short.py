@@ -1,7 +1,7 @@
 """A proof file without its routine answers: those that only search stand in the list at the end, not as declarations."""
 import re
 
-from rattle_tools import Antt
+from rattle_tools import PLACE_COMMENT, Antt
 
 ROUTINE = "search needs"
 SPEC = re.compile(r'^pub (?P<name>\S+)-spec : [^\n]*\n(?P=name)-spec =\s+tie\.close\s+\(tie\.spec\b', re.M)
@@ -50,8 +50,12 @@ def filled(words, indent, width):
     return lines
 
 
+def own_comments(d):
+    return [c for c in d.comments if not PLACE_COMMENT.match(c)]
+
+
 def is_routine(d):
-    return (re.match(r'\S+ : tie\.Need-', d.signature[0]) and len(d.signature) == 1 and not d.comments and not d.unfolding
+    return (re.match(r'\S+ : tie\.Need-', d.signature[0]) and len(d.signature) == 1 and not own_comments(d) and not d.unfolding
             and d.answer().strip() == ROUTINE and d.head() is not None)
 
 
@@ -72,7 +76,7 @@ def shortened(text, width=180):
         line = "\n    tie.close\n    (tie.spec\n" + "\n".join(filled(words, "    ", width))
     text = text[:start] + line + text[end:]
     for d in routine.values():
-        block = "\n".join(d.lines) + "\n"
+        block = "\n".join(d.text()) + "\n"
         at = text.index(block)
         text = text[:at] + text[at + len(block):].lstrip("\n")
     return re.sub(r'\n{3,}', '\n\n', text)

@@ -33,6 +33,7 @@ add-i c = search needs
 mul-i : tie.Need-mul-i Inv-loop
 mul-i c = search needs
 
+-- src/f.rt:7:9
 put-requires : tie.Need-put-requires Inv-loop
 put-requires c κs = search needs
 

@@ -6,7 +6,7 @@ pub mod Chokes
 pub mod Points
 pub mod Plans
 pub mod Calm
-pub mod Planes
+pub mod StoreBytes
 pub mod TableLaws
 pub mod PlaceLaws
 pub mod NearLaws

@@ -17,7 +17,7 @@ use Rattle.model.proofs.Basics.{nope, and-left, and-right, and-both}
 use Rattle.model.proofs.Floor.{known-test, test-known}
 use Rattle.model.proofs.Agree.{within}
 use Rattle.flow.specs.Flow.{Link, off, end, to}
-use Rattle.network.specs.Store.{nodes, idx, at, isUsed}
+use Rattle.network.specs.Store.{nodes, gridOf, idx, usedAt, isUsed}
 use Rattle.network.proofs.Points.{to-eq}
 
 pub link-off : (b : Bool) (y : Link Point) → b ≡ false → cond b y off ≡ off
@@ -51,7 +51,7 @@ few-nodes j ready = omega (arith, mul-le-mul-right (j .cells) (within j (ready .
 
 module _ (j : Job) (s : List ℕ) (v : Point) where
   abbrev pub useByte : ℕ
-  useByte = at (nodes j) s 0 (idx j v)
+  useByte = usedAt (gridOf j) s (idx j v)
 
   pub used : Known j v → (useByte ≡ 0 → ⊥) → isUsed j s v ≡ true
   used h ne = and-both (knownPoint j v) (not (eqb useByte 0)) (known-test j v h) (ap not (ne-eqb useByte 0 ne))

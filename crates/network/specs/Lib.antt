@@ -4,6 +4,7 @@ pub mod Traced
 pub mod Stand
 pub mod Store
 pub mod Links
+pub mod Holds
 pub mod Lines
 pub mod Tables
 pub mod Order

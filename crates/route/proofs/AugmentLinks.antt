@@ -26,7 +26,7 @@ use Rattle.route.specs.Search.{Augmented}
 use Rattle.route.specs.Lay.{useOf}
 use Rattle.network.proofs.NodeBytes.{link-off, link-end, link-to, link-used, link-same, used, unused, used-byte, used-known, used-same}
 use Rattle.network.proofs.Points.{point-step, point-eq, dec-point}
-use Rattle.network.proofs.Planes.{at-same, at-other, idx-below, idx-one}
+use Rattle.network.proofs.StoreBytes.{at-same, at-other, idx-below, idx-one}
 use Rattle.route.proofs.Stack.{viaAt, last-hops, hop-on, Form, frees, leads, via-late, via-in, places-apart, place-once, place-in, hop-arcs, form, known-via}
 use Rattle.route.proofs.Laid.{Laid}
 

@@ -12,7 +12,7 @@ use Rattle.network.specs.Store.{nodes, at}
 use Rattle.network.specs.Links.{posAt}
 use Rattle.route.specs.Search.{Laying, Augmented}
 use Rattle.route.specs.Lay.{laid, Layable}
-use Rattle.network.proofs.Planes.{idx-below}
+use Rattle.network.proofs.StoreBytes.{idx-below}
 use Rattle.route.proofs.Stack.{Form, frees, leads, form, known-via}
 use Rattle.route.proofs.Laid.{Laid, laid-more}
 use Rattle.route.proofs.AugmentLinks.{all-laid}

@@ -14,7 +14,7 @@ use Rattle.network.specs.Graph.{graph}
 use Rattle.network.specs.Store.{nodes, idx, at}
 use Rattle.network.specs.Links.{FlowIn, backLink, onLink, posAt, hopsTo}
 use Rattle.route.specs.Lay.{placeOf, posOf, viaOf, useOf, joined, laid}
-use Rattle.network.proofs.Planes.{at-same, at-other, idx-below, idx-one}
+use Rattle.network.proofs.StoreBytes.{at-same, at-other, idx-below, idx-one}
 use Rattle.route.proofs.Stack.{viaAt, vias-apart, places-apart, known-via}
 
 -- The functions differ at most at the nodes a m with i ≤ m < e, where the new one is b m.

@@ -8,7 +8,7 @@ use native.Mathlib.Decide.{decLt}
 use lib.ListN.{length, set, length-set}
 use lib.Seq.{getD-set-same, getD-set-other}
 use Rattle.network.specs.Store.{at}
-use Rattle.network.proofs.Planes.{at-same, at-other}
+use Rattle.network.proofs.StoreBytes.{at-same, at-other}
 use Rattle.route.specs.Finds.{Pushed}
 
 -- What the four writes of a push leave.

@@ -22,7 +22,7 @@ use Rattle.network.specs.Links.{FlowIn, backLink, onLink, posAt, hopAt, hopsTo}
 use Rattle.route.specs.Search.{SameFlow, Fresh, Searching, Searched}
 use Rattle.route.specs.Finds.{Pushed}
 use Rattle.network.proofs.Points.{point-eq}
-use Rattle.network.proofs.Planes.{idx-one, idx-below}
+use Rattle.network.proofs.StoreBytes.{idx-one, idx-below}
 use Rattle.model.proofs.Floor.{test-known, known-test}
 use Rattle.route.proofs.SearchHops.{HopTo, hopVia}
 use Rattle.route.proofs.SearchStack.{Done, Dfs, dfs-start, dfs-pop, dfs-push, dfs-way}

@@ -1,6 +1,6 @@
 -- One turn of the search's loop: what it needs, and that it keeps `Running`. The position on top of the stack is known; where it is no goal and nothing is found
 -- from it, it is done and falls off; else what is found is one hop away and not marked, and goes on top. Assumes nothing.
-use Rattle.network.proofs.Planes.{idx-below}
+use Rattle.network.proofs.StoreBytes.{idx-below}
 use Prim.Native.Nat.{ℕ, suc, _+_, _-_, _*_, _<_, _≤_}
 use mathlib.Core.Path.{_≡_, sym, _∙_, subst}
 use mathlib.Core.List.{List}

@@ -14,7 +14,7 @@ use Rattle.model.specs.Choke.{point}
 use Rattle.model.proofs.Agree.{within}
 use Rattle.network.specs.Graph.{graph}
 use Rattle.network.specs.Links.{posAt}
-use Rattle.network.proofs.Planes.{idx-below}
+use Rattle.network.proofs.StoreBytes.{idx-below}
 use Rattle.network.proofs.NodeBytes.{few-nodes}
 use Rattle.route.specs.Search.{Searching}
 use Rattle.route.specs.Finds.{From, Stamped, Answers}
