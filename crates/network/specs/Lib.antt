@@ -6,9 +6,4 @@ pub mod Store
 pub mod Links
 pub mod Holds
 pub mod Lines
-pub mod Tables
-pub mod Order
-pub mod Places
-pub mod Rows
-pub mod Sorted
 pub mod Queue
