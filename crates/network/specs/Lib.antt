@@ -6,4 +6,3 @@ pub mod Store
 pub mod Links
 pub mod Holds
 pub mod Lines
-pub mod Queue

@@ -1,3 +1,2 @@
 // The graph of a job, and the store that its flow is kept in.
-pub mod aim;
 pub mod planes;
