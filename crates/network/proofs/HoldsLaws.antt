@@ -1,24 +1,23 @@
 -- What the bytes and the tables say of a node of the flow that the store holds: a known node has its place, a used one that is no call's leads on to a known node, and a
 -- store with the same flow holds it too. Assumes nothing.
-use Prim.Native.Nat.{ℕ, suc, _+_, _-_, _<_, _≤_}
-use mathlib.Core.Path.{_≡_, refl, sym, _∙_, ap, fun-ext}
+use Prim.Native.Nat.{ℕ, _+_, _-_, _<_}
+use mathlib.Core.Path.{_≡_, refl, ap, fun-ext}
 use mathlib.Core.List.{List}
 use mathlib.Core.Bool.{Bool, true, false, not, cond, _&&_}
 use native.Mathlib.Omega.{arith}
 use lib.Dec.{eqb}
 use lib.ListN.{length, getD}
 use Rattle.model.specs.Job.{Job, call}
-use Rattle.model.specs.Lists.{In}
 use Rattle.model.specs.Choke.{Point, point, Known}
 use Rattle.model.specs.ReadSheet.{knownPoint}
 use Rattle.model.proofs.Basics.{nope}
 use Rattle.model.proofs.Floor.{test-known}
 use Rattle.model.proofs.Lists.{in-unmap}
-use Rattle.floor.specs.Tables.{Near, Due, rowOf}
+use Rattle.floor.specs.Tables.{Due}
 use Rattle.flow.specs.Flow.{Link, off, end, to}
 use Rattle.flow.proofs.Flow.{flow-same}
-use Rattle.network.specs.Graph.{graph, isLift, Earlier}
-use Rattle.network.specs.Store.{gridOf, idx, placeAt, usedAt, nextAt, prevAt, isUsed, Within}
+use Rattle.network.specs.Graph.{isLift}
+use Rattle.network.specs.Store.{gridOf, idx, placeAt, usedAt, nextAt, isUsed, Within}
 use Rattle.network.specs.Links.{FlowIn, backLink, onLink}
 use Rattle.network.specs.Holds.{Holds, SameFlow}
 use Rattle.network.specs.declared.planes.Grid.{Grid}

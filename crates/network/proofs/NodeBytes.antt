@@ -1,6 +1,6 @@
 -- What the bytes of a node say: whether it is used, and where its links lead. A link is read off the test of use, the test of the end, and a byte; it is the same where those are.
 -- Assumes nothing.
-use Prim.Native.Nat.{ℕ, _+_, _*_, _≤_}
+use Prim.Native.Nat.{ℕ, _*_, _≤_}
 use mathlib.Core.Path.{_≡_, refl, sym, _∙_, ap}
 use mathlib.Core.List.{List}
 use mathlib.Core.Bool.{Bool, true, false, cond, not, _&&_, and-false}
@@ -9,7 +9,7 @@ use native.Mathlib.Omega.{arith}
 use borrow.Author.Tests.{eq-eqb, ne-eqb, eqb-false, not-true}
 use lib.Dec.{eqb}
 use Rattle.model.specs.Limits.{maxCells, maxSteps}
-use Rattle.model.specs.Job.{Job, horizon}
+use Rattle.model.specs.Job.{Job}
 use Rattle.model.specs.Choke.{Point, Known}
 use Rattle.model.specs.Ready.{Ready}
 use Rattle.model.specs.ReadSheet.{knownPoint}
@@ -41,10 +41,6 @@ link-used false y x e = nope (cc)
 pub link-same : (b b′ c : Bool) (x x′ : Point) → b ≡ b′ → (b ≡ true → x ≡ x′) → cond b (cond c end (to x)) off ≡ cond b′ (cond c end (to x′)) off
 link-same true b′ c x x′ e h = rw (sym e, h refl)
 link-same false b′ c x x′ e h = rw (sym e)
-
--- The steps up to the horizon are the rows of a plane.
-pub row-in : (j : Job) (t : ℕ) → t ≤ horizon j → t * j .cells + j .cells ≤ nodes j
-row-in j t h = omega (arith, mul-le-mul-right (j .cells) h)
 
 pub few-nodes : (j : Job) → Ready j → nodes j ≤ maxCells * maxSteps
 few-nodes j ready = omega (arith, mul-le-mul-right (j .cells) (within j (ready .fit) .few-steps), ready .fit .few-cells)

@@ -1,6 +1,6 @@
 -- Once all hops of the stack are laid, the links that the store holds are those of the flow with the way added: at the nodes that the way leaves or goes by
 -- they are read off the bytes written there, and at every other node off bytes that say the same as before. Assumes nothing.
-use Prim.Native.Nat.{ℕ, zero, suc, _+_, _-_, _*_, _<_, _≤_}
+use Prim.Native.Nat.{ℕ, zero, suc, _+_, _-_, _<_, _≤_}
 use mathlib.Core.Path.{_≡_, sym, _∙_, ap}
 use mathlib.Core.List.{List, _∷_}
 use mathlib.Core.Bool.{true, false, cond}
@@ -8,18 +8,17 @@ use mathlib.Core.Logic.{_⊎_, inl, inr, ⊎-elim, _↔_}
 use native.Mathlib.Omega.{arith}
 use borrow.Author.Tests.{eq-eqb, ne-eqb}
 use lib.Dec.{eqb, ltb}
-use lib.ListN.{length, set, length-set}
 use Rattle.model.specs.Lists.{In}
 use Rattle.model.specs.Job.{Job}
 use Rattle.model.specs.Choke.{Point, point, Known}
-use Rattle.model.proofs.Decide.{dec-in, dec-eq}
+use Rattle.model.proofs.Decide.{dec-in}
 use Rattle.flow.specs.Flow.{off, end, to}
-use Rattle.flow.specs.Way.{Way, vias, ats, lastAt, join, nextBy, prevBy}
+use Rattle.flow.specs.Way.{vias, ats, lastAt, join, nextBy, prevBy}
 use Rattle.flow.proofs.Flow.{flow-same}
 use Rattle.flow.proofs.Hops.{On, on-out, via-on, via-once}
 use Rattle.flow.proofs.Links.{join-same, join-other, next-kept, next-last, next-hop, prev-kept, prev-start, prev-hop}
 use Rattle.flow.proofs.Augment.{augmented, starts-more}
-use Rattle.network.specs.Graph.{graph, isLift, Earlier}
+use Rattle.network.specs.Graph.{isLift, Earlier}
 use Rattle.network.specs.Store.{gridOf, idx, usedAt, nextAt, prevAt, withUsed, withMark, isUsed}
 use Rattle.network.specs.Links.{FlowIn, backLink, onLink}
 use Rattle.route.specs.Search.{Augmented}

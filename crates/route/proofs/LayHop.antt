@@ -21,8 +21,8 @@ pub record Read (g : Grid) (s : List ℕ) (i : ℕ) (u v w : Point) : Type 0 whe
   pub by : v ≡ viaOf g s i
   pub to : w ≡ posAt g s (suc i)
 
-pub read : {g : Grid} {s : List ℕ} {i : ℕ} {u v w : Point} (x : ℕ) → Layable g s i → u .cell ≡ cellAt g s i → u .step ≡ stepAt g s i → w .cell ≡ cellAt g s (i + 1) → w .step ≡ stepAt g s (i + 1)
-    → x ≡ viaAt g s (i + 1) → v ≡ byWay u (w .step) x → Read g s i u v w
+pub read : {g : Grid} {s : List ℕ} {i : ℕ} {u v w : Point} (x : ℕ) → Layable g s i → u .cell ≡ cellAt g s i → u .step ≡ stepAt g s i
+    → w .cell ≡ cellAt g s (i + 1) → w .step ≡ stepAt g s (i + 1) → x ≡ viaAt g s (i + 1) → v ≡ byWay u (w .step) x → Read g s i u v w
 read {g} {s} {i} {u} {v} {w} x m c t c′ t′ e b =
     let from : u ≡ posAt g s i = point-eq c t in
     let step : w .step ≡ stepAt g s (suc i) = rw (add-one i) at t′ in

@@ -56,8 +56,8 @@ module _ (f : ℕ → ℕ) {v w a b : ℕ} (ev : v ≡ w) (ea : a ≡ f v) where
   pub untold : (a ≡ b → ⊥) → f w ≡ b → ⊥
   untold ne e = ne (ea ∙ ap f ev ∙ e)
 
-pub pushed-by : (g : Grid) (s : List ℕ) {s₁ s₂ : List ℕ} (d : ℕ) {v : ℕ} (via stamp : ℕ) (x : Point) → v ≡ placeAt g x → s₁ ≡ withMark g s v stamp → s₂ ≡ withEntry g s₁ d (x .cell) (x .step) via
-    → s₂ ≡ pushed g s d x via stamp
+pub pushed-by : (g : Grid) (s : List ℕ) {s₁ s₂ : List ℕ} (d : ℕ) {v : ℕ} (via stamp : ℕ) (x : Point) → v ≡ placeAt g x → s₁ ≡ withMark g s v stamp
+    → s₂ ≡ withEntry g s₁ d (x .cell) (x .step) via → s₂ ≡ pushed g s d x via stamp
 pushed-by g s d via stamp x ev e₁ e₂ = rw (e₂, e₁, ev)
 
 -- At a used node that is no call's, where the code reads y as the next cell.

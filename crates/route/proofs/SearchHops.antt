@@ -1,6 +1,6 @@
 -- The hops of the search. What the store's bytes say of a node is what the flow's links say: so each position that the inner functions find is two
 -- residual arcs away, and each that is two arcs away is among those they look at. Assumes nothing.
-use Prim.Native.Nat.{ℕ, suc, _+_, _-_, _<_, _≤_}
+use Prim.Native.Nat.{ℕ, _+_, _-_}
 use mathlib.Core.Path.{_≡_, refl, sym, _∙_, ap}
 use mathlib.Core.List.{List}
 use mathlib.Core.Logic.{_⊎_, inl, inr, ⊎-elim}
@@ -12,9 +12,9 @@ use Rattle.model.specs.Job.{Job}
 use Rattle.model.specs.Choke.{Point, point, Known}
 use Rattle.model.proofs.Basics.{nope}
 use Rattle.floor.specs.Tables.{rowOf, Near, Due}
-use Rattle.flow.specs.Flow.{Link, off, end, to, arr, dep}
+use Rattle.flow.specs.Flow.{off, end, to, arr, dep}
 use Rattle.network.specs.Graph.{isLift, Earlier}
-use Rattle.network.specs.Store.{gridOf, idx, usedAt, nextAt, prevAt, isUsed}
+use Rattle.network.specs.Store.{gridOf, idx, usedAt, nextAt, isUsed}
 use Rattle.network.specs.Links.{backLink, onLink}
 use Rattle.network.specs.Holds.{Holds}
 use Rattle.network.proofs.NodeBytes as bytes

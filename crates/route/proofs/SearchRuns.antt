@@ -11,7 +11,7 @@ use native.Mathlib.Decide.{ℕ-discrete}
 use lib.Dec.{eqb}
 use borrow.Author.Tests.{eqb-true, eq-eqb}
 use Rattle.model.specs.Job.{Job}
-use Rattle.model.specs.Choke.{Point, point, Known}
+use Rattle.model.specs.Choke.{Point, Known}
 use Rattle.model.specs.ReadSheet.{knownPoint}
 use Rattle.model.proofs.Basics.{and-left, and-right, and-both}
 use Rattle.model.proofs.Floor.{test-known, known-test}

@@ -137,63 +137,70 @@ module _ {j : Job} {near begin due cart-on hint : List ℕ} {g : Grid} {s₁ s :
       let h : (graph j) .Goal y = subst (λ (z : Point). (graph j) .Goal z) top g in
       omega (arith, eqb-true (getD cart-on (y .cell) 0) 0 (not-false (eqb (getD cart-on (y .cell) 0) 0) (none (h .0))), w .for .tables .carts .has-cart (y .cell) (h .1))
 
-  module _ (row : List ℕ) (er : row ≡ rowOf near begin (y .cell)) (r : Found) (ans : Finds (From g s due row y) (Stamped g s stamp) r)
-      (dull : (graph j) .Goal (posIn j s (d - 1)) → ⊥) where
-    ans′ : Finds (From (gridOf j) s due (rowOf near begin (y .cell)) y) (Stamped (gridOf j) s stamp) r
-    ans′ = rw (w .for .holds .grid, er) at ans
+-- What was found in the turn, by the row of the position's cell; and the position is no goal.
+pub record Looked (j : Job) (near begin due cart-on hint : List ℕ) (g : Grid) (s₁ s : List ℕ) (x : Point) (stamp d : ℕ) (y : Point) (row : List ℕ) (r : Found) : Type 0 where
+  pub turn : Turn j near begin due cart-on hint g s₁ s x stamp d y
+  pub of : row ≡ rowOf near begin (y .cell)
+  pub finds : Finds (From g s due row y) (Stamped g s stamp) r
+  pub dull : (graph j) .Goal (posIn j s (d - 1)) → ⊥
 
-    run′ : Running j s₁ s stamp x (suc (d - 1))
-    run′ = let e : d ≡ suc (d - 1) = omega (arith, w .some) in rw e at (w .going .run)
+module _ {j : Job} {near begin due cart-on hint : List ℕ} {g : Grid} {s₁ s : List ℕ} {x : Point} {stamp d : ℕ} {y : Point} {row : List ℕ} {r : Found}
+    (k : Looked j near begin due cart-on hint g s₁ s x stamp d y row r) where
+  ans′ : Finds (From (gridOf j) s due (rowOf near begin (y .cell)) y) (Stamped (gridOf j) s stamp) r
+  ans′ = rw (k .turn .for .holds .grid, k .of) at (k .finds)
 
-    pub turn-pop : r ≡ Found.Nothing → Running j s₁ s stamp x (d - 1)
-    turn-pop e = run-pop run′ dull (at-top (λ z. DoneIn j s stamp z) done)
-      where
-        none : Finds (From (gridOf j) s due (rowOf near begin (y .cell)) y) (Stamped (gridOf j) s stamp) Found.Nothing
-        none = rw e at ans′
+  run′ : Running j s₁ s stamp x (suc (d - 1))
+  run′ = let e : d ≡ suc (d - 1) = omega (arith, k .turn .some) in rw e at (k .turn .going .run)
 
-        done : DoneIn j s stamp y
-        done u z a b =
-            ⊎-elim (λ q. subst (λ (z : Point). Marked j s stamp z) (sym q) marked) (λ q. (q .0, none z (q .1 .0) (q .1 .1)))
-            (hop-found (w .going .run .holds) (w .for .tables .sides) (w .for .tables .dues) y (marked .0) u z a b)
+  pub turn-pop : r ≡ Found.Nothing → Running j s₁ s stamp x (d - 1)
+  turn-pop e = run-pop run′ (k .dull) (at-top (k .turn) (λ z. DoneIn j s stamp z) done)
+    where
+      none : Finds (From (gridOf j) s due (rowOf near begin (y .cell)) y) (Stamped (gridOf j) s stamp) Found.Nothing
+      none = rw e at ans′
 
-    module _ (v : Node) (via : ℕ) (e : r ≡ Found.Push v via) where
-      some : From (gridOf j) s due (rowOf near begin (y .cell)) y (pointOf v) via × (Stamped (gridOf j) s stamp (pointOf v) → ⊥)
-      some = rw e at ans′
+      done : DoneIn j s stamp y
+      done u z a b =
+          ⊎-elim (λ q. subst (λ (z : Point). Marked j s stamp z) (sym q) (marked (k .turn))) (λ q. (q .0, none z (q .1 .0) (q .1 .1)))
+          (hop-found (k .turn .going .run .holds) (k .turn .for .tables .sides) (k .turn .for .tables .dues) y (marked (k .turn) .0) u z a b)
 
-      hop : HopTo j s (posIn j s (d - 1)) (byWay (posIn j s (d - 1)) (v .step) via) (pointOf v)
-      hop = at-top (λ z. HopTo j s z (byWay z (v .step) via) (pointOf v))
-          (found-hop (w .going .run .holds) (w .for .tables .sides) (w .for .tables .dues) y (marked .0) (pointOf v) via (some .0))
+  module _ (v : Node) (via : ℕ) (e : r ≡ Found.Push v via) where
+    some : From (gridOf j) s due (rowOf near begin (y .cell)) y (pointOf v) via × (Stamped (gridOf j) s stamp (pointOf v) → ⊥)
+    some = rw e at ans′
 
-      via-small : via < j .cells
-      via-small = ⊎-elim
-          (λ f. let i = in-row (f .1 .0) (f .1 .1) in ⊎-elim (λ q. omega (arith, q .0, i)) (λ q. omega (arith, q .0, i)) (f .1 .2))
-          (λ f. omega (arith, f .0, marked .0 .0)) (some .0)
+    hop : HopTo j s (posIn j s (d - 1)) (byWay (posIn j s (d - 1)) (v .step) via) (pointOf v)
+    hop = at-top (k .turn) (λ z. HopTo j s z (byWay z (v .step) via) (pointOf v))
+        (found-hop (k .turn .going .run .holds) (k .turn .for .tables .sides) (k .turn .for .tables .dues) y (marked (k .turn) .0) (pointOf v) via (some .0))
 
-      deep : d < nodes j
-      deep = omega (arith, w .going .run .room, unmarked-some stamp (markAt (gridOf j) s) (nodes j) (idx j (pointOf v)) (idx-below j (hop .known)) (some .1))
+    via-small : via < j .cells
+    via-small = ⊎-elim
+        (λ f. let i = in-row (k .turn) (f .1 .0) (f .1 .1) in ⊎-elim (λ q. omega (arith, q .0, i)) (λ q. omega (arith, q .0, i)) (f .1 .2))
+        (λ f. omega (arith, f .0, marked (k .turn) .0 .0)) (some .0)
 
-      pub push-needs : Within g s d × (placeAt g (pointOf v) < g .nodes) × (v .cell < 256) × (v .step < 256) × (via < 256)
-      push-needs =
-          let k = hop .known in
-          let f = w .for .holds .ready .fit in (
-            (stands .0 .room, rw (w .for .holds .grid) deep),
-            place-below (stands .0) k,
-            omega (arith, k .0, f .few-cells),
-            omega (arith, k .1, within j f .few-steps),
-            omega (arith, via-small, f .few-cells),
-          )
+    deep : d < nodes j
+    deep = omega (arith, k .turn .going .run .room, unmarked-some stamp (markAt (gridOf j) s) (nodes j) (idx j (pointOf v)) (idx-below j (hop .known)) (some .1))
 
-      module _ (s′ : List ℕ) (q : s′ ≡ pushed g s d (pointOf v) via stamp) where
-        p : PushedIn j s s′ d (pointOf v) via stamp
-        p = push-in j (w .for .holds .grid) (stands .0 .room) (hop .known) deep q
+    pub push-needs : Within g s d × (placeAt g (pointOf v) < g .nodes) × (v .cell < 256) × (v .step < 256) × (via < 256)
+    push-needs =
+        let a = hop .known in
+        let f = k .turn .for .holds .ready .fit in (
+          (stands (k .turn) .0 .room, rw (k .turn .for .holds .grid) deep),
+          place-below (stands (k .turn) .0) a,
+          omega (arith, a .0, f .few-cells),
+          omega (arith, a .1, within j f .few-steps),
+          omega (arith, via-small, f .few-cells),
+        )
 
-        p′ : PushedIn j s s′ (suc (d - 1)) (pointOf v) via stamp
-        p′ = let f : d ≡ suc (d - 1) = omega (arith, w .some) in rw f at p
+    module _ (s′ : List ℕ) (q : s′ ≡ pushed g s d (pointOf v) via stamp) where
+      p : PushedIn j s s′ d (pointOf v) via stamp
+      p = push-in j (k .turn .for .holds .grid) (stands (k .turn) .0 .room) (hop .known) deep q
 
-        pub turn-falls : unmarked (markAt g s) stamp (g .nodes) ≡ suc (unmarked (markAt g s′) stamp (g .nodes))
-        turn-falls = rw (w .for .holds .grid) (run-falls run′ dull hop (some .1) p′)
+      p′ : PushedIn j s s′ (suc (d - 1)) (pointOf v) via stamp
+      p′ = let f : d ≡ suc (d - 1) = omega (arith, k .turn .some) in rw f at p
 
-        pub turn-push : Going j s₁ s′ stamp x (d + 1) (pointOf v)
-        turn-push =
-            let f : d + 1 ≡ suc (suc (d - 1)) = omega (arith, w .some) in
-            record { run = rw f (run-push run′ dull hop (some .1) p′); top = λ z. top-pushed j s s′ d (pointOf v) via stamp p }
+      pub turn-falls : unmarked (markAt g s) stamp (g .nodes) ≡ suc (unmarked (markAt g s′) stamp (g .nodes))
+      turn-falls = rw (k .turn .for .holds .grid) (run-falls run′ (k .dull) hop (some .1) p′)
+
+      pub turn-push : Going j s₁ s′ stamp x (d + 1) (pointOf v)
+      turn-push =
+          let f : d + 1 ≡ suc (suc (d - 1)) = omega (arith, k .turn .some) in
+          record { run = rw f (run-push run′ (k .dull) hop (some .1) p′); top = λ z. top-pushed j s s′ d (pointOf v) via stamp p }

@@ -17,7 +17,7 @@ use Rattle.route.specs.Search.{Fresh, Searching, Searched, Laying, Augme
 use Rattle.route.specs.Serve.{MarksUpTo}
 
 module _ {j : Job} {s t : List ℕ} {stamp : ℕ} {x : Point} {r : ℕ} (f : Searched j s t stamp x r) where
-  pub marks-search : (n : ℕ) → stamp ≤ n → MarksUpTo j s n → MarksUpTo j t n
+  pub marks-search : (n : ℕ) → n ≤ stamp → MarksUpTo j s n → MarksUpTo j t stamp
   marks-search n l h v b = ⊎-elim (λ e. omega (arith, e, h v b)) (λ e. omega (arith, e)) (f .marks v b)
 
   pub fresh-next : (m : ℕ) → stamp < m → MarksUpTo j s stamp → Fresh j t m

@@ -1,7 +1,7 @@
 -- The hops of the search's stack by their numbers: the i-th leads from position i to the next, and no two go by one node or leave one node.
 -- A hop that leaves a node of a later step lets it fall out of the flow; every other follows an edge. Assumes nothing.
 use Prim.Native.Nat.{ℕ, zero, suc, _-_, _<_, _≤_}
-use mathlib.Core.Path.{_≡_, refl, sym, _∙_, ap}
+use mathlib.Core.Path.{_≡_, refl, sym, _∙_}
 use mathlib.Core.List.{List, [], _∷_, _++_, map}
 use mathlib.Core.Bool.{Bool, true, false}
 use mathlib.Core.Logic.{_⊎_, inl, inr, ⊎-elim}

@@ -1,6 +1,5 @@
 -- `by_way` answers the node that a hop goes by, told by the steps of the positions. Assumes nothing.
 use mathlib.Core.Path.{sym}
-use native.Mathlib.Omega.{arith}
 use Rattle.route.proofs.Stack.{by-late, by-early}
 use Rattle.route.proofs.augment.by_way.Statement.{statement}
 use Rattle.route.proofs.augment.by_way.Tie as tie

@@ -1,10 +1,6 @@
 -- `find` answers a position that the node leads to and that is not marked, or Nothing, if all are marked: what the row does not answer dropping out answers. Assumes nothing.
 use mathlib.Core.Logic.{inl, inr, ⊎-elim}
 use native.Mathlib.Omega.{arith}
-use denote.Ref.{now}
-use Rattle.network.specs.Store.{pointOf}
-use Rattle.route.specs.declared.search.Found.{Found}
-use Rattle.route.specs.Finds.{ByRow, Stamped, Finds}
 use Rattle.route.proofs.SearchFinds.{found-more, found-rest}
 use borrow.Author.Needs.{needs}
 use Rattle.route.proofs.search.find.Statement.{statement}

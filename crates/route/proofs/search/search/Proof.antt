@@ -1,7 +1,7 @@
 -- `search` is a depth-first search over the residual arcs of the flow. Invariant: it is under way (`Going`, SearchTurn) for every job that it may be for.
 -- The measure is twice the unmarked nodes and the depth: a push takes one node and adds one to the depth, a pop takes one of the depth. Assumes nothing.
-use Prim.Native.Nat.{_+_, _-_, _*_, _<_}
-use mathlib.Core.Path.{_≡_, refl, _∙_}
+use Prim.Native.Nat.{_+_, _-_, _*_}
+use mathlib.Core.Path.{_≡_, refl}
 use mathlib.Core.Logic.{⊎-elim}
 use native.Mathlib.Omega.{arith}
 use borrow.Author.Needs.{needs}
@@ -11,14 +11,14 @@ use Rattle.model.specs.Job.{Job}
 use Rattle.network.specs.Graph.{graph}
 use Rattle.network.specs.Store.{pointOf, markAt}
 use Rattle.network.proofs.NodeBytes.{few-nodes}
-use Rattle.network.proofs.Points.{point-eq}
 use Rattle.route.specs.Search.{Searching}
 use Rattle.route.specs.Finds.{From, Stamped, Finds}
 use Rattle.route.proofs.Stack.{posIn}
 use Rattle.route.proofs.SearchCount.{unmarked}
 use Rattle.route.proofs.SearchRuns.{Running}
 use Rattle.route.proofs.SearchFinds.{guess-found}
-use Rattle.route.proofs.SearchTurn.{Going, Turn, first-needs, under-way, begun, ends-none, ends-some, stands, cells, is-goal, no-goal, turn-pop, top-at, deep-enough, push-needs, turn-falls, turn-push}
+use Rattle.route.proofs.SearchTurn.{Going, Turn, Looked, first-needs, under-way, begun, ends-none, ends-some}
+use Rattle.route.proofs.SearchTurn.{stands, cells, is-goal, no-goal, turn-pop, top-at, deep-enough, push-needs, turn-falls, turn-push}
 use Rattle.route.proofs.search.search.Statement.{statement}
 use Rattle.route.proofs.search.search.Tie as tie
 mod Places
@@ -59,12 +59,17 @@ answers : (c : tie.At-match-came Inv-loop μ-loop) →
     Finds (From (a .grid) (l .store) (now (a .due)) (now (c .before .before .before .before .before .row .result)) (pointOf (l .top))) (Stamped (a .grid) (l .store) (a .stamp)) (c .match .found))
 answers c = ⊎-elim (λ w. rw (w .4) (w .3 .ensures)) (λ w. rw (w .2) (guess-found _ _ _ (w .1 .given .1) (match-came→guess c .guess .ensures))) (c .match .came)
 
--- Where nothing is found the position falls off.
+-- What was found, and where nothing was, that the position falls off.
+looked : (c : tie.At-match-came Inv-loop μ-loop) (j : Job) → For (match-came→push c) j →
+    (let a = match-came→start c .args in let l = match-came→loop c .loop in
+    Looked j (now (a .near)) (now (a .begin)) (now (a .due)) (now (a .cart-on)) (now (a .hint)) (a .grid) (match-came→push c .push .last .0) (l .store) (pointOf (a .node)) (a .stamp) (l .depth)
+    (pointOf (l .top))
+    (now (match-came→row c .row .result)) (c .match .found))
+looked c j h = record { turn = turn (match-came→in-loop c) j h; of = match-came→row c .row .ensures; finds = answers c; dull = dull (match-came→joined1 c) j h }
+
 popped : (c : tie.After-enum-told3 Inv-loop μ-loop) (j : Job) → For (enum-told3→push c) j →
     (let l = enum-told3→loop c .loop in Running j (enum-told3→push c .push .last .0) (l .store) (enum-told3→start c .args .stamp) (pointOf (enum-told3→start c .args .node)) (l .depth - 1))
-popped c j h =
-    turn-pop (turn (enum-told3→in-loop c) j h) _ (enum-told3→row c .row .ensures) (enum-told3→match-came c .match .found) (answers (enum-told3→match-came c)) (dull (enum-told3→joined1 c) j h)
-    (c .enum-told3 .given .1)
+popped c j h = turn-pop (looked (enum-told3→match-came c) j h) (c .enum-told3 .given .1)
 
 push-requires : tie.Need-push-requires Inv-loop μ-loop
 push-requires c κs = first-needs (push-arg→start c .pre .1)
@@ -76,9 +81,6 @@ shared-slice-read-if2 : tie.Need-shared-slice-read-if2 Inv-loop μ-loop
 shared-slice-read-if2 c =
     let (j, h) = one (shared-slice-known6→push c) in
     omega (arith, stands (turn (shared-slice-known6→in-loop c) j h) .2 .0, h .tables .carts .size, h .holds .ready .fit .few-cells)
-
-same-length : tie.Need-same-length Inv-loop μ-loop
-same-length c = search needs
 
 returns : tie.Need-returns Inv-loop μ-loop
 returns c = λ j h.
@@ -127,11 +129,7 @@ loop-again-2 : tie.Need-loop-again-2 Inv-loop μ-loop
 loop-again-2 c = (else3→loop c .loop .inv .0, λ j h. record { run = popped (else3→enum-told3 c) j h; top = λ z. absurd (omega (arith, c .if3 .left)) })
 
 push-requires-2 : tie.Need-push-requires-2 Inv-loop μ-loop
-push-requires-2 c κs =
-    let (j, h) = one (push-arg2→push c) in
-    let e = push-arg2→found c .found .given in
-    push-needs (turn (push-arg2→in-loop c) j h) _ (push-arg2→row c .row .ensures) (push-arg2→match-came c .match .found) (answers (push-arg2→match-came c)) (dull (push-arg2→joined1 c) j h) (e .0 .0)
-    (e .0 .1 .0) (e .1)
+push-requires-2 c κs = let (j, h) = one (push-arg2→push c) in let e = push-arg2→found c .found .given in push-needs (looked (push-arg2→match-came c) j h) (e .0 .0) (e .0 .1 .0) (e .1)
 
 add-depth : tie.Need-add-depth Inv-loop μ-loop
 add-depth c = let (j, h) = one (slice-known3→push c) in omega (arith, turn (slice-known3→in-loop c) j h .going .run .room, few-nodes j (h .holds .ready))
@@ -140,25 +138,14 @@ loop-less-3 : tie.Need-loop-less-3 Inv-loop μ-loop
 loop-less-3 c =
     let (j, h) = one (slice-known3→push c) in
     let e = slice-known3→found c .found .given in
-    omega (
-      arith,
-      turn-falls (turn (slice-known3→in-loop c) j h) _ (slice-known3→row c .row .ensures) (slice-known3→match-came c .match .found) (answers (slice-known3→match-came c))
-          (dull (slice-known3→joined1 c) j h) (e .0 .0) (e .0 .1 .0) (e .1)
-          (slice-known3→push2 c .push2 .last .0) (slice-known3→push2 c .push2 .ensures),
-    )
+    omega (arith, turn-falls (looked (slice-known3→match-came c) j h) (e .0 .0) (e .0 .1 .0) (e .1) (slice-known3→push2 c .push2 .last .0) (slice-known3→push2 c .push2 .ensures))
 
 loop-again-3 : tie.Need-loop-again-3 Inv-loop μ-loop
 loop-again-3 c = (
   search needs,
-  λ j h.
-      let e = slice-known3→found c .found .given in
-      turn-push (turn (slice-known3→in-loop c) j h) _ (slice-known3→row c .row .ensures) (slice-known3→match-came c .match .found) (answers (slice-known3→match-came c))
-      (dull (slice-known3→joined1 c) j h) (e .0 .0) (e .0 .1 .0) (e .1)
-      (slice-known3→push2 c .push2 .last .0) (slice-known3→push2 c .push2 .ensures),
+  λ j h. let e = slice-known3→found c .found .given in
+      turn-push (looked (slice-known3→match-came c) j h) (e .0 .0) (e .0 .1 .0) (e .1) (slice-known3→push2 c .push2 .last .0) (slice-known3→push2 c .push2 .ensures),
 )
-
-same-length-2 : tie.Need-same-length-2 Inv-loop μ-loop
-same-length-2 c = search needs
 
 returns-2 : tie.Need-returns-2 Inv-loop μ-loop
 returns-2 c = λ j h. let p = after-loop→push c .push .ensures in ends-none _ p h (after-loop→loop c .loop .inv .1 j (begun _ p h) .run) (omega (arith, c .loop-test .left))
@@ -167,6 +154,6 @@ pub search-spec : {M : Type 1} → statement M
 search-spec =
     tie.close
     (tie.spec
-    Inv-loop μ-loop push-requires loop-holds shared-slice-read-if2 same-length returns row-requires shared-slice-read-wide (λ c κs. search needs) guess-requires (λ c. search needs)
+    Inv-loop μ-loop push-requires loop-holds shared-slice-read-if2 (λ c. search needs) returns row-requires shared-slice-read-wide (λ c κs. search needs) guess-requires (λ c. search needs)
     find-requires (λ c. search needs) (λ c. search needs) (λ c. search needs) sub-depth sub-position position-requires loop-less loop-again loop-less-2 loop-again-2 push-requires-2
-    add-depth loop-less-3 loop-again-3 same-length-2 returns-2)
+    add-depth loop-less-3 loop-again-3 (λ c. search needs) returns-2)

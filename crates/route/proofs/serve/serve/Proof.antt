@@ -1,6 +1,5 @@
 -- `serve` searches, and lays the way that a search finds. A search that fails is final if no mark had its stamp at the start: so the caller says, or the stamp
 -- is one above all marks that there are. Each search leaves the flow as it was, so the second starts where the first did. No loop. Assumes nothing.
-use Prim.Native.Nat.{_+_}
 use mathlib.Core.Path.{_∙_}
 use native.Mathlib.Omega.{arith}
 use denote.Ref.{now}
@@ -36,12 +35,7 @@ returns c = (
       let g = slice-known3→augment c .augment .ensures j l in
       let m = marks-search f (a .stamp) (omega arith) (h .marks) in (
         holds-flow (l .holds) (g .long) (g .flow),
-        (
-          omega arith,
-          omega arith,
-          marks-augment g (a .stamp) m,
-          serves-too g (now (a .store)) (pointOf (a .node)) (on-same j (f .same)) (f .first some),
-        ),
+        (omega arith, omega arith, marks-augment g _ m, serves-too g (now (a .store)) (pointOf (a .node)) (on-same j (f .same)) (f .first some)),
       ),
 )
 
@@ -87,11 +81,9 @@ returns-3 c = (
       let some = slice-known5→then3 c .if3 .taken in
       let l = may-lay f′ k some in
       let g = slice-known5→augment2 c .augment2 .ensures j l in
-      let n = a .stamp + 1 in
-      let m = marks-search f n (omega arith) (λ v z. omega (arith, h .marks v z)) in
-      let m′ = marks-augment g n (marks-search f′ n (omega arith) m) in (
+      let m = marks-search f′ (a .stamp) (omega arith) (marks-search f (a .stamp) (omega arith) (h .marks)) in (
         holds-flow (l .holds) (g .long) (g .flow),
-        (omega arith, omega arith, m′, serves-too g (now (a .store)) (pointOf (a .node)) (on-same j (f′ .same) ∙ on-same j (f .same)) (f′ .first some)),
+        (omega arith, omega arith, marks-augment g _ m, serves-too g (now (a .store)) (pointOf (a .node)) (on-same j (f′ .same) ∙ on-same j (f .same)) (f′ .first some)),
       ),
 )
 
@@ -105,11 +97,10 @@ returns-4 : tie.Need-returns-4
 returns-4 c = (
   same-length-4 c,
   λ j h.
-      let s = else3→start c .args .stamp in
       let f = else3→search c .search .ensures j (h .search) in
       let k = may-search (f .same) (h .search) in
       let f′ = else3→search2 c .search2 .ensures j k in
-      (may-search (f′ .same) k .holds, (omega arith, f′ .stuck (omega (arith, c .if3 .left)) (fresh-next f (s + 1) (omega arith) (h .marks)))),
+      (may-search (f′ .same) k .holds, (omega arith, f′ .stuck (omega (arith, c .if3 .left)) (fresh-next f _ (omega arith) (h .marks)))),
 )
 
 pub serve-spec : {M : Type 1} → statement M

@@ -96,26 +96,38 @@ module _ {Inv : tie.InvT-loop} {μ : tie.MeasureT-loop} where
   abbrev pub match-came→guess : tie.At-match-came Inv μ → tie.After-guess Inv μ
   match-came→guess c = c .before
 
+  abbrev pub match-came→row : tie.At-match-came Inv μ → tie.After-row Inv μ
+  match-came→row c = wide→row (c .before .before)
+
+  abbrev pub match-came→joined1 : tie.At-match-came Inv μ → tie.Joined1 Inv μ
+  match-came→joined1 c = match-came→row c .before
+
+  abbrev pub match-came→in-loop : tie.At-match-came Inv μ → tie.In-loop Inv μ
+  match-came→in-loop c = joined1→in-loop (match-came→joined1 c)
+
+  abbrev pub match-came→loop : tie.At-match-came Inv μ → tie.At-loop Inv μ
+  match-came→loop c = joined1→loop (match-came→joined1 c)
+
+  abbrev pub match-came→push : tie.At-match-came Inv μ → tie.After-push Inv μ
+  match-came→push c = joined1→push (match-came→joined1 c)
+
+  abbrev pub match-came→start : tie.At-match-came Inv μ → tie.Start Inv μ
+  match-came→start c = in-loop→start (match-came→in-loop c)
+
   abbrev pub enum-told3→match-came : tie.After-enum-told3 Inv μ → tie.At-match-came Inv μ
   enum-told3→match-came c = c .before .before
 
-  abbrev pub enum-told3→row : tie.After-enum-told3 Inv μ → tie.After-row Inv μ
-  enum-told3→row c = wide→row (c .before .before .before .before)
-
-  abbrev pub enum-told3→joined1 : tie.After-enum-told3 Inv μ → tie.Joined1 Inv μ
-  enum-told3→joined1 c = enum-told3→row c .before
-
   abbrev pub enum-told3→in-loop : tie.After-enum-told3 Inv μ → tie.In-loop Inv μ
-  enum-told3→in-loop c = joined1→in-loop (enum-told3→joined1 c)
+  enum-told3→in-loop c = match-came→in-loop (enum-told3→match-came c)
 
   abbrev pub enum-told3→loop : tie.After-enum-told3 Inv μ → tie.At-loop Inv μ
-  enum-told3→loop c = joined1→loop (enum-told3→joined1 c)
+  enum-told3→loop c = match-came→loop (enum-told3→match-came c)
 
   abbrev pub enum-told3→push : tie.After-enum-told3 Inv μ → tie.After-push Inv μ
-  enum-told3→push c = joined1→push (enum-told3→joined1 c)
+  enum-told3→push c = match-came→push (enum-told3→match-came c)
 
   abbrev pub enum-told3→start : tie.After-enum-told3 Inv μ → tie.Start Inv μ
-  enum-told3→start c = in-loop→start (enum-told3→in-loop c)
+  enum-told3→start c = match-came→start (enum-told3→match-came c)
 
   abbrev pub position-arg→then3 : tie.After-position-arg Inv μ → tie.Then3 Inv μ
   position-arg→then3 c = c .before
@@ -150,17 +162,8 @@ module _ {Inv : tie.InvT-loop} {μ : tie.MeasureT-loop} where
   abbrev pub push-arg2→match-came : tie.After-push-arg2 Inv μ → tie.At-match-came Inv μ
   push-arg2→match-came c = push-arg2→found c .before .before
 
-  abbrev pub push-arg2→row : tie.After-push-arg2 Inv μ → tie.After-row Inv μ
-  push-arg2→row c = push-arg2→match-came c .before .before .before .before .before
-
-  abbrev pub push-arg2→joined1 : tie.After-push-arg2 Inv μ → tie.Joined1 Inv μ
-  push-arg2→joined1 c = push-arg2→row c .before
-
-  abbrev pub push-arg2→in-loop : tie.After-push-arg2 Inv μ → tie.In-loop Inv μ
-  push-arg2→in-loop c = joined1→in-loop (push-arg2→joined1 c)
-
   abbrev pub push-arg2→push : tie.After-push-arg2 Inv μ → tie.After-push Inv μ
-  push-arg2→push c = joined1→push (push-arg2→joined1 c)
+  push-arg2→push c = match-came→push (push-arg2→match-came c)
 
   abbrev pub slice-known3→push2 : tie.After-slice-known3 Inv μ → tie.After-push2 Inv μ
   slice-known3→push2 c = c .before .before
@@ -171,14 +174,8 @@ module _ {Inv : tie.InvT-loop} {μ : tie.MeasureT-loop} where
   abbrev pub slice-known3→match-came : tie.After-slice-known3 Inv μ → tie.At-match-came Inv μ
   slice-known3→match-came c = slice-known3→found c .before .before
 
-  abbrev pub slice-known3→row : tie.After-slice-known3 Inv μ → tie.After-row Inv μ
-  slice-known3→row c = push-arg2→row (c .before .before .before)
-
-  abbrev pub slice-known3→joined1 : tie.After-slice-known3 Inv μ → tie.Joined1 Inv μ
-  slice-known3→joined1 c = slice-known3→row c .before
-
   abbrev pub slice-known3→in-loop : tie.After-slice-known3 Inv μ → tie.In-loop Inv μ
-  slice-known3→in-loop c = joined1→in-loop (slice-known3→joined1 c)
+  slice-known3→in-loop c = match-came→in-loop (slice-known3→match-came c)
 
   abbrev pub slice-known3→push : tie.After-slice-known3 Inv μ → tie.After-push Inv μ
-  slice-known3→push c = joined1→push (slice-known3→joined1 c)
+  slice-known3→push c = match-came→push (slice-known3→match-came c)
