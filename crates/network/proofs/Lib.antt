@@ -6,6 +6,7 @@ pub mod Chokes
 pub mod Points
 pub mod Plans
 pub mod Calm
-pub mod Planes
-pub mod AimLaws
+pub mod StoreBytes
 pub mod NodeBytes
+pub mod PlaneLaws
+pub mod HoldsLaws

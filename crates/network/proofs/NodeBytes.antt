@@ -1,6 +1,6 @@
 -- What the bytes of a node say: whether it is used, and where its links lead. A link is read off the test of use, the test of the end, and a byte; it is the same where those are.
 -- Assumes nothing.
-use Prim.Native.Nat.{ℕ, _+_, _*_, _≤_}
+use Prim.Native.Nat.{ℕ, _*_, _≤_}
 use mathlib.Core.Path.{_≡_, refl, sym, _∙_, ap}
 use mathlib.Core.List.{List}
 use mathlib.Core.Bool.{Bool, true, false, cond, not, _&&_, and-false}
@@ -9,7 +9,7 @@ use native.Mathlib.Omega.{arith}
 use borrow.Author.Tests.{eq-eqb, ne-eqb, eqb-false, not-true}
 use lib.Dec.{eqb}
 use Rattle.model.specs.Limits.{maxCells, maxSteps}
-use Rattle.model.specs.Job.{Job, horizon}
+use Rattle.model.specs.Job.{Job}
 use Rattle.model.specs.Choke.{Point, Known}
 use Rattle.model.specs.Ready.{Ready}
 use Rattle.model.specs.ReadSheet.{knownPoint}
@@ -17,7 +17,7 @@ use Rattle.model.proofs.Basics.{nope, and-left, and-right, and-both}
 use Rattle.model.proofs.Floor.{known-test, test-known}
 use Rattle.model.proofs.Agree.{within}
 use Rattle.flow.specs.Flow.{Link, off, end, to}
-use Rattle.network.specs.Store.{nodes, idx, at, isUsed}
+use Rattle.network.specs.Store.{nodes, gridOf, idx, usedAt, isUsed}
 use Rattle.network.proofs.Points.{to-eq}
 
 pub link-off : (b : Bool) (y : Link Point) → b ≡ false → cond b y off ≡ off
@@ -42,16 +42,12 @@ pub link-same : (b b′ c : Bool) (x x′ : Point) → b ≡ b′ → (b ≡ tru
 link-same true b′ c x x′ e h = rw (sym e, h refl)
 link-same false b′ c x x′ e h = rw (sym e)
 
--- The steps up to the horizon are the rows of a plane.
-pub row-in : (j : Job) (t : ℕ) → t ≤ horizon j → t * j .cells + j .cells ≤ nodes j
-row-in j t h = omega (arith, mul-le-mul-right (j .cells) h)
-
 pub few-nodes : (j : Job) → Ready j → nodes j ≤ maxCells * maxSteps
 few-nodes j ready = omega (arith, mul-le-mul-right (j .cells) (within j (ready .fit) .few-steps), ready .fit .few-cells)
 
 module _ (j : Job) (s : List ℕ) (v : Point) where
   abbrev pub useByte : ℕ
-  useByte = at (nodes j) s 0 (idx j v)
+  useByte = usedAt (gridOf j) s (idx j v)
 
   pub used : Known j v → (useByte ≡ 0 → ⊥) → isUsed j s v ≡ true
   used h ne = and-both (knownPoint j v) (not (eqb useByte 0)) (known-test j v h) (ap not (ne-eqb useByte 0 ne))

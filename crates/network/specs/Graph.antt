@@ -1,6 +1,6 @@
 -- The graph of a job, back in time: its nodes are cells at steps, and an edge leads from a node to one where a cart could have stood a step earlier.
 -- Paths in it run from the calls' nodes to the carts' nodes at step 0.
-use Prim.Native.Nat.{ℕ, suc, _<_, _≤_}
+use Prim.Native.Nat.{suc, _<_, _≤_}
 use mathlib.Core.Path.{_≡_}
 use mathlib.Core.List.{List, [], _∷_}
 use mathlib.Core.Bool.{Bool, true, false, _&&_, _||_}

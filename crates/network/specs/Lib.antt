@@ -4,5 +4,5 @@ pub mod Traced
 pub mod Stand
 pub mod Store
 pub mod Links
+pub mod Holds
 pub mod Lines
-pub mod Queue

@@ -35,7 +35,7 @@ use Rattle.route.specs.Search.{Fresh}
 use Rattle.route.specs.Serve.{MarksUpTo, Serving, ServedBy}
 use borrow.Author.Tests.{eqb-true}
 use Rattle.planner.specs.Solved.{Begun, ServedAll}
-use Rattle.network.proofs.Planes.{idx-below}
+use Rattle.network.proofs.StoreBytes.{idx-below}
 
 -- The node of the i-th call in the order.
 abbrev pub nodeAt : Job → List ℕ → ℕ → Point

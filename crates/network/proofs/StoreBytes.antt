@@ -10,7 +10,8 @@ use lib.Seq.{getD-set-same, getD-set-other}
 use Rattle.model.specs.Job.{Job, horizon}
 use Rattle.model.specs.Choke.{Point, Known}
 use Rattle.model.proofs.Decide.{dec-lt}
-use Rattle.network.specs.Store.{nodes, idx, at}
+use Rattle.network.specs.Store.{nodes, idx, spot, at}
+use Rattle.network.specs.declared.planes.Grid.{Grid}
 use Rattle.network.proofs.Points.{point-eq}
 
 module _ (k : ℕ) where
@@ -32,12 +33,12 @@ module _ (k : ℕ) where
   pub row-below : (p q i : ℕ) → i < k → p ≤ q → p * k + i < suc q * k
   row-below p q i h le = omega (arith, mul-le-mul-right k le, suc-mul q k)
 
-  module _ (s : List ℕ) (q i b : ℕ) where
-    pub at-same : q * k + i < length s → at k (set s (q * k + i) b) q i ≡ b
-    at-same h = getD-set-same s (q * k + i) b 0 h
+module _ (g : Grid) (s : List ℕ) (q i b : ℕ) where
+  pub at-same : spot g q i < length s → at g (set s (spot g q i) b) q i ≡ b
+  at-same h = getD-set-same s (spot g q i) b 0 h
 
-    pub at-other : (p v : ℕ) → i < k → v < k → (p ≡ q → v ≡ i → ⊥) → at k (set s (q * k + i) b) p v ≡ at k s p v
-    at-other p v h l ne = getD-set-other s (q * k + i) (p * k + v) b 0 (λ e. let r = row-one p q v i l h e in ne (r .0) (r .1))
+  pub at-other : (p v : ℕ) → i < g .nodes → v < g .nodes → (p ≡ q → v ≡ i → ⊥) → at g (set s (spot g q i) b) p v ≡ at g s p v
+  at-other p v h l ne = getD-set-other s (spot g q i) (spot g p v) b 0 (λ e. let r = row-one (g .nodes) p q v i l h e in ne (r .0) (r .1))
 
 module _ (j : Job) where
   pub idx-below : {x : Point} → Known j x → idx j x < nodes j

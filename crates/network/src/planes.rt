@@ -1,0 +1,127 @@
+// The store as the planner cuts it, in the one place that knows: planes of one byte a node, one after the other, and behind them those of the search's stack.
+use model::bytes::wide;
+ghost use mathlib.Core.Path.{_≡_};
+ghost use Prim.Native.Nat.{_<_};
+ghost use Rattle.network.specs.Store.{placeOf, Within, usedAt, markAt, nextAt, prevAt, cellAt, stepAt, viaAt, withUsed, withMark, withNext, withPrev, withEntry};
+
+// The planes. The bytes of a node: whether it is used, the stamp of a search, the cells before and behind it; of the stack: cell, step, and by way of which cell.
+const USED: usize = 0;
+
+const MARK: usize = 1;
+
+const NEXT: usize = 2;
+
+const PREV: usize = 3;
+
+const CELL: usize = 4;
+
+const STEP: usize = 5;
+
+const VIA: usize = 6;
+
+// How many cells the floor has, and how many nodes: each cell at each step.
+pub struct Grid {
+    pub cells: usize,
+    pub nodes: usize,
+}
+
+// A cell at a step.
+pub struct Node {
+    pub cell: usize,
+    pub step: usize,
+}
+
+// Where the bytes of a node stand in each plane.
+pub fn place(grid: Grid, node: Node) -> usize
+    requires { ⌜ placeOf grid (node .cell) (node .step) < grid .nodes ⌝ }
+    ensures { λ r. ⌜ r ≡ placeOf grid (node .cell) (node .step) ⌝ }
+{
+    node.step * grid.cells + node.cell
+}
+
+// Whether the flow uses the node at v: 0 if it does not.
+pub fn used(store: &[u8], grid: Grid, v: usize) -> usize
+    requires { ⌜ Within grid (now store) v ⌝ }
+    ensures { λ r. ⌜ (r ≡ usedAt grid (now (store .entry)) v) × (r < 256) ⌝ }
+{
+    wide(store[USED * grid.nodes + v])
+}
+
+// The stamp of the last search that came there.
+pub fn mark(store: &[u8], grid: Grid, v: usize) -> u8
+    requires { ⌜ Within grid (now store) v ⌝ }
+    ensures { λ r. ⌜ r ≡ markAt grid (now (store .entry)) v ⌝ }
+{
+    store[MARK * grid.nodes + v]
+}
+
+// The cell that the cart of a used node goes on to.
+pub fn next(store: &[u8], grid: Grid, v: usize) -> usize
+    requires { ⌜ Within grid (now store) v ⌝ }
+    ensures { λ r. ⌜ (r ≡ nextAt grid (now (store .entry)) v) × (r < 256) ⌝ }
+{
+    wide(store[NEXT * grid.nodes + v])
+}
+
+// The cell that the cart of a used node came from.
+pub fn prev(store: &[u8], grid: Grid, v: usize) -> usize
+    requires { ⌜ Within grid (now store) v ⌝ }
+    ensures { λ r. ⌜ (r ≡ prevAt grid (now (store .entry)) v) × (r < 256) ⌝ }
+{
+    wide(store[PREV * grid.nodes + v])
+}
+
+pub fn set_used(store: &mut [u8], grid: Grid, v: usize, b: u8)
+    requires { ⌜ Within grid (now store) v ⌝ }
+    ensures { λ _. ⌜ now (store .exit) ≡ withUsed grid (now (store .entry)) v b ⌝ }
+{
+    store[USED * grid.nodes + v] = b;
+}
+
+pub fn set_mark(store: &mut [u8], grid: Grid, v: usize, stamp: u8)
+    requires { ⌜ Within grid (now store) v ⌝ }
+    ensures { λ _. ⌜ now (store .exit) ≡ withMark grid (now (store .entry)) v stamp ⌝ }
+{
+    store[MARK * grid.nodes + v] = stamp;
+}
+
+pub fn set_next(store: &mut [u8], grid: Grid, v: usize, cell: usize)
+    requires { ⌜ Within grid (now store) v × (cell < 256) ⌝ }
+    ensures { λ _. ⌜ now (store .exit) ≡ withNext grid (now (store .entry)) v cell ⌝ }
+{
+    store[NEXT * grid.nodes + v] = cell as u8;
+}
+
+pub fn set_prev(store: &mut [u8], grid: Grid, v: usize, cell: usize)
+    requires { ⌜ Within grid (now store) v × (cell < 256) ⌝ }
+    ensures { λ _. ⌜ now (store .exit) ≡ withPrev grid (now (store .entry)) v cell ⌝ }
+{
+    store[PREV * grid.nodes + v] = cell as u8;
+}
+
+// The i-th position of the stack.
+pub fn position(store: &[u8], grid: Grid, i: usize) -> Node
+    requires { ⌜ Within grid (now store) i ⌝ }
+    ensures { λ r. ⌜ (r .cell ≡ cellAt grid (now (store .entry)) i) × (r .step ≡ stepAt grid (now (store .entry)) i) × (r .cell < 256) × (r .step < 256) ⌝ }
+{
+    let cell = wide(store[CELL * grid.nodes + i]);
+    let step = wide(store[STEP * grid.nodes + i]);
+    Node { cell, step }
+}
+
+// The cell by way of which it was reached.
+pub fn via(store: &[u8], grid: Grid, i: usize) -> usize
+    requires { ⌜ Within grid (now store) i ⌝ }
+    ensures { λ r. ⌜ (r ≡ viaAt grid (now (store .entry)) i) × (r < 256) ⌝ }
+{
+    wide(store[VIA * grid.nodes + i])
+}
+
+pub fn set_position(store: &mut [u8], grid: Grid, i: usize, node: Node, via: usize)
+    requires { ⌜ Within grid (now store) i × (node .cell < 256) × (node .step < 256) × (via < 256) ⌝ }
+    ensures { λ _. ⌜ now (store .exit) ≡ withEntry grid (now (store .entry)) i (node .cell) (node .step) via ⌝ }
+{
+    store[CELL * grid.nodes + i] = node.cell as u8;
+    store[STEP * grid.nodes + i] = node.step as u8;
+    store[VIA * grid.nodes + i] = via as u8;
+}
