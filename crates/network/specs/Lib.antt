@@ -5,7 +5,6 @@ pub mod Stand
 pub mod Store
 pub mod Links
 pub mod Holds
-pub mod Lines
 pub mod Tables
 pub mod Order
 pub mod Places
