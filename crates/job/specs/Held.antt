@@ -1,40 +1,36 @@
--- Paths and choke points as a sheet's reader and writer hold them: two lists with the first and second number of each line, and a row of steps for the cells of each path.
+-- Paths and choke points as they are held: two lists with the first and second number of each line; for a path also its last step, and a row of steps with its cells.
 use Prim.Native.Nat.{ℕ, zero, suc, _*_, _<_}
 use mathlib.Core.Path.{_≡_}
 use mathlib.Core.List.{List, [], _∷_, _++_}
 use mathlib.Core.Bool.{Bool, true, false}
 use lib.ListN.{length, getD, take, drop}
 use Rattle.model.specs.Limits.{maxCalls, maxSteps}
-use Rattle.model.specs.Job.{Job, callOf}
 use Rattle.model.specs.Plan.{Path}
 use Rattle.model.specs.Choke.{Point, point}
 use Rattle.job.specs.Arrays.{pairs}
 
--- the path of the k-th line: its cells are the first of row k, one more than its call's deadline
-abbrev pub pathAt : Job → List ℕ → List ℕ → List ℕ → ℕ → Path
-pathAt j carts calls rows k = record {
+-- the path of the k-th line: its cells are the first of row k, up to its last step
+abbrev pub pathAt : List ℕ → List ℕ → List ℕ → List ℕ → ℕ → Path
+pathAt carts calls lasts rows k = record {
   cart = getD carts k 0;
   call = getD calls k 0;
-  cells = take (suc (callOf j (getD calls k 0) .deadline)) (drop (k * maxSteps) rows);
+  cells = take (suc (getD lasts k 0)) (drop (k * maxSteps) rows);
 }
 
 -- the first n paths
-abbrev pub pathsTo : Job → List ℕ → List ℕ → List ℕ → ℕ → List Path
-pathsTo j carts calls rows zero = []
-pathsTo j carts calls rows (suc k) = pathsTo j carts calls rows k ++ (pathAt j carts calls rows k ∷ [])
-
--- a path a call
-abbrev pub pathsOf : Job → List ℕ → List ℕ → List ℕ → List Path
-pathsOf j carts calls rows = pathsTo j carts calls rows (length (j .calls))
+abbrev pub pathsTo : List ℕ → List ℕ → List ℕ → List ℕ → ℕ → List Path
+pathsTo carts calls lasts rows zero = []
+pathsTo carts calls lasts rows (suc k) = pathsTo carts calls lasts rows k ++ (pathAt carts calls lasts rows k ∷ [])
 
 -- the first n choke points
 abbrev pub pointsOf : List ℕ → List ℕ → ℕ → List Point
 pointsOf cells steps n = pairs point (take n cells) (take n steps)
 
 -- There is room for all that a sheet can hold.
-pub record Room (first second rows : List ℕ) : Type 0 where
+pub record Room (first second lasts rows : List ℕ) : Type 0 where
   pub firsts : length first ≡ maxCalls
   pub seconds : length second ≡ maxCalls
+  pub steps : length lasts ≡ maxCalls
   pub cells : length rows ≡ maxCalls * maxSteps
 
 -- P holds of a number below n.
