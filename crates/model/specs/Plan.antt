@@ -5,7 +5,7 @@ use mathlib.Core.List.{List, map}
 use mathlib.Core.Logic.{_⊎_}
 use lib.ListN.{length, getD}
 use Rattle.model.specs.Lists.{In, NoDup, Rising}
-use Rattle.model.specs.Job.{Job, cartCell, callOf}
+use Rattle.model.specs.Job.{Job, Call, cartCell, callOf}
 use Rattle.model.specs.Walk.{Walk, Serves}
 
 -- the numbers of a cart and a call, and the cells from step 0 to the deadline
@@ -48,10 +48,12 @@ pub record Plan (j : Job) (ps : List Path) : Type 0 where
   pub no-share : NoShare ps
   pub no-trade : NoTrade ps
 
--- The order of the lines: by deadline, equal deadlines in the order of the job.
+-- The order of calls and of the lines of a plan: by deadline, equal deadlines in the order of the job. m and n are the numbers of the calls p and q.
+abbrev pub Sooner : Call → ℕ → Call → ℕ → Type 0
+Sooner p m q n = (p .deadline < q .deadline) ⊎ ((p .deadline ≡ q .deadline) × (m < n))
+
 abbrev pub Before : Job → Path → Path → Type 0
-Before j p q = (callOf j (p .call) .deadline < callOf j (q .call) .deadline)
-    ⊎ ((callOf j (p .call) .deadline ≡ callOf j (q .call) .deadline) × (p .call < q .call))
+Before j p q = Sooner (callOf j (p .call)) (p .call) (callOf j (q .call)) (q .call)
 
 abbrev pub PlanInOrder : Job → List Path → Type 0
 PlanInOrder j ps = Rising (Before j) ps
