@@ -7,9 +7,10 @@ use mathlib.Core.Bool.{Bool, not, _&&_}
 use lib.Dec.{eqb}
 use lib.ListN.{length, getD, set}
 use Rattle.model.specs.Job.{Job, horizon}
-use Rattle.model.specs.Choke.{Point}
+use Rattle.model.specs.Choke.{Point, point}
 use Rattle.model.specs.ReadSheet.{knownPoint}
 use Rattle.network.specs.declared.planes.Grid.{Grid}
+use Rattle.network.specs.declared.planes.Node.{Node}
 
 -- how many nodes: cells at steps from 0 to H
 abbrev pub nodes : Job → ℕ
@@ -22,8 +23,14 @@ gridOf j = record { cells = j .cells; nodes = nodes j }
 abbrev pub placeOf : Grid → ℕ → ℕ → ℕ
 placeOf g c t = t * g .cells + c
 
+abbrev pub pointOf : Node → Point
+pointOf v = point (v .cell) (v .step)
+
+abbrev pub placeAt : Grid → Point → ℕ
+placeAt g x = placeOf g (x .cell) (x .step)
+
 abbrev pub idx : Job → Point → ℕ
-idx j x = placeOf (gridOf j) (x .cell) (x .step)
+idx j x = placeAt (gridOf j) x
 
 -- the place of the v-th byte of the plane p, and the byte
 abbrev pub spot : Grid → ℕ → ℕ → ℕ
