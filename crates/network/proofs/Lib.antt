@@ -7,10 +7,5 @@ pub mod Points
 pub mod Plans
 pub mod Calm
 pub mod StoreBytes
-pub mod TableLaws
-pub mod PlaceLaws
-pub mod NearLaws
-pub mod OrderLaws
-pub mod JobTables
 pub mod AimLaws
 pub mod NodeBytes

@@ -5,9 +5,4 @@ pub mod Stand
 pub mod Store
 pub mod Links
 pub mod Holds
-pub mod Tables
-pub mod Order
-pub mod Places
-pub mod Rows
-pub mod Sorted
 pub mod Queue

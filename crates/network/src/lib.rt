@@ -1,5 +1,3 @@
-// The graph of a job and the tables of its floor.
+// The graph of a job.
 pub mod aim;
-pub mod order;
 pub mod planes;
-pub mod tables;

@@ -1,0 +1,5 @@
+pub mod TableLaws
+pub mod RowLaws
+pub mod FillLaws
+pub mod OrderLaws
+pub mod JobTables
