@@ -1,13 +1,13 @@
 -- The planner's paths, one after the other: each is traced back from its call, through the flow in which no two carts trade; at the end they are a right plan. Assumes nothing.
 use Prim.Native.Nat.{ℕ, suc, _+_, _*_, _-_, _<_, _≤_}
 use mathlib.Core.Path.{_≡_, sym, ap, _∙_}
-use mathlib.Core.List.{List, []}
+use mathlib.Core.List.{List, [], map}
 use native.Mathlib.Omega.{arith}
 use lib.ListN.{length, getD, take, drop, set}
 use lib.Seq.{length-take-le, getD-take, set-getD, getD-set-same, getD-set-other}
 use borrow.Rule.Slice.PartMut.{mid-len}
 use Rattle.model.specs.Limits.{maxCells, maxCalls, maxSteps}
-use Rattle.model.specs.Lists.{In, Rising}
+use Rattle.model.specs.Lists.{In, NoDup, Rising}
 use Rattle.model.specs.Job.{Job, call, callOf}
 use Rattle.model.specs.Choke.{point}
 use Rattle.model.specs.Plan.{Path, Before}
@@ -126,8 +126,7 @@ module _ {j : Job} {lifts deadlines : List ℕ} {calls : ℕ} {cartOn order : Li
     pub right-plan : {m : ℕ} → m ≡ calls → Written j order s first lasts rows m → RightPlan j (pathsTo first order lasts rows (length (j .calls)))
     right-plan {m} e w = (
       flow-plan j (g .holds .ready) (stood-flow (g .holds .flow)) (stood-calm (backLink j s)) (λ q h. stood-ends (g .holds .flow) (nodeOf q) (g .full q h)) ps
-          (paths-length first order lasts rows all) (rising-once (λ p. p .call) (Before j) (λ x y z. precedes-on j (x .call) (y .call) (z .call)) (λ x y. precedes-apart j (x .call) (y .call)) ps rises)
-          (λ p i. traced p (paths-in first order lasts rows all p i)),
+          (paths-length first order lasts rows all) own (λ p i. traced p (paths-in first order lasts rows all p i)),
       rises,
     )
       where
@@ -144,6 +143,9 @@ module _ {j : Job} {lifts deadlines : List ℕ} {calls : ℕ} {cartOn order : Li
         rises = rising-of none (Before j) ps (λ k l.
             let b : suc k < all = omega (arith, paths-length first order lasts rows all) in
             rw (path-at first order lasts rows all k none (omega arith), path-at first order lasts rows all (suc k) none b) (g .ordered .rises k b))
+
+        own : NoDup (map (λ p. p .call) ps)
+        own = rising-once (λ p. p .call) (Before j) (λ x y z. precedes-on j (x .call) (y .call) (z .call)) (λ x y. precedes-apart j (x .call) (y .call)) ps rises
 
         traced : (p : Path) → (k : ℕ) × (k < all) × (p ≡ pathAt first order lasts rows k) → Traced j (backFrom j s) p
         traced p (k, l, f) = rw f (w .traced k (omega (arith, g .listed .counted)))

@@ -39,7 +39,8 @@ came-from-requires t c κs = (c .before .before .before .pre .1 .0, omega arith)
 follow-requires : (t : ℕ) → lts.Need-follow-requires (came-from.Asked, came-from.Learnt, below t, follow.Post) (at t) follow.Post
 follow-requires t c κs =
     let came = c .before in
-    let start = came .before .before .before .before in
+    let else = came .before in
+    let start = else .before .before .before in
     let (j, h, k) = start .pre .1 .0 in
     (omega arith, ((j, h, cart-before h _ _ (came .came-from .ensures j h k)), simp length-set (omega (arith, start .pre .1 .1))))
 
