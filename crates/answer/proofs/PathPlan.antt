@@ -68,7 +68,7 @@ module _ {j : Job} {lifts deadlines : List ℕ} {calls : ℕ} {cartOn order : Li
     pub can-follow : HasCart j s (point p d)
     can-follow = plans.lifts (stood-flow (g .holds .flow)) (point p d) (stood-ends (g .holds .flow) (point p d) served)
 
-    pub by-last : d < maxSteps
+    by-last : d < maxSteps
     by-last = omega (arith, ap (λ x. x .step) here, g .holds .ready .fit .known-calls (callOf j (q i)) (in-getD (j .calls) (q i) (call 0 0) (is-call more)) .1)
 
     module _ {row row₀ : List ℕ} {r : ℕ} (tr : Trail j s (point p d) row₀ row r) where

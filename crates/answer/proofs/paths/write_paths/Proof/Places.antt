@@ -19,26 +19,14 @@ module _ {Inv : tie.InvT-loop} {μ : tie.MeasureT-loop} where
   abbrev pub after-loop→loop : tie.After-loop Inv μ → tie.At-loop Inv μ
   after-loop→loop c = c .before
 
-  abbrev pub after-loop→start : tie.After-loop Inv μ → tie.Start Inv μ
-  after-loop→start c = slice-known3→start (c .before .before)
-
-  abbrev pub shared-slice-known4→start : tie.After-shared-slice-known4 Inv μ → tie.Start Inv μ
-  shared-slice-known4→start c = slice-known3→start (c .before .before .before)
-
   abbrev pub wide→in-loop : tie.After-wide Inv μ → tie.In-loop Inv μ
   wide→in-loop c = c .before .before
 
   abbrev pub wide→start : tie.After-wide Inv μ → tie.Start Inv μ
-  wide→start c = shared-slice-known4→start (c .before)
+  wide→start c = slice-known3→start (c .before .before .before .before)
 
   abbrev pub wide2→wide : tie.After-wide2 Inv μ → tie.After-wide Inv μ
   wide2→wide c = c .before .before
-
-  abbrev pub wide2→in-loop : tie.After-wide2 Inv μ → tie.In-loop Inv μ
-  wide2→in-loop c = wide→in-loop (wide2→wide c)
-
-  abbrev pub wide2→start : tie.After-wide2 Inv μ → tie.Start Inv μ
-  wide2→start c = wide→start (wide2→wide c)
 
   abbrev pub wide3→wide2 : tie.After-wide3 Inv μ → tie.After-wide2 Inv μ
   wide3→wide2 c = c .before .before
@@ -47,28 +35,16 @@ module _ {Inv : tie.InvT-loop} {μ : tie.MeasureT-loop} where
   wide3→wide c = wide2→wide (wide3→wide2 c)
 
   abbrev pub wide3→in-loop : tie.After-wide3 Inv μ → tie.In-loop Inv μ
-  wide3→in-loop c = wide2→in-loop (wide3→wide2 c)
-
-  abbrev pub wide3→loop : tie.After-wide3 Inv μ → tie.At-loop Inv μ
-  wide3→loop c = wide3→in-loop c .before
+  wide3→in-loop c = wide→in-loop (wide3→wide c)
 
   abbrev pub wide3→start : tie.After-wide3 Inv μ → tie.Start Inv μ
-  wide3→start c = wide2→start (wide3→wide2 c)
+  wide3→start c = wide→start (wide3→wide c)
 
   abbrev pub follow-arg→wide3 : tie.After-follow-arg Inv μ → tie.After-wide3 Inv μ
   follow-arg→wide3 c = c .before
 
-  abbrev pub follow-arg→wide2 : tie.After-follow-arg Inv μ → tie.After-wide2 Inv μ
-  follow-arg→wide2 c = wide3→wide2 (follow-arg→wide3 c)
-
-  abbrev pub follow-arg→wide : tie.After-follow-arg Inv μ → tie.After-wide Inv μ
-  follow-arg→wide c = wide3→wide (follow-arg→wide3 c)
-
-  abbrev pub follow-arg→in-loop : tie.After-follow-arg Inv μ → tie.In-loop Inv μ
-  follow-arg→in-loop c = wide3→in-loop (follow-arg→wide3 c)
-
   abbrev pub follow-arg→loop : tie.After-follow-arg Inv μ → tie.At-loop Inv μ
-  follow-arg→loop c = wide3→loop (follow-arg→wide3 c)
+  follow-arg→loop c = follow-arg→wide3 c .before .before .before .before .before .before .before
 
   abbrev pub follow-arg→start : tie.After-follow-arg Inv μ → tie.Start Inv μ
   follow-arg→start c = wide3→start (follow-arg→wide3 c)
@@ -94,12 +70,6 @@ module _ {Inv : tie.InvT-loop} {μ : tie.MeasureT-loop} where
   abbrev pub shared-slice-known5→wide : tie.After-shared-slice-known5 Inv μ → tie.After-wide Inv μ
   shared-slice-known5→wide c = follow→wide (shared-slice-known5→follow c)
 
-  abbrev pub shared-slice-known5→in-loop : tie.After-shared-slice-known5 Inv μ → tie.In-loop Inv μ
-  shared-slice-known5→in-loop c = follow→in-loop (shared-slice-known5→follow c)
-
-  abbrev pub shared-slice-known5→loop : tie.After-shared-slice-known5 Inv μ → tie.At-loop Inv μ
-  shared-slice-known5→loop c = shared-slice-known5→in-loop c .before
-
   abbrev pub shared-slice-known5→start : tie.After-shared-slice-known5 Inv μ → tie.Start Inv μ
   shared-slice-known5→start c = follow→start (shared-slice-known5→follow c)
 
@@ -122,7 +92,7 @@ module _ {Inv : tie.InvT-loop} {μ : tie.MeasureT-loop} where
   lasts→in-loop c = follow→in-loop (lasts→follow c)
 
   abbrev pub lasts→loop : tie.After-lasts Inv μ → tie.At-loop Inv μ
-  lasts→loop c = wide3→loop (lasts→wide3 c)
+  lasts→loop c = lasts→in-loop c .before
 
   abbrev pub lasts→start : tie.After-lasts Inv μ → tie.Start Inv μ
   lasts→start c = follow→start (lasts→follow c)
