@@ -7,5 +7,6 @@ pub mod Points
 pub mod Plans
 pub mod Calm
 pub mod StoreBytes
-pub mod AimLaws
 pub mod NodeBytes
+pub mod PlaneLaws
+pub mod HoldsLaws

@@ -1,3 +1,2 @@
-// The graph of a job.
-pub mod aim;
+// The graph of a job, and the store that its flow is kept in.
 pub mod planes;

@@ -20,237 +20,214 @@ use Rattle.flow.proofs.Hops.{On, on-out, via-on, via-once}
 use Rattle.flow.proofs.Links.{join-same, join-other, next-kept, next-last, next-hop, prev-kept, prev-start, prev-hop}
 use Rattle.flow.proofs.Augment.{augmented, starts-more}
 use Rattle.network.specs.Graph.{graph, isLift, Earlier}
-use Rattle.network.specs.Store.{nodes, idx, at, isUsed}
-use Rattle.network.specs.Links.{FlowIn, backLink, onLink, posAt, hopsTo}
+use Rattle.network.specs.Store.{gridOf, idx, usedAt, nextAt, prevAt, withUsed, withMark, isUsed}
+use Rattle.network.specs.Links.{FlowIn, backLink, onLink}
 use Rattle.route.specs.Search.{Augmented}
-use Rattle.route.specs.Lay.{useOf}
 use Rattle.network.proofs.NodeBytes.{link-off, link-end, link-to, link-used, link-same, used, unused, used-byte, used-known, used-same}
 use Rattle.network.proofs.Points.{point-step, point-eq, dec-point}
-use Rattle.network.proofs.StoreBytes.{at-same, at-other, idx-below, idx-one}
-use Rattle.route.proofs.Stack.{viaAt, last-hops, hop-on, Form, frees, leads, via-late, via-in, places-apart, place-once, place-in, hop-arcs, form, known-via}
-use Rattle.route.proofs.Laid.{Laid}
+use Rattle.network.proofs.StoreBytes.{idx-below, idx-one}
+use Rattle.network.proofs.PlaneLaws.{Opened, opens}
+use Rattle.route.proofs.Stack.{posIn, viaIn, hopsIn, Stacked, last-hops, hop-on, Form, frees, leads, via-late, via-in, places-apart, place-once, place-in, hop-arcs, form, known-via}
+use Rattle.route.proofs.Laid.{Laid, useAt, marks-more}
 
 join-eq : {a a′ b b′ : Point} → a ≡ a′ → b ≡ b′ → join dec-point a b ≡ join dec-point a′ b′
 join-eq e f = rw (e, f)
 
 module _ (j : Job) where
   abbrev byte : List ℕ → Point → ℕ
-  byte s v = at (nodes j) s 0 (idx j v)
+  byte s v = usedAt (gridOf j) s (idx j v)
 
   -- What the store holds once all is laid.
   pub record Final (s s′ : List ℕ) (e : ℕ) : Type 0 where
-    pub start : byte s′ (posAt j s 0) ≡ 1
-    pub by : (m : ℕ) → m < e → byte s′ (viaAt j s m) ≡ useOf (nodes j) s m
-    pub kept : (v : Point) → Known j v → (v ≡ posAt j s 0 → ⊥) → ((m : ℕ) → m < e → v ≡ viaAt j s m → ⊥) → byte s′ v ≡ byte s v
-    pub next : (m : ℕ) → m < e → at (nodes j) s′ 2 (idx j (viaAt j s m)) ≡ posAt j s m .cell
-    pub next-kept : (v : Point) → Known j v → ((m : ℕ) → m < e → v ≡ viaAt j s m → ⊥) → at (nodes j) s′ 2 (idx j v) ≡ at (nodes j) s 2 (idx j v)
-    pub prev : (m : ℕ) → m < e → at (nodes j) s′ 3 (idx j (posAt j s m)) ≡ viaAt j s m .cell
-    pub prev-kept : (v : Point) → Known j v → ((m : ℕ) → m < e → v ≡ posAt j s m → ⊥) → at (nodes j) s′ 3 (idx j v) ≡ at (nodes j) s 3 (idx j v)
+    pub start : byte s′ (posIn j s 0) ≡ 1
+    pub by : (m : ℕ) → m < e → byte s′ (viaIn j s m) ≡ useAt (gridOf j) s m
+    pub kept : (v : Point) → Known j v → (v ≡ posIn j s 0 → ⊥) → ((m : ℕ) → m < e → v ≡ viaIn j s m → ⊥) → byte s′ v ≡ byte s v
+    pub next : (m : ℕ) → m < e → nextAt (gridOf j) s′ (idx j (viaIn j s m)) ≡ posIn j s m .cell
+    pub next-kept : (v : Point) → Known j v → ((m : ℕ) → m < e → v ≡ viaIn j s m → ⊥) → nextAt (gridOf j) s′ (idx j v) ≡ nextAt (gridOf j) s (idx j v)
+    pub prev : (m : ℕ) → m < e → prevAt (gridOf j) s′ (idx j (posIn j s m)) ≡ viaIn j s m .cell
+    pub prev-kept : (v : Point) → Known j v → ((m : ℕ) → m < e → v ≡ posIn j s m → ⊥) → prevAt (gridOf j) s′ (idx j v) ≡ prevAt (gridOf j) s (idx j v)
 
-  module _ (s s′ : List ℕ) (e : ℕ) (known : (i : ℕ) → i ≤ e → Known j (posAt j s i)) (ok : FlowIn j s)
-      (way : Way (graph j) (backLink j s) (onLink j s) (posAt j s 0) (hopsTo j s e)) (fin : Final s s′ e) where
+  module _ {s : List ℕ} {e : ℕ} (st : Stacked j s e) (s′ : List ℕ) (fin : Final s s′ e) where
     abbrev x : Point
-    x = posAt j s 0
+    x = posIn j s 0
 
     -- Where a hop leads on, its node is used then, and where it does not, it is not.
-    leads-used : (m : ℕ) → m < e → ltb (posAt j s m .step) (posAt j s (suc m) .step) ≡ false → byte s′ (viaAt j s m) ≡ 1
+    leads-used : (m : ℕ) → m < e → ltb (posIn j s m .step) (posIn j s (suc m) .step) ≡ false → byte s′ (viaIn j s m) ≡ 1
     leads-used m l q = fin .by m l ∙ ap (λ b. cond b 0 1) q
 
-    frees-used : (m : ℕ) → m < e → ltb (posAt j s m .step) (posAt j s (suc m) .step) ≡ true → byte s′ (viaAt j s m) ≡ 0
+    frees-used : (m : ℕ) → m < e → ltb (posIn j s m .step) (posIn j s (suc m) .step) ≡ true → byte s′ (viaIn j s m) ≡ 0
     frees-used m l q = fin .by m l ∙ ap (λ b. cond b 0 1) q
 
     data Via (v : Point) : Type 0 where
-      via : (m : ℕ) → m < e → v ≡ viaAt j s m → Via v
-      none : ((m : ℕ) → m < e → v ≡ viaAt j s m → ⊥) → Via v
+      via : (m : ℕ) → m < e → v ≡ viaIn j s m → Via v
+      none : ((m : ℕ) → m < e → v ≡ viaIn j s m → ⊥) → Via v
 
     look-via : (v : Point) → Via v
-    look-via v = go (dec-in dec-point v (vias (hopsTo j s e)))
+    look-via v = go (dec-in dec-point v (vias (hopsIn j s e)))
       where
-        hop : (u : Point) × (y : Point) × On x (hopsTo j s e) u v y → Via v
+        hop : (u : Point) × (y : Point) × On x (hopsIn j s e) u v y → Via v
         hop (u, y, o) = let r = hop-on j s e u v y o in via (r .0) (r .1) (r .3)
 
-        go : Dec (In v (vias (hopsTo j s e))) → Via v
-        go (yes i) = hop (via-on x (hopsTo j s e) v i)
-        go (no h) = none (λ m l q. h (rw q (via-in j s ok e way m l)))
+        go : Dec (In v (vias (hopsIn j s e))) → Via v
+        go (yes i) = hop (via-on x (hopsIn j s e) v i)
+        go (no h) = none (λ m l q. h (rw q (via-in st m l)))
 
     -- A position that was used and is not dropped is used then.
-    stays : (i : ℕ) → i ≤ e → (i < e → Earlier j (posAt j s i) (viaAt j s i)) → (byte s (posAt j s i) ≡ 0 → ⊥) → byte s′ (posAt j s i) ≡ 0 → ⊥
-    stays i l h u z = go (dec-point (posAt j s i) x) (look-via (posAt j s i))
+    stays : (i : ℕ) → i ≤ e → (i < e → Earlier j (posIn j s i) (viaIn j s i)) → (byte s (posIn j s i) ≡ 0 → ⊥) → byte s′ (posIn j s i) ≡ 0 → ⊥
+    stays i l h u z = go (dec-point (posIn j s i) x) (look-via (posIn j s i))
       where
-        met : (m : ℕ) → m < e → posAt j s i ≡ viaAt j s m → Form j s m → ⊥
+        met : (m : ℕ) → m < e → posIn j s i ≡ viaIn j s m → Form j s m → ⊥
         met m k q (frees f g) =
-            let r : i ≡ m = place-once j s ok e way i m l (omega arith) (q ∙ g) in
+            let r : i ≡ m = place-once st i m l (omega arith) (q ∙ g) in
             let k′ : i < e = omega arith in
-            let t : posAt j s i .step ≡ suc (viaAt j s i .step) = h k′ .falls in
-            let t′ : posAt j s i ≡ viaAt j s i = rw r (sym g) in
+            let t : posIn j s i .step ≡ suc (viaIn j s i .step) = h k′ .falls in
+            let t′ : posIn j s i ≡ viaIn j s i = rw r (sym g) in
             omega (arith, point-step t′)
-        met m k q (leads f g) = let t : byte s′ (viaAt j s m) ≡ 1 = leads-used m k f in omega (arith, ap (byte s′) q, z)
+        met m k q (leads f g) = let t : byte s′ (viaIn j s m) ≡ 1 = leads-used m k f in omega (arith, ap (byte s′) q, z)
 
-        go : Dec (posAt j s i ≡ x) → Via (posAt j s i) → ⊥
+        go : Dec (posIn j s i ≡ x) → Via (posIn j s i) → ⊥
         go (yes q) w = let t : byte s′ x ≡ 1 = fin .start in omega (arith, ap (byte s′) q, z)
-        go (no q) (via m k f) = met m k f (form j s ok e way m k)
-        go (no q) (none f) = u (sym (fin .kept (posAt j s i) (known i l) q f) ∙ z)
+        go (no q) (via m k f) = met m k f (form st m k)
+        go (no q) (none f) = u (sym (fin .kept (posIn j s i) (st .known i l) q f) ∙ z)
 
     -- A hop arrives at an unused node and goes on from there, or at a used one and goes back along the flow.
-    entered : (m : ℕ) → m < e → (posAt j s (suc m) ≡ viaAt j s m) ⊎ (onLink j s (viaAt j s m) ≡ to (posAt j s (suc m)))
-    entered m l = ⊎-elim (λ (q : (posAt j s (suc m) ≡ viaAt j s m) × (backLink j s (viaAt j s m) ≡ off)). inl (q .0)) inr (hop-arcs j s ok e way m l .1)
+    entered : (m : ℕ) → m < e → (posIn j s (suc m) ≡ viaIn j s m) ⊎ (onLink j s (viaIn j s m) ≡ to (posIn j s (suc m)))
+    entered m l = ⊎-elim (λ (q : (posIn j s (suc m) ≡ viaIn j s m) × (backLink j s (viaIn j s m) ≡ off)). inl (q .0)) inr (hop-arcs st m l .1)
 
-    position-used : (i : ℕ) → i ≤ e → (i < e → Earlier j (posAt j s i) (viaAt j s i)) → byte s′ (posAt j s i) ≡ 0 → ⊥
+    position-used : (i : ℕ) → i ≤ e → (i < e → Earlier j (posIn j s i) (viaIn j s i)) → byte s′ (posIn j s i) ≡ 0 → ⊥
     position-used zero l h z = let t : byte s′ x ≡ 1 = fin .start in omega arith
-    position-used (suc m) l h z = go (form j s ok e way m l) (entered m l)
+    position-used (suc m) l h z = go (form st m l) (entered m l)
       where
-        go : Form j s m → (posAt j s (suc m) ≡ viaAt j s m) ⊎ (onLink j s (viaAt j s m) ≡ to (posAt j s (suc m))) → ⊥
-        go (frees f g) (inl q) = places-apart j s ok e way m (suc m) (omega arith) l (sym (q ∙ g))
-        go (leads f g) (inl q) = let t : byte s′ (viaAt j s m) ≡ 1 = leads-used m l f in omega (arith, ap (byte s′) q, z)
+        go : Form j s m → (posIn j s (suc m) ≡ viaIn j s m) ⊎ (onLink j s (viaIn j s m) ≡ to (posIn j s (suc m))) → ⊥
+        go (frees f g) (inl q) = places-apart st m (suc m) (omega arith) l (sym (q ∙ g))
+        go (leads f g) (inl q) = let t : byte s′ (viaIn j s m) ≡ 1 = leads-used m l f in omega (arith, ap (byte s′) q, z)
         go f (inr q) =
-            let r = ok .back (posAt j s (suc m)) (viaAt j s m) q in
-            stays (suc m) l h (used-byte j s (posAt j s (suc m)) (link-used (isUsed j s (posAt j s (suc m))) _ (viaAt j s m) r)) z
+            let r = st .ok .back (posIn j s (suc m)) (viaIn j s m) q in
+            stays (suc m) l h (used-byte j s (posIn j s (suc m)) (link-used (isUsed j s (posIn j s (suc m))) _ (viaIn j s m) r)) z
 
     -- A node that is no position is used then as it was before.
-    other-used : (v : Point) → (In v (x ∷ ats (hopsTo j s e)) → ⊥) → isUsed j s′ v ≡ isUsed j s v
+    other-used : (v : Point) → (In v (x ∷ ats (hopsIn j s e)) → ⊥) → isUsed j s′ v ≡ isUsed j s v
     other-used v h = go (look-via v)
       where
-        both : (m : ℕ) → m < e → v ≡ viaAt j s m → Form j s m → (posAt j s (suc m) ≡ viaAt j s m) ⊎ (onLink j s (viaAt j s m) ≡ to (posAt j s (suc m)))
+        both : (m : ℕ) → m < e → v ≡ viaIn j s m → Form j s m → (posIn j s (suc m) ≡ viaIn j s m) ⊎ (onLink j s (viaIn j s m) ≡ to (posIn j s (suc m)))
             → eqb (byte s′ v) 0 ≡ eqb (byte s v) 0
-        both m l q (frees f g) r = absurd (h (rw (q ∙ g) (place-in j s ok e way m (omega arith))))
-        both m l q (leads f g) (inl r) = absurd (h (rw (q ∙ sym r) (place-in j s ok e way (suc m) l)))
+        both m l q (frees f g) r = absurd (h (rw (q ∙ g) (place-in st m (omega arith))))
+        both m l q (leads f g) (inl r) = absurd (h (rw (q ∙ sym r) (place-in st (suc m) l)))
         both m l q (leads f g) (inr r) =
             let t : byte s′ v ≡ 1 = rw q (leads-used m l f) in
-            let u : byte s v ≡ 0 → ⊥ = rw q (used-byte j s (viaAt j s m) (link-used (isUsed j s (viaAt j s m)) _ (posAt j s (suc m)) r)) in
+            let u : byte s v ≡ 0 → ⊥ = rw q (used-byte j s (viaIn j s m) (link-used (isUsed j s (viaIn j s m)) _ (posIn j s (suc m)) r)) in
             ne-eqb (byte s′ v) 0 (λ z. omega arith) ∙ sym (ne-eqb (byte s v) 0 u)
 
         go : Via v → isUsed j s′ v ≡ isUsed j s v
-        go (via m l q) = used-same j s s′ v (λ _. both m l q (form j s ok e way m l) (entered m l))
+        go (via m l q) = used-same j s s′ v (λ _. both m l q (form st m l) (entered m l))
         go (none f) = used-same j s s′ v (λ k. ap (λ b. eqb b 0) (fin .kept v k (λ q. h (inl q)) f))
 
-    pub back-laid : (v : Point) → backLink j s′ v ≡ nextBy dec-point x (hopsTo j s e) (backLink j s) v
-    back-laid v = go (dec-in dec-point v (x ∷ ats (hopsTo j s e)))
+    pub back-laid : (v : Point) → backLink j s′ v ≡ nextBy dec-point x (hopsIn j s e) (backLink j s) v
+    back-laid v = go (dec-in dec-point v (x ∷ ats (hopsIn j s e)))
       where
-        kept : (In v (x ∷ ats (hopsTo j s e)) → ⊥) → backLink j s′ v ≡ backLink j s v
+        kept : (In v (x ∷ ats (hopsIn j s e)) → ⊥) → backLink j s′ v ≡ backLink j s v
         kept h =
             link-same (isUsed j s′ v) (isUsed j s v) (eqb (v .step) 0) _ _ (other-used v h)
-            (λ u. ap (λ c. point c (v .step - 1)) (fin .prev-kept v (used-known j s′ v u) (λ m l q. h (rw q (place-in j s ok e way m (omega arith))))))
+            (λ u. ap (λ c. point c (v .step - 1)) (fin .prev-kept v (used-known j s′ v u) (λ m l q. h (rw q (place-in st m (omega arith))))))
 
-        last : v ≡ lastAt x (hopsTo j s e) → backLink j s′ v ≡ nextBy dec-point x (hopsTo j s e) (backLink j s) v
+        last : v ≡ lastAt x (hopsIn j s e) → backLink j s′ v ≡ nextBy dec-point x (hopsIn j s e) (backLink j s) v
         last q =
-            let q′ : v ≡ posAt j s e = q ∙ last-hops j s e in
-            let z : v .step ≡ 0 = point-step q ∙ way .goal .0 in
-            let u : isUsed j s′ v ≡ true = used j s′ v (rw q′ (known e (omega arith))) (rw q′ (position-used e (omega arith) (λ l. absurd (omega arith)))) in
-            link-end (isUsed j s′ v) (eqb (v .step) 0) _ u (eq-eqb (v .step) 0 z) ∙ sym (rw q (next-last dec-point (backLink j s) x (hopsTo j s e) (way .once)))
+            let q′ : v ≡ posIn j s e = q ∙ last-hops j s e in
+            let z : v .step ≡ 0 = point-step q ∙ st .way .goal .0 in
+            let u : isUsed j s′ v ≡ true = used j s′ v (rw q′ (st .known e (omega arith))) (rw q′ (position-used e (omega arith) (λ l. absurd (omega arith)))) in
+            link-end (isUsed j s′ v) (eqb (v .step) 0) _ u (eq-eqb (v .step) 0 z) ∙ sym (rw q (next-last dec-point (backLink j s) x (hopsIn j s e) (st .way .once)))
 
-        hop : (m : ℕ) → m < e → Form j s m → backLink j s′ (posAt j s m) ≡ join dec-point (posAt j s m) (viaAt j s m)
-        hop m l (frees f g) = link-off _ _ (unused j s′ (posAt j s m) (ap (byte s′) (sym g) ∙ frees-used m l f)) ∙ sym (join-same dec-point (posAt j s m) (viaAt j s m) (sym g))
+        hop : (m : ℕ) → m < e → Form j s m → backLink j s′ (posIn j s m) ≡ join dec-point (posIn j s m) (viaIn j s m)
+        hop m l (frees f g) = link-off _ _ (unused j s′ (posIn j s m) (ap (byte s′) (sym g) ∙ frees-used m l f)) ∙ sym (join-same dec-point (posIn j s m) (viaIn j s m) (sym g))
         hop m l (leads f g) =
             let t = g .falls in
-            let u : isUsed j s′ (posAt j s m) ≡ true = used j s′ (posAt j s m) (known m (omega arith)) (position-used m (omega arith) (λ _. g)) in
-            link-to (isUsed j s′ (posAt j s m)) (eqb (posAt j s m .step) 0) _ u (ne-eqb (posAt j s m .step) 0 (λ z. omega arith))
+            let u : isUsed j s′ (posIn j s m) ≡ true = used j s′ (posIn j s m) (st .known m (omega arith)) (position-used m (omega arith) (λ _. g)) in
+            link-to (isUsed j s′ (posIn j s m)) (eqb (posIn j s m .step) 0) _ u (ne-eqb (posIn j s m .step) 0 (λ z. omega arith))
             ∙ ap to (point-eq (fin .prev m l) (omega arith))
-            ∙ sym (join-other dec-point (posAt j s m) (viaAt j s m) (λ q. let t′ = point-step q in omega arith))
+            ∙ sym (join-other dec-point (posIn j s m) (viaIn j s m) (λ q. let t′ = point-step q in omega arith))
 
-        hops : (w : Point) × (y : Point) × On x (hopsTo j s e) v w y → backLink j s′ v ≡ nextBy dec-point x (hopsTo j s e) (backLink j s) v
+        hops : (w : Point) × (y : Point) × On x (hopsIn j s e) v w y → backLink j s′ v ≡ nextBy dec-point x (hopsIn j s e) (backLink j s) v
         hops (w, y, o) =
             let r = hop-on j s e v w y o in
-            let g : join dec-point v w ≡ join dec-point (posAt j s (r .0)) (viaAt j s (r .0)) = join-eq (r .2) (r .3) in
-            ap (backLink j s′) (r .2) ∙ hop (r .0) (r .1) (form j s ok e way (r .0) (r .1)) ∙ sym g ∙ sym (next-hop dec-point (backLink j s) x (hopsTo j s e) v w y (way .once) o)
+            let g : join dec-point v w ≡ join dec-point (posIn j s (r .0)) (viaIn j s (r .0)) = join-eq (r .2) (r .3) in
+            ap (backLink j s′) (r .2) ∙ hop (r .0) (r .1) (form st (r .0) (r .1)) ∙ sym g ∙ sym (next-hop dec-point (backLink j s) x (hopsIn j s e) v w y (st .way .once) o)
 
-        go : Dec (In v (x ∷ ats (hopsTo j s e))) → backLink j s′ v ≡ nextBy dec-point x (hopsTo j s e) (backLink j s) v
-        go (no h) = kept h ∙ sym (next-kept dec-point (backLink j s) x (hopsTo j s e) v h)
-        go (yes i) = ⊎-elim last hops (on-out x (hopsTo j s e) v i)
+        go : Dec (In v (x ∷ ats (hopsIn j s e))) → backLink j s′ v ≡ nextBy dec-point x (hopsIn j s e) (backLink j s) v
+        go (no h) = kept h ∙ sym (next-kept dec-point (backLink j s) x (hopsIn j s e) v h)
+        go (yes i) = ⊎-elim last hops (on-out x (hopsIn j s e) v i)
 
-    pub on-laid : (v : Point) → onLink j s′ v ≡ prevBy dec-point x (hopsTo j s e) (onLink j s) v
-    on-laid v = go (dec-in dec-point v (x ∷ vias (hopsTo j s e)))
+    pub on-laid : (v : Point) → onLink j s′ v ≡ prevBy dec-point x (hopsIn j s e) (onLink j s) v
+    on-laid v = go (dec-in dec-point v (x ∷ vias (hopsIn j s e)))
       where
-        kept : (In v (x ∷ vias (hopsTo j s e)) → ⊥) → onLink j s′ v ≡ onLink j s v
+        kept : (In v (x ∷ vias (hopsIn j s e)) → ⊥) → onLink j s′ v ≡ onLink j s v
         kept h =
-            let no : (m : ℕ) → m < e → v ≡ viaAt j s m → ⊥ = λ m l q. h (inr (rw q (via-in j s ok e way m l))) in
+            let no : (m : ℕ) → m < e → v ≡ viaIn j s m → ⊥ = λ m l q. h (inr (rw q (via-in st m l))) in
             link-same (isUsed j s′ v) (isUsed j s v) (isLift j v) _ _ (used-same j s s′ v (λ k. ap (λ b. eqb b 0) (fin .kept v k (λ q. h (inl q)) no)))
             (λ u. ap (λ c. point c (v .step + 1)) (fin .next-kept v (used-known j s′ v u) no))
 
         first : onLink j s′ x ≡ end
-        first = let t = fin .start in link-end (isUsed j s′ x) (isLift j x) _ (used j s′ x (known 0 (omega arith)) (λ z. omega arith)) (way .start)
+        first = let t = fin .start in link-end (isUsed j s′ x) (isLift j x) _ (used j s′ x (st .known 0 (omega arith)) (λ z. omega arith)) (st .way .start)
 
-        hop : (m : ℕ) → m < e → Form j s m → onLink j s′ (viaAt j s m) ≡ join dec-point (viaAt j s m) (posAt j s m)
-        hop m l (frees f g) = link-off _ _ (unused j s′ (viaAt j s m) (frees-used m l f)) ∙ sym (join-same dec-point (viaAt j s m) (posAt j s m) g)
+        hop : (m : ℕ) → m < e → Form j s m → onLink j s′ (viaIn j s m) ≡ join dec-point (viaIn j s m) (posIn j s m)
+        hop m l (frees f g) = link-off _ _ (unused j s′ (viaIn j s m) (frees-used m l f)) ∙ sym (join-same dec-point (viaIn j s m) (posIn j s m) g)
         hop m l (leads f g) =
             let t = g .falls in
             let b = leads-used m l f in
-            let u : isUsed j s′ (viaAt j s m) ≡ true = used j s′ (viaAt j s m) (known-via j s ok e way known m l) (λ z. omega arith) in
-            link-to (isUsed j s′ (viaAt j s m)) (isLift j (viaAt j s m)) _ u (g .leaves)
+            let u : isUsed j s′ (viaIn j s m) ≡ true = used j s′ (viaIn j s m) (known-via st m l) (λ z. omega arith) in
+            link-to (isUsed j s′ (viaIn j s m)) (isLift j (viaIn j s m)) _ u (g .leaves)
             ∙ ap to (point-eq (fin .next m l) (omega arith))
-            ∙ sym (join-other dec-point (viaAt j s m) (posAt j s m) (λ q. let t′ = point-step q in omega arith))
+            ∙ sym (join-other dec-point (viaIn j s m) (posIn j s m) (λ q. let t′ = point-step q in omega arith))
 
-        hops : (u : Point) × (y : Point) × On x (hopsTo j s e) u v y → onLink j s′ v ≡ prevBy dec-point x (hopsTo j s e) (onLink j s) v
+        hops : (u : Point) × (y : Point) × On x (hopsIn j s e) u v y → onLink j s′ v ≡ prevBy dec-point x (hopsIn j s e) (onLink j s) v
         hops (u, y, o) =
             let r = hop-on j s e u v y o in
-            let g : join dec-point v u ≡ join dec-point (viaAt j s (r .0)) (posAt j s (r .0)) = join-eq (r .3) (r .2) in
-            ap (onLink j s′) (r .3) ∙ hop (r .0) (r .1) (form j s ok e way (r .0) (r .1)) ∙ sym g ∙ sym (prev-hop dec-point (onLink j s) x (hopsTo j s e) u v y (via-once ok way) o)
+            let g : join dec-point v u ≡ join dec-point (viaIn j s (r .0)) (posIn j s (r .0)) = join-eq (r .3) (r .2) in
+            ap (onLink j s′) (r .3) ∙ hop (r .0) (r .1) (form st (r .0) (r .1)) ∙ sym g ∙ sym (prev-hop dec-point (onLink j s) x (hopsIn j s e) u v y (via-once (st .ok) (st .way)) o)
 
-        go : Dec (In v (x ∷ vias (hopsTo j s e))) → onLink j s′ v ≡ prevBy dec-point x (hopsTo j s e) (onLink j s) v
-        go (no h) = kept h ∙ sym (prev-kept dec-point (onLink j s) x (hopsTo j s e) v h)
-        go (yes (inl q)) = ap (onLink j s′) q ∙ first ∙ sym (rw q (prev-start dec-point (onLink j s) x (hopsTo j s e)))
-        go (yes (inr i)) = hops (via-on x (hopsTo j s e) v i)
+        go : Dec (In v (x ∷ vias (hopsIn j s e))) → onLink j s′ v ≡ prevBy dec-point x (hopsIn j s e) (onLink j s) v
+        go (no h) = kept h ∙ sym (prev-kept dec-point (onLink j s) x (hopsIn j s e) v h)
+        go (yes (inl q)) = ap (onLink j s′) q ∙ first ∙ sym (rw q (prev-start dec-point (onLink j s) x (hopsIn j s e)))
+        go (yes (inr i)) = hops (via-on x (hopsIn j s e) v i)
 
     pub flow-laid : FlowIn j s′
-    flow-laid = flow-same back-laid on-laid (augmented dec-point ok way)
+    flow-laid = flow-same back-laid on-laid (augmented dec-point (st .ok) (st .way))
 
     pub serves-laid : (v : Point) → (onLink j s′ v ≡ end) ↔ ((onLink j s v ≡ end) ⊎ (v ≡ x))
-    serves-laid v = rw (on-laid v) (starts-more dec-point ok way v)
+    serves-laid v = rw (on-laid v) (starts-more dec-point (st .ok) (st .way) v)
 
-module _ (j : Job) (s s′ : List ℕ) (e : ℕ) (room : 8 * nodes j ≤ length s) (known : (i : ℕ) → i ≤ e → Known j (posAt j s i)) (ok : FlowIn j s)
-    (way : Way (graph j) (backLink j s) (onLink j s) (posAt j s 0) (hopsTo j s e)) (done : Laid (j .cells) (nodes j) s s′ 0 e) where
+-- All hops are laid, and then the byte of the way's first node is set and its mark taken away.
+module _ {j : Job} {s s′ : List ℕ} {e : ℕ} (w : Stacked j s e) (done : Laid (gridOf j) s s′ 0 e) where
   abbrev p : ℕ
-  p = idx j (posAt j s 0)
-
-  abbrev s₁ : List ℕ
-  s₁ = set s′ (0 * nodes j + p) 1
+  p = idx j (posIn j s 0)
 
   abbrev s₂ : List ℕ
-  s₂ = set s₁ (1 * nodes j + p) 0
+  s₂ = withMark (gridOf j) (withUsed (gridOf j) s′ p 1) p 0
 
-  small : p < nodes j
-  small = idx-below j (known 0 (omega arith))
+  opened : Opened (gridOf j) s′ s₂ p 1 0
+  opened = opens (gridOf j) s′ (omega (arith, w .room, done .long)) p 1 0 (idx-below j (w .known 0 (omega arith)))
 
-  long₁ : length s₁ ≡ length s
-  long₁ = length-set s′ (0 * nodes j + p) 1 ∙ done .long
+  -- A node that is not the first, or not by way of which a hop goes, or not a position, by its place.
+  other : (v : Point) → Known j v → (v ≡ posIn j s 0 → ⊥) → idx j v ≡ p → ⊥
+  other v k h q = h (idx-one j k (w .known 0 (omega arith)) q)
 
-  past₂ : (q v : ℕ) → v < nodes j → (q ≡ 1 → ⊥) → at (nodes j) s₂ q v ≡ at (nodes j) s₁ q v
-  past₂ q v l h = at-other (nodes j) s₁ 1 p 0 q v small l (λ f _. h f)
-
-  past : (q v : ℕ) → v < nodes j → (q ≡ 1 → ⊥) → (q ≡ 0 → v ≡ p → ⊥) → at (nodes j) s₂ q v ≡ at (nodes j) s′ q v
-  past q v l h g = past₂ q v l h ∙ at-other (nodes j) s′ 0 p 1 q v small l g
-
-  via-known : (m : ℕ) → m < e → Known j (viaAt j s m)
-  via-known m l = known-via j s ok e way known m l
-
-  not-via : (v : Point) → Known j v → ((m : ℕ) → m < e → v ≡ viaAt j s m → ⊥) → (m : ℕ) → 0 ≤ m → m < e → idx j v ≡ idx j (viaAt j s m) → ⊥
-  not-via v k h m z l q = h m l (idx-one j k (via-known m l) q)
+  not-via : (v : Point) → Known j v → ((m : ℕ) → m < e → v ≡ viaIn j s m → ⊥) → (m : ℕ) → 0 ≤ m → m < e → idx j v ≡ idx j (viaIn j s m) → ⊥
+  not-via v k h m z l q = h m l (idx-one j k (known-via w m l) q)
 
   final : Final j s s₂ e
   final = record {
-    start = past₂ 0 p small (λ f. omega arith) ∙ at-same (nodes j) s′ 0 p 1 (omega (arith, done .long, small));
-    by = λ m l. past 0 (idx j (viaAt j s m)) (idx-below j (via-known m l)) (λ f. omega arith) (λ _ q. via-late j s ok e way m l (idx-one j (via-known m l) (known 0 (omega arith)) q))
-        ∙ done .used .new m (omega arith) l;
-    kept = λ v k h g. past 0 (idx j v) (idx-below j k) (λ f. omega arith) (λ _ q. h (idx-one j k (known 0 (omega arith)) q)) ∙ done .used .old (idx j v) (idx-below j k) (not-via v k g);
-    next = λ m l. past 2 (idx j (viaAt j s m)) (idx-below j (via-known m l)) (λ f. omega arith) (λ f _. omega arith) ∙ done .next .new m (omega arith) l;
-    next-kept = λ v k g. past 2 (idx j v) (idx-below j k) (λ f. omega arith) (λ f _. omega arith) ∙ done .next .old (idx j v) (idx-below j k) (not-via v k g);
-    prev = λ m l. past 3 (idx j (posAt j s m)) (idx-below j (known m (omega arith))) (λ f. omega arith) (λ f _. omega arith) ∙ done .prev .new m (omega arith) l;
-    prev-kept = λ v k g. past 3 (idx j v) (idx-below j k) (λ f. omega arith) (λ f _. omega arith)
-        ∙ done .prev .old (idx j v) (idx-below j k) (λ m z l q. g m l (idx-one j k (known m (omega arith)) q));
+    start = opened .used .here;
+    by = λ m l. let k = known-via w m l in opened .used .else (idx j (viaIn j s m)) (idx-below j k) (other (viaIn j s m) k (via-late w m l)) ∙ done .used .new m (omega arith) l;
+    kept = λ v k h g. opened .used .else (idx j v) (idx-below j k) (other v k h) ∙ done .used .old (idx j v) (idx-below j k) (not-via v k g);
+    next = λ m l. opened .next (idx j (viaIn j s m)) (idx-below j (known-via w m l)) ∙ done .next .new m (omega arith) l;
+    next-kept = λ v k g. opened .next (idx j v) (idx-below j k) ∙ done .next .old (idx j v) (idx-below j k) (not-via v k g);
+    prev = λ m l. opened .prev (idx j (posIn j s m)) (idx-below j (w .known m (omega arith))) ∙ done .prev .new m (omega arith) l;
+    prev-kept = λ v k g. opened .prev (idx j v) (idx-below j k) ∙ done .prev .old (idx j v) (idx-below j k) (λ m z l q. g m l (idx-one j k (w .known m (omega arith)) q));
   }
 
-  mark : (v : ℕ) → v < nodes j → (at (nodes j) s₂ 1 v ≡ at (nodes j) s 1 v) ⊎ (at (nodes j) s₂ 1 v ≡ 0)
-  mark v l = go (dec-eq v p)
-    where
-      go : Dec (v ≡ p) → (at (nodes j) s₂ 1 v ≡ at (nodes j) s 1 v) ⊎ (at (nodes j) s₂ 1 v ≡ 0)
-      go (yes q) = inr (rw q (at-same (nodes j) s₁ 1 p 0 (omega (arith, long₁, small))))
-      go (no h) =
-          let f : at (nodes j) s₂ 1 v ≡ at (nodes j) s′ 1 v = at-other (nodes j) s₁ 1 p 0 1 v small l (λ _ q. h q) ∙ at-other (nodes j) s′ 0 p 1 1 v small l (λ q _. omega arith) in
-          ⊎-elim (λ q. inl (f ∙ q)) (λ q. inr (f ∙ q)) (done .marks v l)
-
-  pub all-laid : Augmented j s s₂ (posAt j s 0)
+  pub all-laid : Augmented j s s₂ (posIn j s 0)
   all-laid = record {
-    long = length-set s₁ (1 * nodes j + p) 0 ∙ long₁;
-    flow = flow-laid j s s₂ e known ok way final;
-    serves = serves-laid j s s₂ e known ok way final;
-    marks = mark;
+    long = opened .long ∙ done .long;
+    flow = flow-laid j w s₂ final;
+    serves = serves-laid j w s₂ final;
+    marks = marks-more (gridOf j) s s′ s₂ p (done .marks) (opened .mark);
   }

@@ -1,60 +1,63 @@
--- What laying one hop computes, in the code's numbers: the node that the hop goes by, its place and its use, and the store with the four bytes written. Assumes nothing.
-use Prim.Native.Nat.{ℕ, suc, _+_, _-_, _*_, _<_, _≤_}
-use mathlib.Core.Path.{_≡_, _∙_}
+-- What laying one hop computes: the nodes read off the stack, which have their places, and the store with the four bytes written. Assumes nothing.
+use Prim.Native.Nat.{ℕ, suc, _+_, _-_, _<_, _≤_}
+use mathlib.Core.Path.{_≡_, refl, _∙_}
 use mathlib.Core.List.{List}
-use mathlib.Core.Bool.{true, false}
+use mathlib.Core.Bool.{Bool, true, false}
+use lib.Dec.{ltb}
+use lib.ListN.{length-set}
 use native.Mathlib.Numerals.{add-one}
 use native.Mathlib.Omega.{arith}
-use borrow.Author.Tests.{lt-ltb, le-ltb}
-use lib.Dec.{ltb}
-use lib.ListN.{set}
-use Rattle.network.specs.Store.{at}
-use Rattle.route.specs.Lay.{placeOf, viaOf, useOf, laid, Layable}
+use Rattle.model.specs.Choke.{Point, point}
+use Rattle.network.specs.Store.{placeAt, cellAt, stepAt, viaAt, withUsed, withMark, withNext, withPrev, Roomy}
+use Rattle.network.specs.declared.planes.Grid.{Grid}
+use Rattle.network.proofs.Points.{point-cell, point-eq}
+use Rattle.route.specs.Stack.{posAt, byWay, viaOf}
+use Rattle.route.specs.Lay.{useOf, joined, laid, Layable}
 
--- The four bytes read off the stack: cell and step of the position that the hop leaves, and of the next.
-pub record Read (n k : ℕ) (s : List ℕ) (i c t d r : ℕ) : Type 0 where
-  pub may : Layable n k s i
-  pub cell : c ≡ at k s 4 i
-  pub step : t ≡ at k s 5 i
-  pub next-cell : d ≡ at k s 4 (i + 1)
-  pub next-step : r ≡ at k s 5 (i + 1)
-  pub byte : c < 256
+-- The hop goes from u by way of v to w.
+pub record Read (g : Grid) (s : List ℕ) (i : ℕ) (u v w : Point) : Type 0 where
+  pub may : Layable g s i
+  pub from : u ≡ posAt g s i
+  pub by : v ≡ viaOf g s i
+  pub to : w ≡ posAt g s (suc i)
 
--- What is written for the node that the hop goes by: its cell x, its place u, and whether it is used.
-pub record Picked (n k : ℕ) (s : List ℕ) (i x u b : ℕ) : Type 0 where
-  pub cell : x ≡ viaOf k s i .cell
-  pub place : u ≡ placeOf n (viaOf k s i)
-  pub flag : b ≡ useOf k s i
-  pub below : u < k
-  pub byte : x < 256
-  pub bit : b < 256
+pub read : {g : Grid} {s : List ℕ} {i : ℕ} {u v w : Point} (x : ℕ) → Layable g s i → u .cell ≡ cellAt g s i → u .step ≡ stepAt g s i → w .cell ≡ cellAt g s (i + 1) → w .step ≡ stepAt g s (i + 1)
+    → x ≡ viaAt g s (i + 1) → v ≡ byWay u (w .step) x → Read g s i u v w
+read {g} {s} {i} {u} {v} {w} x m c t c′ t′ e b =
+    let from : u ≡ posAt g s i = point-eq c t in
+    let step : w .step ≡ stepAt g s (suc i) = rw (add-one i) at t′ in
+    let cell : w .cell ≡ cellAt g s (suc i) = rw (add-one i) at c′ in
+    let via : x ≡ viaAt g s (suc i) = rw (add-one i) at e in
+    record { may = m; from = from; by = b ∙ (λ k. byWay (from k) (step k) (via k)); to = point-eq cell step }
 
-module _ {n k : ℕ} {s : List ℕ} {i c t d r : ℕ} (f : Read n k s i c t d r) where
-  there : (d ≡ at k s 4 (suc i)) × (r ≡ at k s 5 (suc i))
-  there = (rw (add-one i) at (f .next-cell), rw (add-one i) at (f .next-step))
+pub early : {g : Grid} {s : List ℕ} {i t r : ℕ} → Layable g s i → t ≡ stepAt g s i → r ≡ stepAt g s (i + 1) → r ≤ t → 0 < t
+early {g} {s} {i} {t} {r} m e f l = let f′ : r ≡ stepAt g s (suc i) = rw (add-one i) at f in omega (arith, m .early (omega arith))
 
-  pub falls : {x u b : ℕ} → t < r → x ≡ c → u ≡ t * n + c → b ≡ 0 → Picked n k s i x u b
-  falls {x} {u} {b} h ex eu eb =
-      let q : ltb (at k s 5 i) (at k s 5 (suc i)) ≡ true = lt-ltb (at k s 5 i) (at k s 5 (suc i)) (omega (arith, there .1, f .step)) in
-      let place : u ≡ placeOf n (viaOf k s i) = rw q (eu ∙ rw (f .step, f .cell)) in
-      record { cell = rw q (ex ∙ f .cell); place = place; flag = rw q eb; below = omega (arith, place, f .may .by); byte = omega (arith, f .byte); bit = omega arith }
+-- A node read off the stack has its place.
+pub placed : (g : Grid) (s : List ℕ) (i : ℕ) {u : Point} → placeAt g (posAt g s i) < g .nodes → u .cell ≡ cellAt g s i → u .step ≡ stepAt g s i → placeAt g u < g .nodes
+placed g s i {u} h e f = let q : u ≡ posAt g s i = point-eq e f in rw q h
 
-  pub goes : {x u b y : ℕ} → y ≡ at k s 6 (i + 1) → y < 256 → r ≤ t → x ≡ y → u ≡ (t - 1) * n + y → b ≡ 1 → Picked n k s i x u b
-  goes {x} {u} {b} {y} ey l h ex eu eb =
-      let q : ltb (at k s 5 i) (at k s 5 (suc i)) ≡ false = le-ltb (at k s 5 i) (at k s 5 (suc i)) (omega (arith, there .1, f .step)) in
-      let ey′ : y ≡ at k s 6 (suc i) = rw (add-one i) at ey in
-      let place : u ≡ placeOf n (viaOf k s i) = rw q (eu ∙ rw (f .step, ey′)) in
-      record { cell = rw q (ex ∙ ey′); place = place; flag = rw q eb; below = omega (arith, place, f .may .by); byte = omega arith; bit = omega arith }
+pub via-byte : {v : Point} (u : Point) (t c : ℕ) → v ≡ byWay u t c → u .cell < 256 → c < 256 → v .cell < 256
+via-byte {v} u t c e h l = go (ltb (u .step) t) refl
+  where
+    go : (b : Bool) → ltb (u .step) t ≡ b → v .cell < 256
+    go true q = let f : v ≡ u = rw q at e in omega (arith, point-cell f)
+    go false q = let f : v ≡ point c (u .step - 1) = rw q at e in omega (arith, point-cell f)
 
-  pub early : r ≤ t → 1 ≤ t
-  early l = let z = f .may .early (omega (arith, there .1, f .step)) in omega (arith, f .step)
+module _ {g : Grid} {s : List ℕ} {i : ℕ} {u v w : Point} (r : Read g s i u v w) where
+  pub here : placeAt g u < g .nodes
+  here = rw (r .from) (r .may .here)
 
-  pub here : t * n + c < k
-  here = rw (f .step, f .cell) (f .may .here)
+  pub between : placeAt g v < g .nodes
+  between = rw (r .by) (r .may .by)
 
-  pub next : r * n + d < k
-  next = rw (there .0, there .1) (f .may .there)
+  pub there : placeAt g w < g .nodes
+  there = rw (r .to) (r .may .there)
 
-  pub all-set : {x u b : ℕ} → Picked n k s i x u b → (s₁ s₂ s₃ s₄ : List ℕ) → s₁ ≡ set s (2 * k + u) c → s₂ ≡ set s₁ (3 * k + (t * n + c)) x
-      → s₃ ≡ set s₂ (0 * k + u) b → s₄ ≡ set s₃ (1 * k + (r * n + d)) 0 → s₄ ≡ laid n k s i
-  all-set p s₁ s₂ s₃ s₄ e₁ e₂ e₃ e₄ = rw (e₄, e₃, e₂, e₁, there .0, there .1, p .place, p .cell, p .flag, f .step, f .cell)
+  pub room-kept : {s₁ s₂ s₃ : List ℕ} (a b x y z : ℕ) → s₁ ≡ withNext g s a x → s₂ ≡ withPrev g s₁ b y → s₃ ≡ withUsed g s₂ a z → Roomy g s₃
+  room-kept a b x y z e₁ e₂ e₃ = rw (e₃, e₂, e₁) (simp length-set (r .may .room))
+
+  pub all-set : {s₁ s₂ s₃ s₄ : List ℕ} {a b c d : ℕ} → a ≡ placeAt g v → s₁ ≡ withNext g s a (u .cell) → b ≡ placeAt g u → s₂ ≡ withPrev g s₁ b (v .cell)
+      → d ≡ useOf (u .step) (w .step) → s₃ ≡ withUsed g s₂ a d → c ≡ placeAt g w → s₄ ≡ withMark g s₃ c 0 → s₄ ≡ laid g s i
+  all-set ea e₁ eb e₂ ed e₃ ec e₄ =
+      rw (e₄, e₃, e₂, e₁, ea, eb, ec, ed) (λ k. joined g s (r .from k) (r .by k) (r .to k) (useOf (r .from k .step) (r .to k .step)))

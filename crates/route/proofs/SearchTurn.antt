@@ -1,131 +1,199 @@
 -- One turn of the search's loop: what it needs, and that it keeps `Running`. The position on top of the stack is known; where it is no goal and nothing is found
 -- from it, it is done and falls off; else what is found is one hop away and not marked, and goes on top. Assumes nothing.
-use Rattle.network.proofs.StoreBytes.{idx-below}
-use Prim.Native.Nat.{ℕ, suc, _+_, _-_, _*_, _<_, _≤_}
-use mathlib.Core.Path.{_≡_, sym, _∙_, subst}
+use Prim.Native.Nat.{ℕ, suc, _+_, _-_, _<_}
+use mathlib.Core.Path.{_≡_, sym, _∙_, ap, subst}
 use mathlib.Core.List.{List}
 use mathlib.Core.Logic.{⊎-elim}
-use native.Mathlib.Omega.{arith}
 use mathlib.Core.Bool.{true, false, not}
+use native.Mathlib.Omega.{arith}
 use lib.Dec.{eqb}
-use lib.ListN.{length, getD}
+use lib.ListN.{getD}
 use borrow.Author.Tests.{eqb-true, eqb-false, not-true, not-false}
-use Rattle.model.specs.Limits.{maxCells, maxSteps}
 use Rattle.model.specs.Job.{Job}
-use Rattle.model.specs.Choke.{Point, point, Known}
+use Rattle.model.specs.Choke.{Point, Known}
 use Rattle.model.proofs.Agree.{within}
 use Rattle.model.proofs.Lists.{in-getD}
-use Rattle.route.specs.declared.search.Found.{Found}
+use Rattle.floor.specs.Tables.{rowOf}
+use Rattle.flow.specs.Flow.{Link}
 use Rattle.network.specs.Graph.{graph}
-use Rattle.network.specs.Store.{nodes, at}
-use Rattle.network.specs.Links.{backLink, onLink, posAt}
-use Rattle.route.specs.Search.{Searching}
-use Rattle.route.specs.Finds.{Held, From, Stamped, Answers, Pushed}
+use Rattle.network.specs.Store.{nodes, gridOf, idx, pointOf, placeAt, cellAt, stepAt, markAt, Roomy, Within}
+use Rattle.network.specs.Holds.{SameFlow}
+use Rattle.network.specs.declared.planes.Grid.{Grid}
+use Rattle.network.specs.declared.planes.Node.{Node}
 use Rattle.network.proofs.Points.{point-eq}
-use Rattle.network.proofs.NodeBytes.{row-in}
-use Rattle.route.proofs.SearchHops.{held, HopTo, hopVia, found-hop, hop-found}
-use Rattle.route.proofs.SearchFinds.{place}
-use Rattle.route.proofs.SearchStack.{Done}
-use Rattle.route.proofs.SearchCount.{unmarked-some}
-use Rattle.route.proofs.SearchRuns.{Running, Marked, left, run-pop, run-push, run-falls}
+use Rattle.network.proofs.StoreBytes.{idx-below}
+use Rattle.network.proofs.PlaneLaws.{pushes}
+use Rattle.network.proofs.HoldsLaws.{back-same, holds-same, place-below}
+use Rattle.route.specs.declared.search.Found.{Found}
+use Rattle.route.specs.Stack.{byWay}
+use Rattle.route.specs.Lay.{pushed}
+use Rattle.route.specs.Search.{Searching, Searched}
+use Rattle.route.specs.Finds.{Stands, Cells, From, Stamped, Finds}
+use Rattle.route.proofs.Stack.{posIn}
+use Rattle.route.proofs.SearchHops.{HopTo, found-hop, hop-found}
+use Rattle.route.proofs.SearchCount.{unmarked, unmarked-some}
+use Rattle.route.proofs.SearchRuns.{Running, Marked, DoneIn, PushedIn, run-start, run-pop, run-push, run-falls, searched-none, searched-some}
 
--- The position on top of a stack of depth d.
-pub record Top (k : ℕ) (s : List ℕ) (d c t : ℕ) : Type 0 where
-  pub cell : c ≡ at k s 4 (d - 1)
-  pub step : t ≡ at k s 5 (d - 1)
+-- The search is under way, and y is on top of the stack.
+pub record Going (j : Job) (s₁ s : List ℕ) (stamp : ℕ) (x : Point) (d : ℕ) (y : Point) : Type 0 where
+  pub run : Running j s₁ s stamp x d
+  pub top : 0 < d → y ≡ posIn j s (d - 1)
 
--- What was pushed is on top.
-pub top-pushed : {k : ℕ} {s s′ : List ℕ} {v d c t via stamp : ℕ} → Pushed k s s′ v d c t via stamp → Top k s′ (d + 1) c t
-top-pushed {k} {s} {s′} {v} {d} p =
-    let e : d + 1 - 1 ≡ d = omega arith in
-    record { cell = rw e (sym (p .cell)); step = rw e (sym (p .step)) }
-
--- What the code reads back is on top.
-pub top-read : (k : ℕ) (s : List ℕ) (d c t : ℕ) → 0 < d → c ≡ getD s (4 * k + d - 1) 0 → t ≡ getD s (5 * k + d - 1) 0 → Top k s d c t
-top-read k s d c t h e f = record {
-  cell = e ∙ place k s (4 * k + d - 1) 4 (d - 1) (omega arith);
-  step = f ∙ place k s (5 * k + d - 1) 5 (d - 1) (omega arith);
+-- A search may start from a store with the same flow too.
+pub may-search : {j : Job} {near begin due cart-on hint s t : List ℕ} {g : Grid} {x : Point} → SameFlow (gridOf j) s t
+    → Searching j near begin due cart-on hint s g x → Searching j near begin due cart-on hint t g x
+may-search {j} {x = x} same h = record {
+  tables = h .tables;
+  holds = holds-same (h .holds) same;
+  hints = h .hints;
+  known = h .known;
+  lift = h .lift;
+  idle = ap (λ (l : Point → Link Point). l x) (back-same j same) ∙ h .idle;
 }
 
--- What is at hand in a turn at the position (c, t).
-pub record Turn (j : Job) (near start degree due cart-on hint : List ℕ) (n k : ℕ) (s₁ s : List ℕ) (a b stamp d c t : ℕ) : Type 0 where
-  pub for : Searching j near start degree due cart-on hint s₁ n k a b stamp
-  pub room : 8 * k ≤ length s
-  pub run : Running j s₁ s stamp (point a b) d
+push-in : (j : Job) {g : Grid} {s t : List ℕ} {d : ℕ} {x : Point} {via stamp : ℕ} → g ≡ gridOf j → Roomy g s → Known j x → d < nodes j → t ≡ pushed g s d x via stamp
+    → PushedIn j s t d x via stamp
+push-in j {g} {s} {t} {d} {x} {via} {stamp} q r k l e =
+    let e′ : t ≡ pushed (gridOf j) s d x via stamp = rw q at e in
+    rw e′ (pushes (gridOf j) s (rw q at r) (idx j x) stamp d (x .cell) (x .step) via (idx-below j k) l)
+
+top-pushed : (j : Job) (s t : List ℕ) (d : ℕ) (x : Point) (via stamp : ℕ) → PushedIn j s t d x via stamp → x ≡ posIn j t (d + 1 - 1)
+top-pushed j s t d x via stamp p = let e : d + 1 - 1 ≡ d = omega arith in rw e (point-eq (sym (p .cell .here)) (sym (p .step .here)))
+
+-- The first push may be made.
+pub first-needs : {j : Job} {near begin due cart-on hint s : List ℕ} {g : Grid} {x : Point} → Searching j near begin due cart-on hint s g x
+    → Within g s 0 × (placeAt g x < g .nodes) × (x .cell < 256) × (x .step < 256) × (0 < 256)
+first-needs {j} h =
+    let f = h .holds .ready .fit in
+    let p = place-below (h .holds) (h .known) in
+    ((h .holds .room, omega arith), p, omega (arith, h .known .0, f .few-cells), omega (arith, h .known .1, within j f .few-steps), omega arith)
+
+-- From the first push on.
+module _ {j : Job} {near begin due cart-on hint s s₁ : List ℕ} {g : Grid} {x : Point} (stamp : ℕ) (e : s₁ ≡ pushed g s 0 x 0 stamp)
+    (h : Searching j near begin due cart-on hint s g x) where
+  first : PushedIn j s s₁ 0 x 0 stamp
+  first = push-in j (h .holds .grid) (h .holds .room) (h .known) (omega (arith, idx-below j (h .known))) e
+
+  pub begun : Searching j near begin due cart-on hint s₁ g x
+  begun = may-search (first .same) h
+
+  module _ {t : List ℕ} {d : ℕ} (r : Running j s₁ t stamp x d) where
+    pub ends-none : d ≡ 0 → Searched j s t stamp x 0
+    ends-none = searched-none (h .lift) (h .idle) first r
+
+    pub ends-some : (m : ℕ) → d ≡ suc m → (graph j) .Goal (posIn j t m) → Searched j s t stamp x d
+    ends-some = searched-some (h .lift) (h .idle) first r
+
+pub under-way : {j : Job} {near begin due cart-on hint : List ℕ} (s : List ℕ) {s₁ : List ℕ} {g : Grid} {x : Point} (stamp : ℕ) → s₁ ≡ pushed g s 0 x 0 stamp → Roomy g s
+    → Searching j near begin due cart-on hint s₁ g x → Going j s₁ s₁ stamp x 1 x
+under-way {j} s {s₁} {x = x} stamp e r h =
+    let p : PushedIn j s s₁ 0 x 0 stamp = push-in j (h .holds .grid) r (h .known) (omega (arith, idx-below j (h .known))) e in
+    record { run = run-start (rw (h .holds .grid) at (h .holds)) (h .known) p; top = λ z. top-pushed j s s₁ 0 x 0 stamp p }
+
+-- What is at hand in a turn at the position y.
+pub record Turn (j : Job) (near begin due cart-on hint : List ℕ) (g : Grid) (s₁ s : List ℕ) (x : Point) (stamp d : ℕ) (y : Point) : Type 0 where
+  pub for : Searching j near begin due cart-on hint s₁ g x
+  pub going : Going j s₁ s stamp x d y
   pub some : 0 < d
-  pub top : Top k s d c t
 
-module _ {j : Job} {near start degree due cart-on hint : List ℕ} {n k : ℕ} {s₁ s : List ℕ} {a b stamp d c t : ℕ}
-    (w : Turn j near start degree due cart-on hint n k s₁ s a b stamp d c t) where
-  top : posAt j s (d - 1) ≡ point c t
-  top = rw (w .for .size) at (point-eq (sym (w .top .cell)) (sym (w .top .step)))
+module _ {j : Job} {near begin due cart-on hint : List ℕ} {g : Grid} {s₁ s : List ℕ} {x : Point} {stamp d : ℕ} {y : Point}
+    (w : Turn j near begin due cart-on hint g s₁ s x stamp d y) where
+  top : posIn j s (d - 1) ≡ y
+  top = sym (w .going .top (w .some))
 
-  pub top-known : Known j (point c t)
-  top-known = subst (λ (z : Point). Known j z) top (w .run .dfs .marked (d - 1) (omega (arith, w .some)) .0)
+  at-top : (P : Point → Type 0) → P y → P (posIn j s (d - 1))
+  at-top P = subst P (sym top)
 
-  pub top-held : Held n k s due × (c < n) × (t * n + n ≤ k)
-  top-held = rw (w .for .cells, w .for .size) (held j s (w .run .flow) (w .for .ready) (w .for .dues) (rw (w .for .size) at (w .room)), top-known .0, row-in j t (top-known .1))
+  marked : Marked j s stamp y
+  marked = subst (λ (z : Point). Marked j s stamp z) top (w .going .run .dfs .marked (d - 1) (omega (arith, w .some)))
 
-  pub is-goal : t ≡ 0 → not (eqb (getD cart-on c 0) 0) ≡ true → (graph j) .Goal (posAt j s (d - 1))
+  pub stands : Stands j g s due y
+  stands = (rw (w .for .holds .grid) (w .going .run .holds), w .for .tables .dues, marked .0)
+
+  in-row : Cells (j .cells) (rowOf near begin (y .cell))
+  in-row c i = w .for .tables .sides .rows .known (y .cell) c (marked .0 .0) i
+
+  pub cells : (row : List ℕ) → row ≡ rowOf near begin (y .cell) → Cells (j .cells) row
+  cells row e = rw e in-row
+
+  pub deep-enough : {i : ℕ} → i < d → i < g .nodes
+  deep-enough l = rw (w .for .holds .grid) (omega (arith, w .going .run .room))
+
+  -- What the code reads off the stack is on top.
+  pub top-at : {v : Node} → v .cell ≡ cellAt g s (d - 1 - 1) → v .step ≡ stepAt g s (d - 1 - 1) → pointOf v ≡ posIn j s (d - 1 - 1)
+  top-at {v} e f =
+      let e′ : v .cell ≡ cellAt (gridOf j) s (d - 1 - 1) = rw (w .for .holds .grid) at e in
+      let f′ : v .step ≡ stepAt (gridOf j) s (d - 1 - 1) = rw (w .for .holds .grid) at f in
+      point-eq e′ f′
+
+  pub is-goal : y .step ≡ 0 → not (eqb (getD cart-on (y .cell) 0) 0) ≡ true → (graph j) .Goal (posIn j s (d - 1))
   is-goal e ne =
-      let f = eqb-false (getD cart-on c 0) 0 (not-true (eqb (getD cart-on c 0) 0) ne) in
-      let r = w .for .carts .cart c (top-known .0) (omega arith) in
-      subst (λ (z : Point). (graph j) .Goal z) (sym top) (e, rw (r .1) at (in-getD (j .carts) (getD cart-on c 0 - 1) 0 (r .0)))
+      let f = eqb-false (getD cart-on (y .cell) 0) 0 (not-true (eqb (getD cart-on (y .cell) 0) 0) ne) in
+      let r = w .for .tables .carts .cart (y .cell) (marked .0 .0) (omega arith) in
+      at-top (λ z. (graph j) .Goal z) (e, rw (r .1) at (in-getD (j .carts) (getD cart-on (y .cell) 0 - 1) 0 (r .0)))
 
-  pub no-goal : (t ≡ 0 → not (eqb (getD cart-on c 0) 0) ≡ false) → (graph j) .Goal (posAt j s (d - 1)) → ⊥
+  pub no-goal : (y .step ≡ 0 → not (eqb (getD cart-on (y .cell) 0) 0) ≡ false) → (graph j) .Goal (posIn j s (d - 1)) → ⊥
   no-goal none g =
-      let h : (graph j) .Goal (point c t) = subst (λ (z : Point). (graph j) .Goal z) top g in
-      omega (arith, eqb-true (getD cart-on c 0) 0 (not-false (eqb (getD cart-on c 0) 0) (none (h .0))), w .for .carts .has-cart c (h .1))
+      let h : (graph j) .Goal y = subst (λ (z : Point). (graph j) .Goal z) top g in
+      omega (arith, eqb-true (getD cart-on (y .cell) 0) 0 (not-false (eqb (getD cart-on (y .cell) 0) 0) (none (h .0))), w .for .tables .carts .has-cart (y .cell) (h .1))
 
-  module _ (r : Found) (ans : Answers (From n k s near start degree due c t) (Stamped n k s stamp) r) (dull : (graph j) .Goal (posAt j s (d - 1)) → ⊥) where
-    ans′ : Answers (From (j .cells) (nodes j) s near start degree due c t) (Stamped (j .cells) (nodes j) s stamp) r
-    ans′ = rw (w .for .cells, w .for .size) at ans
+  module _ (row : List ℕ) (er : row ≡ rowOf near begin (y .cell)) (r : Found) (ans : Finds (From g s due row y) (Stamped g s stamp) r)
+      (dull : (graph j) .Goal (posIn j s (d - 1)) → ⊥) where
+    ans′ : Finds (From (gridOf j) s due (rowOf near begin (y .cell)) y) (Stamped (gridOf j) s stamp) r
+    ans′ = rw (w .for .holds .grid, er) at ans
 
-    run′ : Running j s₁ s stamp (point a b) (suc (d - 1))
-    run′ = let e : d ≡ suc (d - 1) = omega (arith, w .some) in subst (λ (z : ℕ). Running j s₁ s stamp (point a b) z) e (w .run)
+    run′ : Running j s₁ s stamp x (suc (d - 1))
+    run′ = let e : d ≡ suc (d - 1) = omega (arith, w .some) in rw e at (w .going .run)
 
-    pub turn-pop : r ≡ Found.Nothing → Running j s₁ s stamp (point a b) (d - 1)
-    turn-pop e = run-pop j stamp (point a b) s₁ s (d - 1) run′ dull (subst (λ (z : Point). Done (graph j) (backLink j s) (onLink j s) (Marked j s stamp) z) (sym top) done)
+    pub turn-pop : r ≡ Found.Nothing → Running j s₁ s stamp x (d - 1)
+    turn-pop e = run-pop run′ dull (at-top (λ z. DoneIn j s stamp z) done)
       where
-        none : Answers (From (j .cells) (nodes j) s near start degree due c t) (Stamped (j .cells) (nodes j) s stamp) Found.Nothing
+        none : Finds (From (gridOf j) s due (rowOf near begin (y .cell)) y) (Stamped (gridOf j) s stamp) Found.Nothing
         none = rw e at ans′
 
-        done : Done (graph j) (backLink j s) (onLink j s) (Marked j s stamp) (point c t)
-        done u y a b = ⊎-elim
-            (λ e′. subst (λ (z : Point). Marked j s stamp z) (top ∙ sym e′) (w .run .dfs .marked (d - 1) (omega (arith, w .some))))
-            (λ f. (f .0, none (y .cell) (y .step) (f .1 .0) (f .1 .1)))
-            (hop-found j s (w .run .flow) (w .for .rows) (w .for .dues) (point c t) top-known u y a b)
+        done : DoneIn j s stamp y
+        done u z a b =
+            ⊎-elim (λ q. subst (λ (z : Point). Marked j s stamp z) (sym q) marked) (λ q. (q .0, none z (q .1 .0) (q .1 .1)))
+            (hop-found (w .going .run .holds) (w .for .tables .sides) (w .for .tables .dues) y (marked .0) u z a b)
 
-    module _ (c′ u via : ℕ) (e : r ≡ Found.Push c′ u via) where
-      some : From (j .cells) (nodes j) s near start degree due c t c′ u via × (Stamped (j .cells) (nodes j) s stamp c′ u → ⊥)
+    module _ (v : Node) (via : ℕ) (e : r ≡ Found.Push v via) where
+      some : From (gridOf j) s due (rowOf near begin (y .cell)) y (pointOf v) via × (Stamped (gridOf j) s stamp (pointOf v) → ⊥)
       some = rw e at ans′
 
-      hop : HopTo j (backLink j s) (onLink j s) (posAt j s (d - 1)) (hopVia (posAt j s (d - 1)) u via) (point c′ u)
-      hop = subst (λ (z : Point). HopTo j (backLink j s) (onLink j s) z (hopVia z u via) (point c′ u)) (sym top) (found-hop j s (w .run .flow) (w .for .rows) (w .for .dues) (point c t) top-known c′ u via (some .0))
+      hop : HopTo j s (posIn j s (d - 1)) (byWay (posIn j s (d - 1)) (v .step) via) (pointOf v)
+      hop = at-top (λ z. HopTo j s z (byWay z (v .step) via) (pointOf v))
+          (found-hop (w .going .run .holds) (w .for .tables .sides) (w .for .tables .dues) y (marked .0) (pointOf v) via (some .0))
 
       via-small : via < j .cells
       via-small = ⊎-elim
-          (λ f. omega (arith, f .1 .2 .0, w .for .rows .only c (f .1 .0) 0 (top-known .0) (f .1 .1) .0))
-          (λ f. omega (arith, f .0, top-known .0)) (some .0)
+          (λ f. let i = in-row (f .1 .0) (f .1 .1) in ⊎-elim (λ q. omega (arith, q .0, i)) (λ q. omega (arith, q .0, i)) (f .1 .2))
+          (λ f. omega (arith, f .0, marked .0 .0)) (some .0)
 
-      pub push-needs : (u * n + c′ < k) × (d < k) × (c′ < maxCells) × (u < maxSteps) × (via < maxCells)
+      deep : d < nodes j
+      deep = omega (arith, w .going .run .room, unmarked-some stamp (markAt (gridOf j) s) (nodes j) (idx j (pointOf v)) (idx-below j (hop .known)) (some .1))
+
+      pub push-needs : Within g s d × (placeAt g (pointOf v) < g .nodes) × (v .cell < 256) × (v .step < 256) × (via < 256)
       push-needs =
-          let h = hop .known in
-          let i = idx-below j {x = point c′ u} h in
-          let l = unmarked-some stamp (λ y. at (nodes j) s 1 y) (nodes j) (u * j .cells + c′) i (some .1) in
-          let f = w .for .ready .fit .few-cells in
-          (rw (w .for .cells, w .for .size) i, omega (arith, w .run .room, l, w .for .size), omega (arith, h .0, f), omega (arith, h .1, within j (w .for .ready .fit) .few-steps), omega (arith, via-small, f))
+          let k = hop .known in
+          let f = w .for .holds .ready .fit in (
+            (stands .0 .room, rw (w .for .holds .grid) deep),
+            place-below (stands .0) k,
+            omega (arith, k .0, f .few-cells),
+            omega (arith, k .1, within j f .few-steps),
+            omega (arith, via-small, f .few-cells),
+          )
 
-      module _ (s′ : List ℕ) (p : Pushed k s s′ (u * n + c′) d c′ u via stamp) where
-        p′ : Pushed (nodes j) s s′ (u * j .cells + c′) (suc (d - 1)) c′ u via stamp
-        p′ =
-            let e : d ≡ suc (d - 1) = omega (arith, w .some) in
-            subst (λ (z : ℕ). Pushed (nodes j) s s′ (u * j .cells + c′) z c′ u via stamp) e (rw (w .for .cells, w .for .size) at p)
+      module _ (s′ : List ℕ) (q : s′ ≡ pushed g s d (pointOf v) via stamp) where
+        p : PushedIn j s s′ d (pointOf v) via stamp
+        p = push-in j (w .for .holds .grid) (stands .0 .room) (hop .known) deep q
 
-        pub turn-falls : left k s stamp ≡ suc (left k s′ stamp)
-        turn-falls = rw (w .for .size) (run-falls j stamp (point a b) s₁ s (d - 1) run′ dull s′ c′ u via hop (some .1) p′)
+        p′ : PushedIn j s s′ (suc (d - 1)) (pointOf v) via stamp
+        p′ = let f : d ≡ suc (d - 1) = omega (arith, w .some) in rw f at p
 
-        pub turn-push : Running j s₁ s′ stamp (point a b) (d + 1)
+        pub turn-falls : unmarked (markAt g s) stamp (g .nodes) ≡ suc (unmarked (markAt g s′) stamp (g .nodes))
+        turn-falls = rw (w .for .holds .grid) (run-falls run′ dull hop (some .1) p′)
+
+        pub turn-push : Going j s₁ s′ stamp x (d + 1) (pointOf v)
         turn-push =
-            let e : suc (suc (d - 1)) ≡ d + 1 = omega (arith, w .some) in
-            subst (λ (z : ℕ). Running j s₁ s′ stamp (point a b) z) e (run-push j stamp (point a b) s₁ s (d - 1) run′ dull s′ c′ u via hop (some .1) p′)
+            let f : d + 1 ≡ suc (suc (d - 1)) = omega (arith, w .some) in
+            record { run = rw f (run-push run′ dull hop (some .1) p′); top = λ z. top-pushed j s s′ d (pointOf v) via stamp p }

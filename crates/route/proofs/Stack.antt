@@ -3,22 +3,47 @@
 use Prim.Native.Nat.{ℕ, zero, suc, _-_, _<_, _≤_}
 use mathlib.Core.Path.{_≡_, refl, sym, _∙_, ap}
 use mathlib.Core.List.{List, [], _∷_, _++_, map}
-use mathlib.Core.Bool.{Bool, true, false, cond}
+use mathlib.Core.Bool.{Bool, true, false}
 use mathlib.Core.Logic.{_⊎_, inl, inr, ⊎-elim}
 use native.Mathlib.Omega.{arith}
-use borrow.Author.Tests.{ltb-false}
+use borrow.Author.Tests.{ltb-false, lt-ltb, le-ltb}
 use lib.Dec.{ltb}
 use Rattle.model.specs.Lists.{In, NoDup}
 use Rattle.model.specs.Job.{Job}
 use Rattle.model.specs.Choke.{Point, point, Known}
 use Rattle.model.proofs.Decide.{dec-lt}
-use Rattle.flow.specs.Flow.{arr, dep, Residual}
+use Rattle.flow.specs.Flow.{State, arr, dep, Residual}
 use Rattle.flow.specs.Way.{Hop, vias, ats, lastAt, Way}
 use Rattle.flow.proofs.Hops.{On, on-split, last-split, arcs, via-once}
 use Rattle.network.specs.Graph.{graph, Earlier}
-use Rattle.network.specs.Store.{nodes, at}
-use Rattle.network.specs.Links.{FlowIn, backLink, onLink, posAt, hopAt, hopsTo}
+use Rattle.network.specs.Store.{gridOf, nodes, Roomy}
+use Rattle.network.specs.Links.{FlowIn, backLink, onLink}
+use Rattle.route.specs.Stack.{posAt, byWay, viaOf, hopsTo}
 use Rattle.network.proofs.Points.{point-step}
+
+abbrev pub posIn : Job → List ℕ → ℕ → Point
+posIn j s i = posAt (gridOf j) s i
+
+abbrev pub viaIn : Job → List ℕ → ℕ → Point
+viaIn j s i = viaOf (gridOf j) s i
+
+abbrev pub hopIn : Job → List ℕ → ℕ → Hop Point
+hopIn j s i = record { via = viaIn j s i; at = posIn j s (suc i) }
+
+abbrev pub hopsIn : Job → List ℕ → ℕ → List (Hop Point)
+hopsIn j s m = hopsTo (gridOf j) s m
+
+abbrev pub ArcIn : Job → List ℕ → State Point → State Point → Type 0
+ArcIn j s a b = Residual (graph j) (backLink j s) (onLink j s) a b
+
+abbrev pub WayIn : Job → List ℕ → ℕ → Type 0
+WayIn j s m = Way (graph j) (backLink j s) (onLink j s) (posIn j s 0) (hopsIn j s m)
+
+pub by-late : (x : Point) (t c : ℕ) → x .step < t → byWay x t c ≡ x
+by-late x t c h = rw (lt-ltb (x .step) t h)
+
+pub by-early : (x : Point) (t c : ℕ) → t ≤ x .step → byWay x t c ≡ point c (x .step - 1)
+by-early x t c h = rw (le-ltb (x .step) t h)
 
 module _ {N : Type 0} where
   on-left : (s : N) (hs hs′ : List (Hop N)) (v w x : N) → On s hs v w x → On s (hs ++ hs′) v w x
@@ -50,112 +75,118 @@ module _ {N : Type 0} where
         ((λ i. nd .0 (in-front (f k) hs i), r .0), ⊎-elim (λ (e : f h ≡ f k). nd .0 (rw e at (in-last hs))) (r .1))
 
 module _ (j : Job) (s : List ℕ) where
-  abbrev pub viaAt : ℕ → Point
-  viaAt m = hopAt j s m .via
-
-  pub last-hops : (m : ℕ) → lastAt (posAt j s 0) (hopsTo j s m) ≡ posAt j s m
+  pub last-hops : (m : ℕ) → lastAt (posIn j s 0) (hopsIn j s m) ≡ posIn j s m
   last-hops zero = refl
-  last-hops (suc m) = last-split (posAt j s 0) (hopsTo j s m) (hopAt j s m) []
+  last-hops (suc m) = last-split (posIn j s 0) (hopsIn j s m) (hopIn j s m) []
 
   abbrev OnAt : ℕ → ℕ → Type 0
-  OnAt m i = On (posAt j s 0) (hopsTo j s m) (posAt j s i) (viaAt i) (posAt j s (suc i))
+  OnAt m i = On (posIn j s 0) (hopsIn j s m) (posIn j s i) (viaIn j s i) (posIn j s (suc i))
 
   on-here : (m : ℕ) → OnAt (suc m) m
-  on-here m = rw (last-hops m) at (on-split (posAt j s 0) (hopsTo j s m) (hopAt j s m) [])
+  on-here m = rw (last-hops m) at (on-split (posIn j s 0) (hopsIn j s m) (hopIn j s m) [])
 
   on-hop : (m i : ℕ) → i < m → OnAt m i
   on-hop zero i l = absurd (omega arith)
   on-hop (suc m) i l = go (dec-lt i m) (on-hop m i)
     where
       go : Dec (i < m) → (i < m → OnAt m i) → OnAt (suc m) i
-      go (yes k) r = on-left (posAt j s 0) (hopsTo j s m) (hopAt j s m ∷ []) (posAt j s i) (viaAt i) (posAt j s (suc i)) (r k)
+      go (yes k) r = on-left (posIn j s 0) (hopsIn j s m) (hopIn j s m ∷ []) (posIn j s i) (viaIn j s i) (posIn j s (suc i)) (r k)
       go (no k) r = let e : i ≡ m = omega arith in rw e (on-here m)
 
-  pub hop-on : (m : ℕ) (v w y : Point) → On (posAt j s 0) (hopsTo j s m) v w y
-      → (i : ℕ) × (i < m) × (v ≡ posAt j s i) × (w ≡ viaAt i) × (y ≡ posAt j s (suc i))
+  pub hop-on : (m : ℕ) (v w y : Point) → On (posIn j s 0) (hopsIn j s m) v w y
+      → (i : ℕ) × (i < m) × (v ≡ posIn j s i) × (w ≡ viaIn j s i) × (y ≡ posIn j s (suc i))
   hop-on zero v w y o = absurd o
   hop-on (suc m) v w y o =
       ⊎-elim
       (λ a. let r = hop-on m v w y a in (r .0, (let l = r .1 in omega arith), r .2, r .3, r .4))
-      (λ (e : (v ≡ lastAt (posAt j s 0) (hopsTo j s m)) × (w ≡ viaAt m) × (y ≡ posAt j s (suc m))). (m, omega arith, e .0 ∙ last-hops m, e .1, e .2))
-      (on-either (posAt j s 0) (hopsTo j s m) (hopAt j s m) v w y o)
+      (λ (e : (v ≡ lastAt (posIn j s 0) (hopsIn j s m)) × (w ≡ viaIn j s m) × (y ≡ posIn j s (suc m))). (m, omega arith, e .0 ∙ last-hops m, e .1, e .2))
+      (on-either (posIn j s 0) (hopsIn j s m) (hopIn j s m) v w y o)
 
   module _ (f : Hop Point → Point) where
-    in-hops : (m i : ℕ) → i < m → In (f (hopAt j s i)) (map f (hopsTo j s m))
+    in-hops : (m i : ℕ) → i < m → In (f (hopIn j s i)) (map f (hopsIn j s m))
     in-hops zero i l = absurd (omega arith)
     in-hops (suc m) i l = go (dec-lt i m) (in-hops m i)
       where
-        go : Dec (i < m) → (i < m → In (f (hopAt j s i)) (map f (hopsTo j s m))) → In (f (hopAt j s i)) (map f (hopsTo j s (suc m)))
-        go (yes k) r = in-front f (hopAt j s m) (f (hopAt j s i)) (hopsTo j s m) (r k)
-        go (no k) r = let e : i ≡ m = omega arith in rw e (in-last f (hopAt j s m) (hopsTo j s m))
+        go : Dec (i < m) → (i < m → In (f (hopIn j s i)) (map f (hopsIn j s m))) → In (f (hopIn j s i)) (map f (hopsIn j s (suc m)))
+        go (yes k) r = in-front f (hopIn j s m) (f (hopIn j s i)) (hopsIn j s m) (r k)
+        go (no k) r = let e : i ≡ m = omega arith in rw e (in-last f (hopIn j s m) (hopsIn j s m))
 
-    apart : (m : ℕ) → NoDup (map f (hopsTo j s m)) → (i l : ℕ) → i < l → l < m → f (hopAt j s i) ≡ f (hopAt j s l) → ⊥
+    apart : (m : ℕ) → NoDup (map f (hopsIn j s m)) → (i l : ℕ) → i < l → l < m → f (hopIn j s i) ≡ f (hopIn j s l) → ⊥
     apart zero nd i l h k e = omega arith
-    apart (suc m) nd i l h k e = go (dec-lt l m) (once-front f (hopAt j s m) (hopsTo j s m) nd) (λ (o : NoDup (map f (hopsTo j s m))). apart m o i l h)
+    apart (suc m) nd i l h k e = go (dec-lt l m) (once-front f (hopIn j s m) (hopsIn j s m) nd) (λ (o : NoDup (map f (hopsIn j s m))). apart m o i l h)
       where
-        go : Dec (l < m) → NoDup (map f (hopsTo j s m)) × (In (f (hopAt j s m)) (map f (hopsTo j s m)) → ⊥)
-            → (NoDup (map f (hopsTo j s m)) → l < m → f (hopAt j s i) ≡ f (hopAt j s l) → ⊥) → ⊥
+        go : Dec (l < m) → NoDup (map f (hopsIn j s m)) × (In (f (hopIn j s m)) (map f (hopsIn j s m)) → ⊥)
+            → (NoDup (map f (hopsIn j s m)) → l < m → f (hopIn j s i) ≡ f (hopIn j s l) → ⊥) → ⊥
         go (yes k′) o r = r (o .0) k′ e
         go (no k′) o r = let q : l ≡ m = omega arith in o .1 (rw q at (rw e at (in-hops m i (omega arith))))
 
   -- What a hop is: the node that it leaves falls out of the flow, or an edge leads on from there.
   pub data Form (m : ℕ) : Type 0 where
-    frees : ltb (posAt j s m .step) (posAt j s (suc m) .step) ≡ true → viaAt m ≡ posAt j s m → Form m
-    leads : ltb (posAt j s m .step) (posAt j s (suc m) .step) ≡ false → Earlier j (posAt j s m) (viaAt m) → Form m
+    frees : ltb (posIn j s m .step) (posIn j s (suc m) .step) ≡ true → viaIn j s m ≡ posIn j s m → Form m
+    leads : ltb (posIn j s m .step) (posIn j s (suc m) .step) ≡ false → Earlier j (posIn j s m) (viaIn j s m) → Form m
 
-  module _ (ok : FlowIn j s) (e : ℕ) (way : Way (graph j) (backLink j s) (onLink j s) (posAt j s 0) (hopsTo j s e)) where
-    pub vias-apart : (i l : ℕ) → i < l → l < e → viaAt i ≡ viaAt l → ⊥
-    vias-apart = apart (λ h. h .via) e (via-once ok way .1)
+-- A way of e hops from known nodes through the flow that the store holds.
+pub record Stacked (j : Job) (s : List ℕ) (e : ℕ) : Type 0 where
+  pub room : Roomy (gridOf j) s
+  pub small : suc e ≤ nodes j
+  pub known : (i : ℕ) → i ≤ e → Known j (posIn j s i)
+  pub ok : FlowIn j s
+  pub way : WayIn j s e
 
-    pub via-late : (i : ℕ) → i < e → viaAt i ≡ posAt j s 0 → ⊥
-    via-late i l q = via-once ok way .0 (rw q at (in-hops (λ h. h .via) e i l))
+module _ {j : Job} {s : List ℕ} {e : ℕ} (w : Stacked j s e) where
+  pub vias-apart : (i l : ℕ) → i < l → l < e → viaIn j s i ≡ viaIn j s l → ⊥
+  vias-apart = apart j s (λ h. h .via) e (via-once (w .ok) (w .way) .1)
 
-    pub via-in : (i : ℕ) → i < e → In (viaAt i) (vias (hopsTo j s e))
-    via-in i l = in-hops (λ h. h .via) e i l
+  pub via-late : (i : ℕ) → i < e → viaIn j s i ≡ posIn j s 0 → ⊥
+  via-late i l q = via-once (w .ok) (w .way) .0 (rw q at (in-hops j s (λ h. h .via) e i l))
 
-    pub places-apart : (i l : ℕ) → i < l → l ≤ e → posAt j s i ≡ posAt j s l → ⊥
-    places-apart zero zero h k q = omega arith
-    places-apart zero (suc l) h k q = way .once .0 (rw (sym q) at (in-hops (λ h. h .at) e l (omega arith)))
-    places-apart (suc i) zero h k q = omega arith
-    places-apart (suc i) (suc l) h k q = apart (λ h. h .at) e (way .once .1) i l (omega arith) (omega arith) q
+  pub via-in : (i : ℕ) → i < e → In (viaIn j s i) (vias (hopsIn j s e))
+  via-in i l = in-hops j s (λ h. h .via) e i l
 
-    pub place-once : (i l : ℕ) → i ≤ e → l ≤ e → posAt j s i ≡ posAt j s l → i ≡ l
-    place-once i l h k q = go (dec-lt i l) (dec-lt l i)
-      where
-        go : Dec (i < l) → Dec (l < i) → i ≡ l
-        go (yes r) d = absurd (places-apart i l r k q)
-        go (no r) (yes t) = absurd (places-apart l i t h (sym q))
-        go (no r) (no t) = omega arith
+  pub places-apart : (i l : ℕ) → i < l → l ≤ e → posIn j s i ≡ posIn j s l → ⊥
+  places-apart zero zero h k q = omega arith
+  places-apart zero (suc l) h k q = w .way .once .0 (rw (sym q) at (in-hops j s (λ h. h .at) e l (omega arith)))
+  places-apart (suc i) zero h k q = omega arith
+  places-apart (suc i) (suc l) h k q = apart j s (λ h. h .at) e (w .way .once .1) i l (omega arith) (omega arith) q
 
-    pub place-in : (i : ℕ) → i ≤ e → In (posAt j s i) (posAt j s 0 ∷ ats (hopsTo j s e))
-    place-in zero k = inl refl
-    place-in (suc i) k = inr (in-hops (λ h. h .at) e i (omega arith))
+  pub place-once : (i l : ℕ) → i ≤ e → l ≤ e → posIn j s i ≡ posIn j s l → i ≡ l
+  place-once i l h k q = go (dec-lt i l) (dec-lt l i)
+    where
+      go : Dec (i < l) → Dec (l < i) → i ≡ l
+      go (yes r) d = absurd (places-apart i l r k q)
+      go (no r) (yes t) = absurd (places-apart l i t h (sym q))
+      go (no r) (no t) = omega arith
 
-    pub hop-arcs : (i : ℕ) → i < e → Residual (graph j) (backLink j s) (onLink j s) (dep (posAt j s i)) (arr (viaAt i)) × Residual (graph j) (backLink j s) (onLink j s) (arr (viaAt i)) (dep (posAt j s (suc i)))
-    hop-arcs i l = arcs (graph j) (backLink j s) (onLink j s) (posAt j s 0) (hopsTo j s e) (posAt j s i) (viaAt i) (posAt j s (suc i)) (way .hops) (on-hop e i l)
+  pub place-in : (i : ℕ) → i ≤ e → In (posIn j s i) (posIn j s 0 ∷ ats (hopsIn j s e))
+  place-in zero k = inl refl
+  place-in (suc i) k = inr (in-hops j s (λ h. h .at) e i (omega arith))
 
-    -- A hop that goes on from the node it leaves, and not by an edge, goes back along the flow: to the next step.
-    rises : (i : ℕ) → i < e → posAt j s i ≡ viaAt i → posAt j s i .step < posAt j s (suc i) .step
-    rises i l q = go (hop-arcs i l .1)
-      where
-        go : Residual (graph j) (backLink j s) (onLink j s) (arr (viaAt i)) (dep (posAt j s (suc i))) → posAt j s i .step < posAt j s (suc i) .step
-        go (inl (f, g)) = absurd (places-apart i (suc i) (omega arith) l (q ∙ sym f))
-        go (inr f) = let k = ok .edge _ _ (ok .back (posAt j s (suc i)) (viaAt i) f) .falls in let k′ = point-step q in omega arith
+  pub hop-arcs : (i : ℕ) → i < e → ArcIn j s (dep (posIn j s i)) (arr (viaIn j s i)) × ArcIn j s (arr (viaIn j s i)) (dep (posIn j s (suc i)))
+  hop-arcs i l =
+      arcs (graph j) (backLink j s) (onLink j s) (posIn j s 0) (hopsIn j s e) (posIn j s i) (viaIn j s i) (posIn j s (suc i)) (w .way .hops) (on-hop j s e i l)
 
-    pub form : (i : ℕ) → i < e → Form i
-    form i l = go (ltb (posAt j s i .step) (posAt j s (suc i) .step)) refl
-      where
-        edge : ltb (posAt j s i .step) (posAt j s (suc i) .step) ≡ false → (posAt j s i ≡ viaAt i) ⊎ Earlier j (posAt j s i) (viaAt i) → Form i
-        edge q (inl f) = absurd (let k = rises i l f in let k′ = ltb-false (posAt j s i .step) (posAt j s (suc i) .step) q in omega arith)
-        edge q (inr f) = leads q f
+  -- A hop that goes on from the node it leaves, and not by an edge, goes back along the flow: to the next step.
+  rises : (i : ℕ) → i < e → posIn j s i ≡ viaIn j s i → posIn j s i .step < posIn j s (suc i) .step
+  rises i l q = go (hop-arcs i l .1)
+    where
+      go : ArcIn j s (arr (viaIn j s i)) (dep (posIn j s (suc i))) → posIn j s i .step < posIn j s (suc i) .step
+      go (inl (f, g)) = absurd (places-apart i (suc i) (omega arith) l (q ∙ sym f))
+      go (inr f) = let k = w .ok .edge _ _ (w .ok .back (posIn j s (suc i)) (viaIn j s i) f) .falls in let k′ = point-step q in omega arith
 
-        go : (b : Bool) → ltb (posAt j s i .step) (posAt j s (suc i) .step) ≡ b → Form i
-        go true q = frees q (ap (λ b. cond b (posAt j s i) (point (at (nodes j) s 6 (suc i)) (posAt j s i .step - 1))) q)
-        go false q = edge q (hop-arcs i l .0)
+  pub form : (i : ℕ) → i < e → Form j s i
+  form i l = go (ltb (posIn j s i .step) (posIn j s (suc i) .step)) refl
+    where
+      edge : ltb (posIn j s i .step) (posIn j s (suc i) .step) ≡ false → (posIn j s i ≡ viaIn j s i) ⊎ Earlier j (posIn j s i) (viaIn j s i) → Form j s i
+      edge q (inl f) = absurd (let k = rises i l f in let k′ = ltb-false (posIn j s i .step) (posIn j s (suc i) .step) q in omega arith)
+      edge q (inr f) = leads q f
 
-    pub known-via : ((i : ℕ) → i ≤ e → Known j (posAt j s i)) → (i : ℕ) → i < e → Known j (viaAt i)
-    known-via known i l = go (form i l)
-      where
-        go : Form i → Known j (viaAt i)
-        go (frees q f) = rw f (known i (omega arith))
-        go (leads q f) = (f .known-before, let k = f .falls in let k′ = f .in-time in omega arith)
+      go : (b : Bool) → ltb (posIn j s i .step) (posIn j s (suc i) .step) ≡ b → Form j s i
+      go true q = frees q (rw q)
+      go false q = edge q (hop-arcs i l .0)
+
+  pub known-via : (i : ℕ) → i < e → Known j (viaIn j s i)
+  known-via i l = go (form i l)
+    where
+      go : Form j s i → Known j (viaIn j s i)
+      go (frees q f) = rw f (w .known i (omega arith))
+      go (leads q f) = (f .known-before, omega (arith, f .falls, f .in-time))

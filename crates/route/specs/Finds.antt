@@ -1,72 +1,52 @@
--- What the search's inner functions find in the bytes of the store: where a position leads, and what a push writes.
--- Here n is the number of cells, k the size of a plane, s the store.
-use Prim.Native.Nat.{ℕ, _+_, _-_, _*_, _<_, _≤_}
+-- What the search's inner functions find in the store: where a position leads.
+use Prim.Native.Nat.{ℕ, _+_, _-_, _<_}
 use mathlib.Core.Path.{_≡_}
 use mathlib.Core.List.{List}
 use mathlib.Core.Logic.{_⊎_}
-use lib.ListN.{length, getD}
-use Rattle.model.specs.Limits.{maxCells, maxSteps}
+use lib.ListN.{getD}
+use Rattle.model.specs.Lists.{In}
+use Rattle.model.specs.Job.{Job}
+use Rattle.model.specs.Choke.{Point, point, Known}
+use Rattle.floor.specs.Tables.{Due}
+use Rattle.network.specs.Store.{placeAt, pointOf, usedAt, nextAt, markAt}
+use Rattle.network.specs.Holds.{Holds}
+use Rattle.network.specs.declared.planes.Grid.{Grid}
 use Rattle.route.specs.declared.search.Found.{Found}
-use Rattle.network.specs.Store.{at}
-use Rattle.network.specs.Tables.{nearSize}
 
--- The sizes; and a used node that is no call's leads on to a node one step later.
-pub record Held (n k : ℕ) (s due : List ℕ) : Type 0 where
-  pub room : 8 * k ≤ length s
-  pub few : n ≤ maxCells
-  pub small : k ≤ maxSteps * maxCells
-  pub dues : length due ≡ maxCells
-  pub leads : (c t : ℕ) → c < n → t * n + n ≤ k → (at k s 0 (t * n + c) ≡ 0 → ⊥) → (getD due c 0 ≡ t + 1 → ⊥)
-      → (at k s 2 (t * n + c) < n) × ((t + 1) * n + n ≤ k)
+-- x is a node of the job whose flow the store holds.
+abbrev pub Stands : Job → Grid → List ℕ → List ℕ → Point → Type 0
+Stands j g s due x = Holds j g s × Due j due × Known j x
 
--- The rows of the table of cells that one step leads from.
-pub record Rows (n : ℕ) (near start degree : List ℕ) : Type 0 where
-  pub rows : length near ≡ nearSize
-  pub begins : length start ≡ maxCells
-  pub counts : length degree ≡ maxCells
-  pub fits : (c : ℕ) → c < n → getD start c 0 + getD degree c 0 ≤ nearSize
-  pub cells : (c i : ℕ) → c < n → i < getD degree c 0 → getD near (getD start c 0 + i) 0 < n
+-- The row has cells below n.
+abbrev pub Cells : ℕ → List ℕ → Type 0
+Cells n row = (x : ℕ) → In x row → x < n
 
--- From a position at step t by way of the cell x one step earlier one gets to (c, u): to that node if it is unused, else to its successor.
-abbrev pub By : ℕ → ℕ → List ℕ → List ℕ → ℕ → ℕ → ℕ → ℕ → ℕ → Type 0
-By n k s due t x c u via =
-    (via ≡ x) × (getD due x 0 ≡ t → ⊥)
-    × (((at k s 0 ((t - 1) * n + x) ≡ 0) × (c ≡ x) × (u ≡ t - 1))
-    ⊎ ((at k s 0 ((t - 1) * n + x) ≡ 0 → ⊥) × (c ≡ at k s 2 ((t - 1) * n + x)) × (u ≡ t)))
+-- The node x is used and no call's, and y its successor.
+abbrev pub Down : Grid → List ℕ → List ℕ → Point → Point → ℕ → Type 0
+Down g s due x y via =
+    (via ≡ x .cell) × (usedAt g s (placeAt g x) ≡ 0 → ⊥) × (getD due (x .cell) 0 ≡ x .step + 1 → ⊥) × (y ≡ point (nextAt g s (placeAt g x)) (x .step + 1))
 
--- The same, by way of one of the m cells of the row that begins at base.
-abbrev pub ByRow : ℕ → ℕ → List ℕ → List ℕ → List ℕ → ℕ → ℕ → ℕ → ℕ → ℕ → ℕ → Type 0
-ByRow n k s due near base m t c u via = (i : ℕ) × (i < m) × By n k s due t (getD near (base + i) 0) c u via
+-- By way of the node x one gets to y: to x itself where it is unused and no call's, else to its successor.
+abbrev pub By : Grid → List ℕ → List ℕ → Point → Point → ℕ → Type 0
+By g s due x y via = ((via ≡ x .cell) × (usedAt g s (placeAt g x) ≡ 0) × (getD due (x .cell) 0 ≡ x .step + 1 → ⊥) × (y ≡ x)) ⊎ Down g s due x y via
 
--- The position (a, t) is a used node, and (c, u) its successor.
-abbrev pub Down : ℕ → ℕ → List ℕ → List ℕ → ℕ → ℕ → ℕ → ℕ → ℕ → Type 0
-Down n k s due a t c u via =
-    (via ≡ a) × (at k s 0 (t * n + a) ≡ 0 → ⊥) × (getD due a 0 ≡ t + 1 → ⊥) × (c ≡ at k s 2 (t * n + a)) × (u ≡ t + 1)
+-- The same, by way of a cell of the row at step t.
+abbrev pub ByRow : Grid → List ℕ → List ℕ → List ℕ → ℕ → Point → ℕ → Type 0
+ByRow g s due row t y via = (c : ℕ) × In c row × By g s due (point c t) y via
 
--- From (a, t) one gets to (c, u).
-abbrev pub From : ℕ → ℕ → List ℕ → List ℕ → List ℕ → List ℕ → List ℕ → ℕ → ℕ → ℕ → ℕ → ℕ → Type 0
-From n k s near start degree due a t c u via = ((0 < t) × ByRow n k s due near (getD start a 0) (getD degree a 0) t c u via) ⊎ Down n k s due a t c u via
+-- From x, with the row of its cell, one gets to y.
+abbrev pub From : Grid → List ℕ → List ℕ → List ℕ → Point → Point → ℕ → Type 0
+From g s due row x y via = ((0 < x .step) × ByRow g s due row (x .step - 1) y via) ⊎ Down g s due x y via
 
-abbrev pub Stamped : ℕ → ℕ → List ℕ → ℕ → ℕ → ℕ → Type 0
-Stamped n k s stamp c t = at k s 1 (t * n + c) ≡ stamp
+abbrev pub Stamped : Grid → List ℕ → ℕ → Point → Type 0
+Stamped g s stamp x = markAt g s (placeAt g x) ≡ stamp
 
--- The answer is one of the positions that P allows and that is not marked; Nothing, if all of them are.
-abbrev pub Answers : (ℕ → ℕ → ℕ → Type 0) → (ℕ → ℕ → Type 0) → Found → Type 0
-Answers P M Found.Nothing = (c t via : ℕ) → P c t via → M c t
-Answers P M (Found.Push c t via) = P c t via × (M c t → ⊥)
+-- What is found is one of the positions that P allows and that is not marked; Nothing, if all of them are.
+abbrev pub Finds : (Point → ℕ → Type 0) → (Point → Type 0) → Found → Type 0
+Finds P M Found.Nothing = (x : Point) (via : ℕ) → P x via → M x
+Finds P M (Found.Push v via) = P (pointOf v) via × (M (pointOf v) → ⊥)
 
--- The answer, if it is a position, is one that P allows and that is not marked.
-abbrev pub Guesses : (ℕ → ℕ → ℕ → Type 0) → (ℕ → ℕ → Type 0) → Found → Type 0
+-- What is found, if it is a position, is one that P allows and that is not marked.
+abbrev pub Guesses : (Point → ℕ → Type 0) → (Point → Type 0) → Found → Type 0
 Guesses P M Found.Nothing = Unit {0}
-Guesses P M (Found.Push c t via) = P c t via × (M c t → ⊥)
-
--- The node v is marked, and the entries d of the stack's planes are set.
-pub record Pushed (k : ℕ) (s s′ : List ℕ) (v d c t via stamp : ℕ) : Type 0 where
-  pub long : length s′ ≡ length s
-  pub mark : at k s′ 1 v ≡ stamp
-  pub cell : at k s′ 4 d ≡ c
-  pub step : at k s′ 5 d ≡ t
-  pub by : at k s′ 6 d ≡ via
-  pub marks : (u : ℕ) → u < k → (u ≡ v → ⊥) → at k s′ 1 u ≡ at k s 1 u
-  pub below : (p u : ℕ) → u < k → p < 4 → (p ≡ 1 → ⊥) → at k s′ p u ≡ at k s p u
-  pub stack : (p u : ℕ) → u < k → (u ≡ d → ⊥) → 4 ≤ p → at k s′ p u ≡ at k s p u
+Guesses P M (Found.Push v via) = P (pointOf v) via × (M (pointOf v) → ⊥)

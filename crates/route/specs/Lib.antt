@@ -1,4 +1,6 @@
-pub mod Search
-pub mod Finds
+pub mod Stack
 pub mod Lay
+pub mod Finds
+pub mod Search
 pub mod Serve
+pub mod Queue

@@ -7,21 +7,22 @@ use mathlib.Core.Logic.{_⊎_, _↔_}
 use Rattle.model.specs.Job.{Job}
 use Rattle.model.specs.Choke.{Point}
 use Rattle.flow.specs.Flow.{end}
-use Rattle.network.specs.Store.{nodes, at, isMarked}
+use Rattle.network.specs.Store.{nodes, gridOf, markAt, isMarked}
 use Rattle.network.specs.Links.{backLink, onLink}
 use Rattle.network.specs.Stuck.{Stuck}
+use Rattle.network.specs.declared.planes.Grid.{Grid}
 use Rattle.route.specs.Search.{Fresh, Searching}
 use Rattle.route.specs.declared.serve.Served.{Served}
 use Rattle.route.specs.declared.serve.Served.the-variants.{Yes, No}
 
 -- No mark is above the stamp.
 abbrev pub MarksUpTo : Job → List ℕ → ℕ → Type 0
-MarksUpTo j s stamp = (v : ℕ) → v < nodes j → at (nodes j) s 1 v ≤ stamp
+MarksUpTo j s stamp = (v : ℕ) → v < nodes j → markAt (gridOf j) s v ≤ stamp
 
 -- A search may start, with a stamp that no mark is above; where fresh says so, no mark has it. There is room for one stamp more.
-pub record Serving (j : Job) (near start degree due cartOn hint s : List ℕ) (n k cell step stamp : ℕ) (fresh : Bool) : Type 0 where
-  pub search : Searching j near start degree due cartOn hint s n k cell step stamp
-  pub small : stamp < 200
+pub record Serving (j : Job) (near begin due cartOn hint s : List ℕ) (g : Grid) (x : Point) (stamp : ℕ) (fresh : Bool) : Type 0 where
+  pub search : Searching j near begin due cartOn hint s g x
+  pub small : stamp < 255
   pub marks : MarksUpTo j s stamp
   pub clean : fresh ≡ true → Fresh j s stamp
 

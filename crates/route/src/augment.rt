@@ -1,64 +1,69 @@
 // Lays the way on the search's stack into the flow, hop by hop from its top down, and takes its marks away: it stays open to later searches.
-use model::bytes::wide;
+use network::planes::Grid;
+use network::planes::Node;
+use network::planes::place;
+use network::planes::position;
+use network::planes::set_mark;
+use network::planes::set_next;
+use network::planes::set_prev;
+use network::planes::set_used;
+use network::planes::via;
 ghost use mathlib.Core.Path.{_≡_};
-ghost use Prim.Native.Nat.{_+_, _*_, _<_};
-ghost use lib.ListN.{length, set};
+ghost use Prim.Native.Nat.{_<_, _≤_};
 ghost use Rattle.model.specs.Job as model;
-ghost use Rattle.network.specs.Store.{at};
-ghost use Rattle.network.specs.Links.{posAt};
+ghost use Rattle.network.specs.Store.{pointOf, gridOf};
+ghost use Rattle.route.specs.Stack.{posAt, byWay};
 ghost use Rattle.route.specs.Search.{Laying, Augmented};
-ghost use Rattle.route.specs.Lay.{Layable, laid};
+ghost use Rattle.route.specs.Lay.{Layable, laid, useOf};
 
-// Byte i of plane p.
-fn get(store: &[u8], k: usize, p: usize, i: usize) -> usize
-    requires { ⌜ p * k + i < length (now store) ⌝ }
-    ensures { λ r. ⌜ (r ≡ at k (now (store .entry)) p i) × (r < 256) ⌝ }
+// By way of which node a hop goes: where the step rises, the one that it leaves; else one on the cell c, a step before.
+fn by_way(from: Node, to: Node, c: usize) -> Node
+    requires { ⌜ (to .step ≤ from .step → 0 < from .step) ⌝ }
+    ensures { λ r. ⌜ pointOf r ≡ byWay (pointOf from) (to .step) c ⌝ }
 {
-    wide(store[p * k + i])
-}
-
-fn put(store: &mut [u8], k: usize, p: usize, i: usize, b: usize)
-    requires { ⌜ (p * k + i < length (now store)) × (b < 256) ⌝ }
-    ensures { λ _. ⌜ (now (store .exit) ≡ set (now (store .entry)) (p * k + i) b) × (length (now (store .exit)) ≡ length (now (store .entry))) ⌝ }
-{
-    store[p * k + i] = b as u8;
-}
-
-// The i-th hop. Where the step rises, the node itself falls out of the flow; else the node before it leads here now.
-fn lay(store: &mut [u8], n: usize, k: usize, i: usize)
-    requires { ⌜ Layable n k (now store) i ⌝ }
-    ensures { λ _. ⌜ now (store .exit) ≡ laid n k (now (store .entry)) i ⌝ }
-{
-    let c = get(store, k, 4, i);
-    let t = get(store, k, 5, i);
-    let d = get(store, k, 4, i + 1);
-    let r = get(store, k, 5, i + 1);
-    let v = t * n + c;
-    let mut x = c;
-    let mut u = v;
-    let mut used = 0;
-    if r <= t {
-        x = get(store, k, 6, i + 1);
-        u = (t - 1) * n + x;
-        used = 1;
+    if from.step < to.step {
+        return from;
     }
-    put(store, k, 2, u, c);
-    put(store, k, 3, v, x);
-    put(store, k, 0, u, used);
-    put(store, k, 1, r * n + d, 0);
+    let step = from.step - 1;
+    Node { cell: c, step }
 }
 
-pub fn augment(store: &mut [u8], n: usize, k: usize, depth: usize)
-    requires { ⌜ ((j : model.Job) × Laying j (now store) n k depth) ⌝ }
-    ensures { λ _. ⌜ ((j : model.Job) → Laying j (now (store .entry)) n k depth → Augmented j (now (store .entry)) (now (store .exit)) (posAt j (now (store .entry)) 0)) ⌝ }
+// Whether that node is used then: not where it falls out of the flow.
+fn stays(from: Node, to: Node) -> u8
+    ensures { λ r. ⌜ r ≡ useOf (from .step) (to .step) ⌝ }
 {
-    let c = get(store, k, 4, 0);
-    let t = get(store, k, 5, 0);
+    if from.step < to.step {
+        return 0;
+    }
+    1
+}
+
+// The i-th hop.
+fn lay(store: &mut [u8], grid: Grid, i: usize)
+    requires { ⌜ Layable grid (now store) i ⌝ }
+    ensures { λ _. ⌜ now (store .exit) ≡ laid grid (now (store .entry)) i ⌝ }
+{
+    let from = position(store, grid, i);
+    let to = position(store, grid, i + 1);
+    let by = by_way(from, to, via(store, grid, i + 1));
+    let u = place(grid, by);
+    set_next(store, grid, u, from.cell);
+    set_prev(store, grid, place(grid, from), by.cell);
+    set_used(store, grid, u, stays(from, to));
+    set_mark(store, grid, place(grid, to), 0);
+}
+
+pub fn augment(store: &mut [u8], grid: Grid, depth: usize)
+    requires { ⌜ ((j : model.Job) × Laying j (now store) grid depth) ⌝ }
+    ensures { λ _. ⌜ ((j : model.Job) → Laying j (now (store .entry)) grid depth → Augmented j (now (store .entry)) (now (store .exit)) (posAt (gridOf j) (now (store .entry)) 0)) ⌝ }
+{
+    let first = position(store, grid, 0);
     let mut i = depth - 1;
     while 0 < i {
         i -= 1;
-        lay(store, n, k, i);
+        lay(store, grid, i);
     }
-    put(store, k, 0, t * n + c, 1);
-    put(store, k, 1, t * n + c, 0);
+    let v = place(grid, first);
+    set_used(store, grid, v, 1);
+    set_mark(store, grid, v, 0);
 }

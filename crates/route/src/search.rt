@@ -1,83 +1,83 @@
 // One search: from a call's node back in time to a free cart, depth first, with the way so far as a stack in the store.
+use crate::rows::row;
 use model::bytes::wide;
+use network::planes::Grid;
+use network::planes::Node;
+use network::planes::mark;
+use network::planes::next;
+use network::planes::place;
+use network::planes::position;
+use network::planes::set_mark;
+use network::planes::set_position;
+use network::planes::used;
 ghost use mathlib.Core.Path.{_≡_};
-ghost use Prim.Native.Nat.{ℕ, _+_, _*_, _<_, _≤_};
-ghost use lib.ListN.{length, getD};
-ghost use Rattle.model.specs.Limits.{maxCells, maxSteps};
+ghost use Prim.Native.Nat.{_<_, _≤_};
 ghost use Rattle.model.specs.Job as model;
-ghost use Rattle.model.specs.Choke.{point};
-ghost use Rattle.network.specs.Tables.{nearSize};
+ghost use Rattle.floor.specs.Tables.{Due};
+ghost use Rattle.network.specs.Store.{Within, placeAt, pointOf};
+ghost use Rattle.network.specs.Holds.{Holds};
+ghost use Rattle.route.specs.Lay.{pushed};
 ghost use Rattle.route.specs.Search.{Searching, Searched};
-ghost use Rattle.route.specs.Finds.{Held, Rows, By, ByRow, Down, From, Stamped, Answers, Guesses, Pushed};
+ghost use Rattle.route.specs.Finds.{Stands, Cells, By, ByRow, Down, From, Stamped, Finds, Guesses};
 
 // Where a position leads: nowhere new, or to another position, by way of a cell.
 pub enum Found {
     Nothing,
-    Push {
-        cell: usize,
-        step: usize,
-        via: usize,
-    },
+    Push { node: Node, via: usize },
 }
 
-// From a position at step t by way of the cell x one step earlier: to that node where it is free, to its successor where it is used,
-// whose place in the flow is then taken over. Nothing comes from a call's node; that is asked after a free node's mark, since most are marked.
-fn look(store: &[u8], due: &[u16], n: usize, k: usize, t: usize, x: usize, stamp: u8) -> Found
-    requires { ⌜ Held n k (now store) (now due) × (x < n) × (0 < t) × (t * n + n ≤ k) ⌝ }
-    ensures { λ r. ⌜ Answers (By n k (now (store .entry)) (now (due .entry)) t x) (Stamped n k (now (store .entry)) stamp) r ⌝ }
+// To the successor of a used node, which then falls out of the flow, or whose place in it is taken over. Nothing comes from a call's node.
+fn drop_out(store: &[u8], due: &[u16], grid: Grid, node: Node, stamp: u8) -> Found
+    requires { ⌜ ((j : model.Job) × Stands j grid (now store) (now due) (pointOf node)) ⌝ }
+    ensures { λ r. ⌜ Finds (Down grid (now (store .entry)) (now (due .entry)) (pointOf node)) (Stamped grid (now (store .entry)) stamp) r ⌝ }
 {
-    let u = (t - 1) * n + x;
-    if store[u] == 0 {
-        if store[k + u] == stamp {
-            return Found::Nothing;
-        }
-        if due[x] as usize == t {
-            return Found::Nothing;
-        }
-        return Found::Push {
-            cell: x,
-            step: t - 1,
-            via: x,
-        };
-    }
-    if due[x] as usize == t {
+    let v = place(grid, node);
+    if used(store, grid, v) == 0 {
         return Found::Nothing;
     }
-    let y = wide(store[2 * k + u]);
-    if store[k + t * n + y] == stamp {
+    let via = node.cell;
+    let step = node.step + 1;
+    if due[via] as usize == step {
         return Found::Nothing;
     }
-    Found::Push {
-        cell: y,
-        step: t,
-        via: x,
+    let cell = next(store, grid, v);
+    let node = Node { cell, step };
+    if mark(store, grid, place(grid, node)) == stamp {
+        return Found::Nothing;
     }
+    Found::Push { node, via }
 }
 
-// The first of the m cells of the row at base that leads on.
-fn scan(
-    store: &[u8],
-    near: &[u8],
-    due: &[u16],
-    n: usize,
-    k: usize,
-    base: usize,
-    m: usize,
-    t: usize,
-    stamp: u8,
-) -> Found
-    requires { ⌜ Held n k (now store) (now due) × (length (now near) ≡ nearSize) × (base + m ≤ nearSize) × ((i : ℕ) → i < m → getD (now near) (base + i) 0 < n) × (0 < t) × (t * n + n ≤ k) ⌝ }
-    ensures { λ r. ⌜ Answers (ByRow n k (now (store .entry)) (now (due .entry)) (now (near .entry)) base m t) (Stamped n k (now (store .entry)) stamp) r ⌝ }
+// By way of a node one step before a position: to it where it is free, else to its successor. That nothing comes from a call's node is asked after a free node's mark,
+// since most are marked.
+fn look(store: &[u8], due: &[u16], grid: Grid, node: Node, stamp: u8) -> Found
+    requires { ⌜ ((j : model.Job) × Stands j grid (now store) (now due) (pointOf node)) ⌝ }
+    ensures { λ r. ⌜ Finds (By grid (now (store .entry)) (now (due .entry)) (pointOf node)) (Stamped grid (now (store .entry)) stamp) r ⌝ }
+{
+    let v = place(grid, node);
+    if used(store, grid, v) == 0 {
+        if mark(store, grid, v) == stamp {
+            return Found::Nothing;
+        }
+        let via = node.cell;
+        if due[via] as usize == node.step + 1 {
+            return Found::Nothing;
+        }
+        return Found::Push { node, via };
+    }
+    drop_out(store, due, grid, node, stamp)
+}
+
+// By way of the first cell of the row that leads on.
+fn scan(store: &[u8], row: &[u8], due: &[u16], grid: Grid, step: usize, stamp: u8) -> Found
+    requires { ⌜ ((j : model.Job) × Holds j grid (now store) × Due j (now due) × Cells (j .cells) (now row) × (step ≤ model.horizon j)) ⌝ }
+    ensures { λ r. ⌜ Finds (ByRow grid (now (store .entry)) (now (due .entry)) (now (row .entry)) step) (Stamped grid (now (store .entry)) stamp) r ⌝ }
 {
     let mut i = 0;
-    while i < m {
-        let x = wide(near[base + i]);
-        let found = look(store, due, n, k, t, x, stamp);
-        if let Found::Push {
-            cell: _,
-            step: _,
-            via: _,
-        } = found {
+    while i < row.len() {
+        let cell = wide(row[i]);
+        let found = look(store, due, grid, Node { cell, step }, stamp);
+        if let Found::Push { node: _, via: _ } = found {
             return found;
         }
         i += 1;
@@ -85,151 +85,89 @@ fn scan(
     Found::Nothing
 }
 
-// To the successor of a used node, which then falls out of the flow.
-fn drop_out(store: &[u8], due: &[u16], n: usize, k: usize, c: usize, t: usize, stamp: u8) -> Found
-    requires { ⌜ Held n k (now store) (now due) × (c < n) × (t * n + n ≤ k) ⌝ }
-    ensures { λ r. ⌜ Answers (Down n k (now (store .entry)) (now (due .entry)) c t) (Stamped n k (now (store .entry)) stamp) r ⌝ }
-{
-    let v = t * n + c;
-    if store[v] == 0 {
-        return Found::Nothing;
-    }
-    if due[c] as usize == t + 1 {
-        return Found::Nothing;
-    }
-    let y = wide(store[2 * k + v]);
-    if store[k + v - c + n + y] == stamp {
-        return Found::Nothing;
-    }
-    Found::Push {
-        cell: y,
-        step: t + 1,
-        via: c,
-    }
-}
-
-// From the position (c, t) by way of the cell that the hint names: a guess, which only saves time. It is small, so that the compiler puts it into
-// the loop of the search.
+// By way of the cell that the hint names: a guess, which only saves time. It is small, so that the compiler puts it into the loop of the search.
 fn guess(
     store: &[u8],
-    near: &[u8],
-    start: &[u16],
-    degree: &[u16],
+    row: &[u8],
     due: &[u16],
-    hint: &[u8],
-    n: usize,
-    k: usize,
-    c: usize,
-    t: usize,
+    grid: Grid,
+    node: Node,
+    hint: usize,
     stamp: u8,
 ) -> Found
-    requires { ⌜ Held n k (now store) (now due) × Rows n (now near) (now start) (now degree) × (length (now hint) ≡ maxCells) × (c < n) × (t * n + n ≤ k) ⌝ }
-    ensures { λ r. ⌜ Guesses (From n k (now (store .entry)) (now (near .entry)) (now (start .entry)) (now (degree .entry)) (now (due .entry)) c t) (Stamped n k (now (store .entry)) stamp) r ⌝ }
+    requires { ⌜ ((j : model.Job) × Stands j grid (now store) (now due) (pointOf node) × Cells (j .cells) (now row)) ⌝ }
+    ensures { λ r. ⌜ Guesses (From grid (now (store .entry)) (now (due .entry)) (now (row .entry)) (pointOf node)) (Stamped grid (now (store .entry)) stamp) r ⌝ }
 {
-    if t == 0 {
+    if node.step == 0 {
         return Found::Nothing;
     }
-    let h = wide(hint[c]);
-    if degree[c] as usize <= h {
+    if row.len() <= hint {
         return Found::Nothing;
     }
-    let base = start[c] as usize;
-    let x = wide(near[base + h]);
-    look(store, due, n, k, t, x, stamp)
+    let cell = wide(row[hint]);
+    let step = node.step - 1;
+    look(store, due, grid, Node { cell, step }, stamp)
 }
 
-// Where the position (c, t) leads: by way of a cell of its row, else to its successor.
-fn find(
-    store: &[u8],
-    near: &[u8],
-    start: &[u16],
-    degree: &[u16],
-    due: &[u16],
-    n: usize,
-    k: usize,
-    c: usize,
-    t: usize,
-    stamp: u8,
-) -> Found
-    requires { ⌜ Held n k (now store) (now due) × Rows n (now near) (now start) (now degree) × (c < n) × (t * n + n ≤ k) ⌝ }
-    ensures { λ r. ⌜ Answers (From n k (now (store .entry)) (now (near .entry)) (now (start .entry)) (now (degree .entry)) (now (due .entry)) c t) (Stamped n k (now (store .entry)) stamp) r ⌝ }
+// Where the node leads: by way of a cell of its row, else to its successor.
+fn find(store: &[u8], row: &[u8], due: &[u16], grid: Grid, node: Node, stamp: u8) -> Found
+    requires { ⌜ ((j : model.Job) × Stands j grid (now store) (now due) (pointOf node) × Cells (j .cells) (now row)) ⌝ }
+    ensures { λ r. ⌜ Finds (From grid (now (store .entry)) (now (due .entry)) (now (row .entry)) (pointOf node)) (Stamped grid (now (store .entry)) stamp) r ⌝ }
 {
-    if 0 < t {
-        let base = start[c] as usize;
-        let m = degree[c] as usize;
-        let found = scan(store, near, due, n, k, base, m, t, stamp);
-        if let Found::Push {
-            cell: _,
-            step: _,
-            via: _,
-        } = found {
+    if 0 < node.step {
+        let found = scan(store, row, due, grid, node.step - 1, stamp);
+        if let Found::Push { node: _, via: _ } = found {
             return found;
         }
     }
-    drop_out(store, due, n, k, c, t, stamp)
+    drop_out(store, due, grid, node, stamp)
 }
 
-// Marks a position and puts it on the stack.
-fn push(
-    store: &mut [u8],
-    n: usize,
-    k: usize,
-    depth: usize,
-    cell: usize,
-    step: usize,
-    via: usize,
-    stamp: u8,
-)
-    requires { ⌜ (8 * k ≤ length (now store)) × (k ≤ maxSteps * maxCells) × (step * n + cell < k) × (depth < k) × (cell < maxCells) × (step < maxSteps) × (via < maxCells) ⌝ }
-    ensures { λ _. ⌜ Pushed k (now (store .entry)) (now (store .exit)) (step * n + cell) depth cell step via stamp ⌝ }
+// Marks a node and puts it on the stack.
+fn push(store: &mut [u8], grid: Grid, depth: usize, node: Node, via: usize, stamp: u8)
+    requires { ⌜ Within grid (now store) depth × (placeAt grid (pointOf node) < grid .nodes) × (node .cell < 256) × (node .step < 256) × (via < 256) ⌝ }
+    ensures { λ _. ⌜ now (store .exit) ≡ pushed grid (now (store .entry)) depth (pointOf node) via stamp ⌝ }
 {
-    store[k + step * n + cell] = stamp;
-    store[4 * k + depth] = cell as u8;
-    store[5 * k + depth] = step as u8;
-    store[6 * k + depth] = via as u8;
+    set_mark(store, grid, place(grid, node), stamp);
+    set_position(store, grid, depth, node, via);
 }
 
 pub fn search(
     near: &[u8],
-    start: &[u16],
-    degree: &[u16],
+    begin: &[u16],
     due: &[u16],
     cart_on: &[u8],
     hint: &[u8],
     store: &mut [u8],
-    n: usize,
-    k: usize,
-    cell: usize,
-    step: usize,
+    grid: Grid,
+    node: Node,
     stamp: u8,
 ) -> usize
-    requires { ⌜ ((j : model.Job) × Searching j (now near) (now start) (now degree) (now due) (now «cart_on») (now hint) (now store) n k cell step stamp) ⌝ }
-    ensures { λ r. ⌜ ((j : model.Job) → Searching j (now (near .entry)) (now (start .entry)) (now (degree .entry)) (now (due .entry)) (now («cart_on» .entry)) (now (hint .entry)) (now (store .entry)) n k cell step stamp → Searched j (now (store .entry)) (now (store .exit)) stamp (point cell step) r) ⌝ }
+    requires { ⌜ ((j : model.Job) × Searching j (now near) (now begin) (now due) (now «cart_on») (now hint) (now store) grid (pointOf node)) ⌝ }
+    ensures { λ r. ⌜ ((j : model.Job) → Searching j (now (near .entry)) (now (begin .entry)) (now (due .entry)) (now («cart_on» .entry)) (now (hint .entry)) (now (store .entry)) grid (pointOf node) → Searched j (now (store .entry)) (now (store .exit)) stamp (pointOf node) r) ⌝ }
 {
-    push(store, n, k, 0, cell, step, 0, stamp);
+    push(store, grid, 0, node, 0, stamp);
     let mut depth = 1;
-    // The position on top of the stack.
-    let mut c = cell;
-    let mut t = step;
+    let mut top = node;
     while 0 < depth {
-        if t == 0 && cart_on[c] != 0 {
+        let c = top.cell;
+        if top.step == 0 && cart_on[c] != 0 {
             return depth;
         }
-        let mut found = guess(store, near, start, degree, due, hint, n, k, c, t, stamp);
+        let row = row(near, begin, c);
+        let mut found = guess(store, row, due, grid, top, wide(hint[c]), stamp);
         if let Found::Nothing = found {
-            found = find(store, near, start, degree, due, n, k, c, t, stamp);
+            found = find(store, row, due, grid, top, stamp);
         }
-        let Found::Push { cell, step, via } = found else {
+        let Found::Push { node, via } = found else {
             depth -= 1;
             if 0 < depth {
-                c = wide(store[4 * k + depth - 1]);
-                t = wide(store[5 * k + depth - 1]);
+                top = position(store, grid, depth - 1);
             }
             continue;
         };
-        push(store, n, k, depth, cell, step, via, stamp);
-        c = cell;
-        t = step;
+        push(store, grid, depth, node, via, stamp);
+        top = node;
         depth += 1;
     }
     0

@@ -1,47 +1,57 @@
--- `drop_out` answers the successor of a used node, unless it is marked; a call's node has none. Assumes nothing.
+-- `drop_out` answers the successor of a used node, unless it is marked; a call's node has none. Where a used node leads is known (HoldsLaws). Assumes nothing.
 use native.Mathlib.Omega.{arith}
 use denote.Ref.{now}
-use Rattle.route.proofs.SearchFinds.{few-steps, drop-free, drop-in, drop-none, drop-push}
+use Rattle.model.proofs.Agree.{within}
+use Rattle.network.specs.Store.{usedAt}
+use Rattle.network.proofs.HoldsLaws.{place-below}
+use Rattle.route.proofs.SearchFinds.{told, after-known, down-none, down-push}
 use borrow.Author.Needs.{needs}
 use Rattle.route.proofs.search.drop_out.Statement.{statement}
 use Rattle.route.proofs.search.drop_out.Tie as tie
 mod Places
 use Places.*
 
+place-requires : tie.Need-place-requires
+place-requires c κs = let h = shared-slice-known2→start c .pre .1 in place-below (h .0) (h .2)
+
+used-requires : tie.Need-used-requires
+used-requires c κs = let h = place→start c .pre .1 in (h .0 .room, omega (arith, place-below (h .0) (h .2), c .place .ensures))
+
 returns : tie.Need-returns
-returns c = let a = then1→start c .args in drop-free (a .n) (a .k) (now (a .store)) (now (a .due)) (a .c) (a .t) (a .stamp) (c .if1 .taken)
+returns c = λ y via b. absurd (b .1 (told (usedAt (then1→start c .args .grid) (now (then1→start c .args .store))) (then1→place c .place .ensures) (then1→used c .used .ensures .0) (c .if1 .taken)))
+
+add-step : tie.Need-add-step
+add-step c = let (j, h) = struct-known→start c .pre in omega (arith, h .2 .1, within j (h .0 .ready .fit) .few-steps)
 
 cast-if2 : tie.Need-cast-if2
-cast-if2 c = omega (arith, c .shared-slice-known4 .given (shared-slice-known4→start c .args .c))
+cast-if2 c = omega (arith, c .shared-slice-known3 .given (shared-slice-known3→start c .args .node .cell))
 
-add-if2 : tie.Need-add-if2
-add-if2 c = let a = shared-slice-known4→start c .args in omega (arith, few-steps (a .n) (a .k) (a .t) (a .c) (omega arith) (omega arith))
+next-requires : tie.Need-next-requires
+next-requires c κs = let h = else2→start c .pre .1 in (h .0 .room, omega (arith, place-below (h .0) (h .2), else2→place c .place .ensures))
 
-shared-slice-read-if3 : tie.Need-shared-slice-read-if3
-shared-slice-read-if3 c = let a = shared-slice-known6→start c .args in let p = shared-slice-known6→start c .pre in
-    omega (
-      arith,
-      drop-in (a .n) (a .k) (now (a .store)) (now (a .due)) (a .c) (a .t) (a .stamp) (shared-slice-known6→else1 c .if1 .left) (shared-slice-known6→else2 c .if2 .left)
-          (shared-slice-known6→wide c .wide .result) (shared-slice-known6→wide c .wide .ensures .0) (p .0) (p .1) (p .2),
-    )
+place-requires-2 : tie.Need-place-requires-2
+place-requires-2 c κs =
+    let h = next→start c .pre .1 in
+    place-below (h .0) (after-known h (next→place c .place .ensures) (next→used c .used .ensures .0) (next→else1 c .if1 .left) (next→else2 c .if2 .left) (c .next .ensures .0))
+
+mark-requires : tie.Need-mark-requires
+mark-requires c κs =
+    let h = place2→start c .pre .1 in
+    let k = after-known h (place2→place c .place .ensures) (place2→used c .used .ensures .0) (place2→else1 c .if1 .left) (place2→else2 c .if2 .left) (place2→next c .next .ensures .0) in
+    (h .0 .room, omega (arith, place-below (h .0) k, c .place2 .ensures))
 
 returns-3 : tie.Need-returns-3
-returns-3 c = let a = then3→start c .args in
-    drop-none (a .n) (a .k) (now (a .store)) (now (a .due)) (a .c) (a .t) (a .stamp) (then3→else1 c .if1 .left) (then3→else2 c .if2 .left) (then3→wide c .wide .result)
-    (then3→wide c .wide .ensures .0) _ (omega arith) (c .if3 .taken)
-
-add-t17 : tie.Need-add-t17
-add-t17 c = let a = else3→start c .args in omega (arith, few-steps (a .n) (a .k) (a .t) (a .c) (omega arith) (omega arith))
+returns-3 c =
+    down-none (then3→start c .pre .1) (then3→place c .place .ensures) (then3→used c .used .ensures .0) (then3→else1 c .if1 .left) (then3→else2 c .if2 .left) (then3→next c .next .ensures .0)
+    (then3→place2 c .place2 .ensures) (then3→mark c .mark .ensures) (c .if3 .taken)
 
 returns-4 : tie.Need-returns-4
-returns-4 c = let a = else3→start c .args in
-    drop-push (a .n) (a .k) (now (a .store)) (now (a .due)) (a .c) (a .t) (a .stamp) (else3→else1 c .if1 .left) (else3→else2 c .if2 .left) (else3→wide c .wide .result)
-    (else3→wide c .wide .ensures .0) _ (omega arith) (c .if3 .left)
+returns-4 c =
+    down-push (else3→start c .pre .1) (else3→place c .place .ensures) (else3→used c .used .ensures .0) (else3→else1 c .if1 .left) (else3→else2 c .if2 .left) (else3→next c .next .ensures .0)
+    (else3→place2 c .place2 .ensures) (else3→mark c .mark .ensures) (c .if3 .left)
 
 pub drop-out-spec : {M : Type 1} → statement M
 drop-out-spec =
     tie.close
     (tie.spec
-    (λ c. search needs) (λ c. search needs) (λ c. search needs) returns (λ c. search needs) (λ c. search needs) cast-if2 add-if2 (λ c. search needs) (λ c. search needs)
-    (λ c. search needs) (λ c. search needs) (λ c κs. search needs) (λ c. search needs) (λ c. search needs) (λ c. search needs) (λ c. search needs) shared-slice-read-if3 returns-3
-    add-t17 returns-4)
+    place-requires used-requires returns add-step (λ c. search needs) (λ c. search needs) cast-if2 (λ c. search needs) next-requires place-requires-2 mark-requires returns-3 returns-4)

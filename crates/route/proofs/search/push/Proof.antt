@@ -1,33 +1,17 @@
--- `push` marks a node and writes the stack's three planes at the depth: four writes at places that do not meet. Assumes nothing.
-use Prim.Native.Nat.{_+_, _*_}
-use mathlib.Core.Path.{_≡_}
-use native.Mathlib.Omega.{arith}
+-- `push` marks a node and sets an entry of the stack. Assumes nothing.
 use denote.Ref.{now}
-use lib.ListN.{length-set}
-use Rattle.route.proofs.SearchBytes.{pushed}
+use Rattle.network.specs.Store.{pointOf}
+use Rattle.route.proofs.SearchFinds.{pushed-by}
 use borrow.Author.Needs.{needs}
 use Rattle.route.proofs.search.push.Statement.{statement}
 use Rattle.route.proofs.search.push.Tie as tie
-
-slice-write-store-2 : tie.Need-slice-write-store-2
-slice-write-store-2 c = simp length-set (omega arith)
-
-slice-write-store-3 : tie.Need-slice-write-store-3
-slice-write-store-3 c = simp length-set (omega arith)
-
-slice-write-store-4 : tie.Need-slice-write-store-4
-slice-write-store-4 c = simp length-set (omega arith)
+mod Places
+use Places.*
 
 returns : tie.Need-returns
-returns c =
-    let a = c .args in
-    let e : a .k + a .step * a .n + a .cell ≡ 1 * a .k + (a .step * a .n + a .cell) = omega arith in
-    rw e (pushed (a .k) (now (a .store)) (a .step * a .n + a .cell) (a .depth) (a .cell) (a .step) (a .via) (a .stamp) (omega arith) (omega arith) (omega arith))
+returns c = let a = slice-known3→start c .args in
+    pushed-by (a .grid) (now (a .store)) (a .depth) (a .via) (a .stamp) (pointOf (a .node)) (slice-known3→place c .place .ensures) (slice-known3→set-mark c .set-mark .ensures)
+    (slice-known3→set-position c .set-position .ensures)
 
 pub push-spec : {M : Type 1} → statement M
-push-spec =
-    tie.close
-    (tie.spec
-    (λ c. search needs) (λ c. search needs) (λ c. search needs) (λ c. search needs) (λ c. search needs) (λ c. search needs) (λ c. search needs) slice-write-store-2
-    (λ c. search needs) (λ c. search needs) (λ c. search needs) slice-write-store-3 (λ c. search needs) (λ c. search needs) (λ c. search needs) slice-write-store-4
-    (λ c. search needs) returns)
+push-spec = tie.close (tie.spec (λ c κs. search needs) (λ c κs. search needs) (λ c κs. search needs) (λ c. search needs) returns)

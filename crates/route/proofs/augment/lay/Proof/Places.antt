@@ -1,120 +1,105 @@
 -- The earlier places that the proof of `lay` names: `x→y c` is what is known at y, seen from the place x.
 -- Made of the code by proof-names, which reads the lists below when the code has changed.
 -- All places in the code's order, each behind the one in front of it; where it is behind another, `X<Y` names that:
--- Start After-slice-known After-get-arg After-get After-get-arg2 After-get2 After-get-arg3 After-get3 After-get-arg4 After-get4 Then1 After-get-arg5 After-get5 Else1<After-get4
--- Joined1<After-get4 After-put-arg After-put After-store After-slice-known2 After-put-arg2 After-put2 After-store2 After-slice-known3 After-put-arg3 After-put3 After-store3
--- After-slice-known4 After-put-arg4 After-put4 After-store4 After-slice-known5
+-- Start After-slice-known After-position-arg After-position After-position-arg2 After-position2 After-via-arg After-via After-by-way After-place After-set-next-arg After-set-next
+-- After-store After-slice-known2 After-set-prev-arg After-place2 After-set-prev After-store2 After-slice-known3 After-set-used-arg After-stays After-set-used After-store3
+-- After-slice-known4 After-set-mark-arg After-place3 After-set-mark After-store4 After-slice-known5
 -- The needs, each with its place:
--- get-requires@After-get-arg get-requires-2@After-get-arg2 add-get@After-get-arg3 get-requires-3@After-get-arg3 add-get-2@After-get-arg4 get-requires-4@After-get-arg4
--- mul-v@After-get4 add-v@After-get4 add-get-3@After-get-arg5 get-requires-5@After-get-arg5 sub-u@After-get5 mul-u@After-get5 add-u@After-get5 put-requires@After-put-arg
--- put-requires-2@After-put-arg2 put-requires-3@After-put-arg3 mul-put@After-put-arg4 add-put@After-put-arg4 put-requires-4@After-put-arg4 same-length@After-slice-known5
+-- position-requires@After-position-arg add-position@After-position-arg2 position-requires-2@After-position-arg2 add-via@After-via-arg via-requires@After-via-arg
+-- by-way-requires@After-via place-requires@After-by-way set-next-requires@After-set-next-arg place-requires-2@After-set-prev-arg set-prev-requires@After-place2
+-- stays-requires@After-set-used-arg set-used-requires@After-stays place-requires-3@After-set-mark-arg set-mark-requires@After-place3 same-length@After-slice-known5
 -- returns@After-slice-known5
 use Rattle.route.proofs.augment.lay.Tie as tie
 
-abbrev pub get-arg→start : tie.After-get-arg → tie.Start
-get-arg→start c = c .before .before
+abbrev pub via→position2 : tie.After-via → tie.After-position2
+via→position2 c = c .before .before
 
-abbrev pub get-arg2→start : tie.After-get-arg2 → tie.Start
-get-arg2→start c = get-arg→start (c .before .before)
+abbrev pub via→position : tie.After-via → tie.After-position
+via→position c = via→position2 c .before .before
 
-abbrev pub get-arg3→start : tie.After-get-arg3 → tie.Start
-get-arg3→start c = get-arg2→start (c .before .before)
+abbrev pub via→start : tie.After-via → tie.Start
+via→start c = via→position c .before .before .before
 
-abbrev pub get-arg4→start : tie.After-get-arg4 → tie.Start
-get-arg4→start c = get-arg3→start (c .before .before)
+abbrev pub by-way→via : tie.After-by-way → tie.After-via
+by-way→via c = c .before
 
-abbrev pub get4→get3 : tie.After-get4 → tie.After-get3
-get4→get3 c = c .before .before
+abbrev pub by-way→position2 : tie.After-by-way → tie.After-position2
+by-way→position2 c = via→position2 (by-way→via c)
 
-abbrev pub get4→get2 : tie.After-get4 → tie.After-get2
-get4→get2 c = get4→get3 c .before .before
+abbrev pub by-way→position : tie.After-by-way → tie.After-position
+by-way→position c = via→position (by-way→via c)
 
-abbrev pub get4→get : tie.After-get4 → tie.After-get
-get4→get c = get4→get2 c .before .before
+abbrev pub by-way→start : tie.After-by-way → tie.Start
+by-way→start c = via→start (by-way→via c)
 
-abbrev pub get4→start : tie.After-get4 → tie.Start
-get4→start c = get-arg4→start (c .before)
+abbrev pub set-next-arg→place : tie.After-set-next-arg → tie.After-place
+set-next-arg→place c = c .before
 
-abbrev pub get-arg5→start : tie.After-get-arg5 → tie.Start
-get-arg5→start c = get4→start (c .before .before)
+abbrev pub set-next-arg→by-way : tie.After-set-next-arg → tie.After-by-way
+set-next-arg→by-way c = set-next-arg→place c .before
 
-abbrev pub get5→then1 : tie.After-get5 → tie.Then1
-get5→then1 c = c .before .before
+abbrev pub set-next-arg→position : tie.After-set-next-arg → tie.After-position
+set-next-arg→position c = by-way→position (set-next-arg→by-way c)
 
-abbrev pub get5→get4 : tie.After-get5 → tie.After-get4
-get5→get4 c = get5→then1 c .before
+abbrev pub set-next-arg→start : tie.After-set-next-arg → tie.Start
+set-next-arg→start c = by-way→start (set-next-arg→by-way c)
 
-abbrev pub get5→start : tie.After-get5 → tie.Start
-get5→start c = get4→start (get5→get4 c)
+abbrev pub set-prev-arg→by-way : tie.After-set-prev-arg → tie.After-by-way
+set-prev-arg→by-way c = set-next-arg→by-way (c .before .before .before .before)
 
-abbrev pub joined1→get4 : tie.Joined1 → tie.After-get4
-joined1→get4 c = c .before
+abbrev pub place2→by-way : tie.After-place2 → tie.After-by-way
+place2→by-way c = set-prev-arg→by-way (c .before)
 
-abbrev pub joined1→start : tie.Joined1 → tie.Start
-joined1→start c = get4→start (joined1→get4 c)
+abbrev pub place2→via : tie.After-place2 → tie.After-via
+place2→via c = by-way→via (place2→by-way c)
 
-abbrev pub put-arg→joined1 : tie.After-put-arg → tie.Joined1
-put-arg→joined1 c = c .before
+abbrev pub place2→position : tie.After-place2 → tie.After-position
+place2→position c = by-way→position (place2→by-way c)
 
-abbrev pub put-arg→get : tie.After-put-arg → tie.After-get
-put-arg→get c = get4→get (c .before .before)
+abbrev pub stays→place : tie.After-stays → tie.After-place
+stays→place c = set-next-arg→place (c .before .before .before .before .before .before .before .before .before .before)
 
-abbrev pub put-arg→start : tie.After-put-arg → tie.Start
-put-arg→start c = joined1→start (put-arg→joined1 c)
+abbrev pub stays→by-way : tie.After-stays → tie.After-by-way
+stays→by-way c = stays→place c .before
 
-abbrev pub put-arg2→put : tie.After-put-arg2 → tie.After-put
-put-arg2→put c = c .before .before .before
+abbrev pub set-mark-arg→by-way : tie.After-set-mark-arg → tie.After-by-way
+set-mark-arg→by-way c = stays→by-way (c .before .before .before .before)
 
-abbrev pub put-arg2→joined1 : tie.After-put-arg2 → tie.Joined1
-put-arg2→joined1 c = put-arg2→put c .before .before
+abbrev pub place3→set-used : tie.After-place3 → tie.After-set-used
+place3→set-used c = c .before .before .before .before
 
-abbrev pub put-arg2→get4 : tie.After-put-arg2 → tie.After-get4
-put-arg2→get4 c = joined1→get4 (put-arg2→joined1 c)
+abbrev pub place3→set-prev : tie.After-place3 → tie.After-set-prev
+place3→set-prev c = place3→set-used c .before .before .before .before .before
 
-abbrev pub put-arg2→start : tie.After-put-arg2 → tie.Start
-put-arg2→start c = joined1→start (put-arg2→joined1 c)
+abbrev pub place3→set-next : tie.After-place3 → tie.After-set-next
+place3→set-next c = place3→set-prev c .before .before .before .before .before
 
-abbrev pub put-arg3→put2 : tie.After-put-arg3 → tie.After-put2
-put-arg3→put2 c = c .before .before .before
+abbrev pub place3→by-way : tie.After-place3 → tie.After-by-way
+place3→by-way c = set-mark-arg→by-way (c .before)
 
-abbrev pub put-arg3→put : tie.After-put-arg3 → tie.After-put
-put-arg3→put c = put-arg3→put2 c .before .before .before .before
+abbrev pub slice-known5→set-mark : tie.After-slice-known5 → tie.After-set-mark
+slice-known5→set-mark c = c .before .before
 
-abbrev pub put-arg3→joined1 : tie.After-put-arg3 → tie.Joined1
-put-arg3→joined1 c = put-arg3→put c .before .before
+abbrev pub slice-known5→place3 : tie.After-slice-known5 → tie.After-place3
+slice-known5→place3 c = slice-known5→set-mark c .before
 
-abbrev pub put-arg3→start : tie.After-put-arg3 → tie.Start
-put-arg3→start c = joined1→start (put-arg3→joined1 c)
+abbrev pub slice-known5→set-used : tie.After-slice-known5 → tie.After-set-used
+slice-known5→set-used c = place3→set-used (slice-known5→place3 c)
 
-abbrev pub put-arg4→put3 : tie.After-put-arg4 → tie.After-put3
-put-arg4→put3 c = c .before .before .before
+abbrev pub slice-known5→stays : tie.After-slice-known5 → tie.After-stays
+slice-known5→stays c = slice-known5→set-used c .before
 
-abbrev pub put-arg4→put2 : tie.After-put-arg4 → tie.After-put2
-put-arg4→put2 c = put-arg4→put3 c .before .before .before .before
+abbrev pub slice-known5→set-prev : tie.After-slice-known5 → tie.After-set-prev
+slice-known5→set-prev c = place3→set-prev (slice-known5→place3 c)
 
-abbrev pub put-arg4→put : tie.After-put-arg4 → tie.After-put
-put-arg4→put c = put-arg3→put (c .before .before .before .before)
+abbrev pub slice-known5→place2 : tie.After-slice-known5 → tie.After-place2
+slice-known5→place2 c = slice-known5→set-prev c .before
 
-abbrev pub put-arg4→get4 : tie.After-put-arg4 → tie.After-get4
-put-arg4→get4 c = put-arg4→put c .before .before .before
+abbrev pub slice-known5→set-next : tie.After-slice-known5 → tie.After-set-next
+slice-known5→set-next c = place3→set-next (slice-known5→place3 c)
 
-abbrev pub put-arg4→start : tie.After-put-arg4 → tie.Start
-put-arg4→start c = get4→start (put-arg4→get4 c)
+abbrev pub slice-known5→place : tie.After-slice-known5 → tie.After-place
+slice-known5→place c = stays→place (slice-known5→stays c)
 
-abbrev pub slice-known5→put4 : tie.After-slice-known5 → tie.After-put4
-slice-known5→put4 c = c .before .before
-
-abbrev pub slice-known5→put3 : tie.After-slice-known5 → tie.After-put3
-slice-known5→put3 c = put-arg4→put3 (c .before .before .before)
-
-abbrev pub slice-known5→put2 : tie.After-slice-known5 → tie.After-put2
-slice-known5→put2 c = put-arg4→put2 (c .before .before .before)
-
-abbrev pub slice-known5→put : tie.After-slice-known5 → tie.After-put
-slice-known5→put c = put-arg4→put (c .before .before .before)
-
-abbrev pub slice-known5→joined1 : tie.After-slice-known5 → tie.Joined1
-slice-known5→joined1 c = slice-known5→put c .before .before
-
-abbrev pub slice-known5→get4 : tie.After-slice-known5 → tie.After-get4
-slice-known5→get4 c = joined1→get4 (slice-known5→joined1 c)
+abbrev pub slice-known5→by-way : tie.After-slice-known5 → tie.After-by-way
+slice-known5→by-way c = place3→by-way (slice-known5→place3 c)

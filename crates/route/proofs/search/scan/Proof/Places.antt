@@ -4,8 +4,8 @@
 -- Start After-shared-slice-known After-shared-slice-known2 After-shared-slice-known3 At-loop In-loop After-loop<At-loop After-shared-slice-known4<In-loop After-wide After-look
 -- At-match-keys1 After-enum-told At-match-keys2<After-look After-enum-told2
 -- The needs, each with its place:
--- loop-holds@After-shared-slice-known3 add-wide@In-loop shared-slice-read-wide@After-shared-slice-known4 wide-requires@After-shared-slice-known4 look-requires@After-wide
--- enum-told@At-match-keys1 returns@After-enum-told enum-told-2@At-match-keys2 add-i@After-enum-told2 loop-less@After-enum-told2 loop-again@After-enum-told2 returns-2@After-loop
+-- loop-holds@After-shared-slice-known3 shared-slice-read-wide@After-shared-slice-known4 wide-requires@After-shared-slice-known4 look-requires@After-wide enum-told@At-match-keys1
+-- returns@After-enum-told enum-told-2@At-match-keys2 add-i@After-enum-told2 loop-less@After-enum-told2 loop-again@After-enum-told2 returns-2@After-loop
 use Rattle.route.proofs.search.scan.Tie as tie
 
 module _ {Inv : tie.InvT-loop} {μ : tie.MeasureT-loop} where
@@ -15,8 +15,11 @@ module _ {Inv : tie.InvT-loop} {μ : tie.MeasureT-loop} where
   abbrev pub after-loop→start : tie.After-loop Inv μ → tie.Start Inv μ
   after-loop→start c = after-loop→loop c .before .before .before .before
 
+  abbrev pub wide→in-loop : tie.After-wide Inv μ → tie.In-loop Inv μ
+  wide→in-loop c = c .before .before
+
   abbrev pub wide→loop : tie.After-wide Inv μ → tie.At-loop Inv μ
-  wide→loop c = c .before .before .before
+  wide→loop c = wide→in-loop c .before
 
   abbrev pub wide→start : tie.After-wide Inv μ → tie.Start Inv μ
   wide→start c = wide→loop c .before .before .before .before
@@ -28,7 +31,7 @@ module _ {Inv : tie.InvT-loop} {μ : tie.MeasureT-loop} where
   enum-told→wide c = enum-told→look c .before
 
   abbrev pub enum-told→in-loop : tie.After-enum-told Inv μ → tie.In-loop Inv μ
-  enum-told→in-loop c = enum-told→wide c .before .before
+  enum-told→in-loop c = wide→in-loop (enum-told→wide c)
 
   abbrev pub enum-told→loop : tie.After-enum-told Inv μ → tie.At-loop Inv μ
   enum-told→loop c = wide→loop (enum-told→wide c)

@@ -1,24 +1,25 @@
 -- The earlier places that the proof of `search` names: `x→y c` is what is known at y, seen from the place x.
 -- Made of the code by proof-names, which reads the lists below when the code has changed.
 -- All places in the code's order, each behind the one in front of it; where it is behind another, `X<Y` names that:
--- Start After-shared-slice-known After-shared-slice-known2 After-shared-slice-known3 After-shared-slice-known4 After-shared-slice-known5 After-shared-slice-known6
--- After-slice-known After-push-arg After-push After-store After-slice-known2 At-loop In-loop After-loop<At-loop Then1<In-loop After-shared-slice-known7 Then2
--- Else2<After-shared-slice-known7 Else1<In-loop Joined1<In-loop After-guess-arg After-guess At-match-keys1 After-enum-told After-find-arg After-find At-match-keys2<After-guess
--- After-enum-told2 At-match-came<After-guess At-match2-keys1 After-found After-known-told At-match2-keys2<At-match-came After-enum-told3 Then3 After-slice-known3 After-wide
--- After-slice-known4 After-wide2 Else3<After-enum-told3 After-push-arg2<After-known-told After-push2 After-store2 After-slice-known5
+-- Start After-shared-slice-known After-shared-slice-known2 After-shared-slice-known3 After-shared-slice-known4 After-shared-slice-known5 After-slice-known After-push-arg
+-- After-push After-store After-slice-known2 At-loop In-loop After-loop<At-loop After-struct-known<In-loop Then1 After-shared-slice-known6 Then2 Else2<After-shared-slice-known6
+-- Else1<After-struct-known Joined1<After-struct-known After-row After-guess-arg After-shared-slice-known7 After-wide After-guess At-match-keys1 After-enum-told After-find-arg
+-- After-find At-match-keys2<After-guess After-enum-told2 At-match-came<After-guess At-match2-keys1 After-found After-known-told At-match2-keys2<At-match-came After-enum-told3
+-- Then3 After-position-arg After-position Else3<After-enum-told3 After-push-arg2<After-known-told After-push2 After-store2 After-slice-known3
 -- The needs, each with its place:
--- push-requires@After-push-arg loop-holds@After-slice-known2 shared-slice-read-if2@After-shared-slice-known7 same-length@Then2 returns@Then2 guess-requires@After-guess-arg
--- enum-told@At-match-keys1 find-requires@After-find-arg enum-told-2@At-match-keys2 enum-known-found@At-match2-keys1 enum-told-3@At-match2-keys2 sub-depth@After-enum-told3
--- mul-wide@Then3 add-wide@Then3 sub-wide@Then3 slice-read-wide@After-slice-known3 wide-requires@After-slice-known3 mul-wide-2@After-wide add-wide-2@After-wide
--- sub-wide-2@After-wide slice-read-wide-2@After-slice-known4 wide-requires-2@After-slice-known4 loop-less@After-wide2 loop-again@After-wide2 loop-less-2@Else3 loop-again-2@Else3
--- push-requires-2@After-push-arg2 add-depth@After-slice-known5 loop-less-3@After-slice-known5 loop-again-3@After-slice-known5 same-length-2@After-loop returns-2@After-loop
--- Declarations that keep their `.before`, since antt rewrites in them:
--- push-requires
+-- push-requires@After-push-arg loop-holds@After-slice-known2 shared-slice-read-if2@After-shared-slice-known6 same-length@Then2 returns@Then2 row-requires@Joined1
+-- shared-slice-read-wide@After-shared-slice-known7 wide-requires@After-shared-slice-known7 guess-requires@After-wide enum-told@At-match-keys1 find-requires@After-find-arg
+-- enum-told-2@At-match-keys2 enum-known-found@At-match2-keys1 enum-told-3@At-match2-keys2 sub-depth@After-enum-told3 sub-position@After-position-arg
+-- position-requires@After-position-arg loop-less@After-position loop-again@After-position loop-less-2@Else3 loop-again-2@Else3 push-requires-2@After-push-arg2
+-- add-depth@After-slice-known3 loop-less-3@After-slice-known3 loop-again-3@After-slice-known3 same-length-2@After-loop returns-2@After-loop
 use Rattle.route.proofs.search.search.Tie as tie
 
 module _ {Inv : tie.InvT-loop} {μ : tie.MeasureT-loop} where
+  abbrev pub push-arg→start : tie.After-push-arg Inv μ → tie.Start Inv μ
+  push-arg→start c = c .before .before .before .before .before .before .before
+
   abbrev pub push→start : tie.After-push Inv μ → tie.Start Inv μ
-  push→start c = c .before .before .before .before .before .before .before .before .before
+  push→start c = push-arg→start (c .before)
 
   abbrev pub slice-known2→push : tie.After-slice-known2 Inv μ → tie.After-push Inv μ
   slice-known2→push c = c .before .before
@@ -41,17 +42,17 @@ module _ {Inv : tie.InvT-loop} {μ : tie.MeasureT-loop} where
   abbrev pub after-loop→push : tie.After-loop Inv μ → tie.After-push Inv μ
   after-loop→push c = slice-known2→push (c .before .before)
 
-  abbrev pub shared-slice-known7→in-loop : tie.After-shared-slice-known7 Inv μ → tie.In-loop Inv μ
-  shared-slice-known7→in-loop c = c .before .before
+  abbrev pub shared-slice-known6→in-loop : tie.After-shared-slice-known6 Inv μ → tie.In-loop Inv μ
+  shared-slice-known6→in-loop c = c .before .before .before
 
-  abbrev pub shared-slice-known7→push : tie.After-shared-slice-known7 Inv μ → tie.After-push Inv μ
-  shared-slice-known7→push c = in-loop→push (shared-slice-known7→in-loop c)
+  abbrev pub shared-slice-known6→push : tie.After-shared-slice-known6 Inv μ → tie.After-push Inv μ
+  shared-slice-known6→push c = in-loop→push (shared-slice-known6→in-loop c)
 
   abbrev pub then2→then1 : tie.Then2 Inv μ → tie.Then1 Inv μ
   then2→then1 c = c .before .before
 
   abbrev pub then2→in-loop : tie.Then2 Inv μ → tie.In-loop Inv μ
-  then2→in-loop c = shared-slice-known7→in-loop (c .before)
+  then2→in-loop c = shared-slice-known6→in-loop (c .before)
 
   abbrev pub then2→loop : tie.Then2 Inv μ → tie.At-loop Inv μ
   then2→loop c = in-loop→loop (then2→in-loop c)
@@ -60,7 +61,7 @@ module _ {Inv : tie.InvT-loop} {μ : tie.MeasureT-loop} where
   then2→push c = in-loop→push (then2→in-loop c)
 
   abbrev pub joined1→in-loop : tie.Joined1 Inv μ → tie.In-loop Inv μ
-  joined1→in-loop c = c .before
+  joined1→in-loop c = c .before .before
 
   abbrev pub joined1→loop : tie.Joined1 Inv μ → tie.At-loop Inv μ
   joined1→loop c = in-loop→loop (joined1→in-loop c)
@@ -68,14 +69,26 @@ module _ {Inv : tie.InvT-loop} {μ : tie.MeasureT-loop} where
   abbrev pub joined1→push : tie.Joined1 Inv μ → tie.After-push Inv μ
   joined1→push c = in-loop→push (joined1→in-loop c)
 
-  abbrev pub guess-arg→in-loop : tie.After-guess-arg Inv μ → tie.In-loop Inv μ
-  guess-arg→in-loop c = joined1→in-loop (c .before)
+  abbrev pub shared-slice-known7→in-loop : tie.After-shared-slice-known7 Inv μ → tie.In-loop Inv μ
+  shared-slice-known7→in-loop c = joined1→in-loop (c .before .before .before)
 
-  abbrev pub guess-arg→push : tie.After-guess-arg Inv μ → tie.After-push Inv μ
-  guess-arg→push c = in-loop→push (guess-arg→in-loop c)
+  abbrev pub shared-slice-known7→push : tie.After-shared-slice-known7 Inv μ → tie.After-push Inv μ
+  shared-slice-known7→push c = in-loop→push (shared-slice-known7→in-loop c)
+
+  abbrev pub wide→row : tie.After-wide Inv μ → tie.After-row Inv μ
+  wide→row c = c .before .before .before
+
+  abbrev pub wide→in-loop : tie.After-wide Inv μ → tie.In-loop Inv μ
+  wide→in-loop c = shared-slice-known7→in-loop (c .before)
+
+  abbrev pub wide→push : tie.After-wide Inv μ → tie.After-push Inv μ
+  wide→push c = in-loop→push (wide→in-loop c)
+
+  abbrev pub find-arg→row : tie.After-find-arg Inv μ → tie.After-row Inv μ
+  find-arg→row c = wide→row (c .before .before .before .before)
 
   abbrev pub find-arg→in-loop : tie.After-find-arg Inv μ → tie.In-loop Inv μ
-  find-arg→in-loop c = guess-arg→in-loop (c .before .before .before .before)
+  find-arg→in-loop c = find-arg→row c .before .before .before
 
   abbrev pub find-arg→push : tie.After-find-arg Inv μ → tie.After-push Inv μ
   find-arg→push c = in-loop→push (find-arg→in-loop c)
@@ -83,29 +96,14 @@ module _ {Inv : tie.InvT-loop} {μ : tie.MeasureT-loop} where
   abbrev pub match-came→guess : tie.At-match-came Inv μ → tie.After-guess Inv μ
   match-came→guess c = c .before
 
-  abbrev pub found→match-came : tie.After-found Inv μ → tie.At-match-came Inv μ
-  found→match-came c = c .before .before
-
-  abbrev pub found→joined1 : tie.After-found Inv μ → tie.Joined1 Inv μ
-  found→joined1 c = found→match-came c .before .before .before
-
-  abbrev pub found→in-loop : tie.After-found Inv μ → tie.In-loop Inv μ
-  found→in-loop c = joined1→in-loop (found→joined1 c)
-
-  abbrev pub found→loop : tie.After-found Inv μ → tie.At-loop Inv μ
-  found→loop c = joined1→loop (found→joined1 c)
-
-  abbrev pub found→push : tie.After-found Inv μ → tie.After-push Inv μ
-  found→push c = joined1→push (found→joined1 c)
-
-  abbrev pub found→start : tie.After-found Inv μ → tie.Start Inv μ
-  found→start c = in-loop→start (found→in-loop c)
-
   abbrev pub enum-told3→match-came : tie.After-enum-told3 Inv μ → tie.At-match-came Inv μ
   enum-told3→match-came c = c .before .before
 
+  abbrev pub enum-told3→row : tie.After-enum-told3 Inv μ → tie.After-row Inv μ
+  enum-told3→row c = wide→row (c .before .before .before .before)
+
   abbrev pub enum-told3→joined1 : tie.After-enum-told3 Inv μ → tie.Joined1 Inv μ
-  enum-told3→joined1 c = enum-told3→match-came c .before .before .before
+  enum-told3→joined1 c = enum-told3→row c .before
 
   abbrev pub enum-told3→in-loop : tie.After-enum-told3 Inv μ → tie.In-loop Inv μ
   enum-told3→in-loop c = joined1→in-loop (enum-told3→joined1 c)
@@ -119,17 +117,29 @@ module _ {Inv : tie.InvT-loop} {μ : tie.MeasureT-loop} where
   abbrev pub enum-told3→start : tie.After-enum-told3 Inv μ → tie.Start Inv μ
   enum-told3→start c = in-loop→start (enum-told3→in-loop c)
 
-  abbrev pub wide2→wide : tie.After-wide2 Inv μ → tie.After-wide Inv μ
-  wide2→wide c = c .before .before
+  abbrev pub position-arg→then3 : tie.After-position-arg Inv μ → tie.Then3 Inv μ
+  position-arg→then3 c = c .before
 
-  abbrev pub wide2→enum-told3 : tie.After-wide2 Inv μ → tie.After-enum-told3 Inv μ
-  wide2→enum-told3 c = wide2→wide c .before .before .before
+  abbrev pub position-arg→in-loop : tie.After-position-arg Inv μ → tie.In-loop Inv μ
+  position-arg→in-loop c = enum-told3→in-loop (c .before .before)
 
-  abbrev pub wide2→loop : tie.After-wide2 Inv μ → tie.At-loop Inv μ
-  wide2→loop c = enum-told3→loop (wide2→enum-told3 c)
+  abbrev pub position-arg→push : tie.After-position-arg Inv μ → tie.After-push Inv μ
+  position-arg→push c = in-loop→push (position-arg→in-loop c)
+
+  abbrev pub position→enum-told3 : tie.After-position Inv μ → tie.After-enum-told3 Inv μ
+  position→enum-told3 c = c .before .before .before
+
+  abbrev pub position→in-loop : tie.After-position Inv μ → tie.In-loop Inv μ
+  position→in-loop c = enum-told3→in-loop (position→enum-told3 c)
+
+  abbrev pub position→loop : tie.After-position Inv μ → tie.At-loop Inv μ
+  position→loop c = enum-told3→loop (position→enum-told3 c)
 
   abbrev pub else3→enum-told3 : tie.Else3 Inv μ → tie.After-enum-told3 Inv μ
   else3→enum-told3 c = c .before
+
+  abbrev pub else3→in-loop : tie.Else3 Inv μ → tie.In-loop Inv μ
+  else3→in-loop c = enum-told3→in-loop (else3→enum-told3 c)
 
   abbrev pub else3→loop : tie.Else3 Inv μ → tie.At-loop Inv μ
   else3→loop c = enum-told3→loop (else3→enum-told3 c)
@@ -137,26 +147,38 @@ module _ {Inv : tie.InvT-loop} {μ : tie.MeasureT-loop} where
   abbrev pub push-arg2→found : tie.After-push-arg2 Inv μ → tie.After-found Inv μ
   push-arg2→found c = c .before .before
 
-  abbrev pub push-arg2→loop : tie.After-push-arg2 Inv μ → tie.At-loop Inv μ
-  push-arg2→loop c = found→loop (push-arg2→found c)
+  abbrev pub push-arg2→match-came : tie.After-push-arg2 Inv μ → tie.At-match-came Inv μ
+  push-arg2→match-came c = push-arg2→found c .before .before
 
-  abbrev pub slice-known5→push2 : tie.After-slice-known5 Inv μ → tie.After-push2 Inv μ
-  slice-known5→push2 c = c .before .before
+  abbrev pub push-arg2→row : tie.After-push-arg2 Inv μ → tie.After-row Inv μ
+  push-arg2→row c = push-arg2→match-came c .before .before .before .before .before
 
-  abbrev pub slice-known5→found : tie.After-slice-known5 Inv μ → tie.After-found Inv μ
-  slice-known5→found c = slice-known5→push2 c .before .before .before
+  abbrev pub push-arg2→joined1 : tie.After-push-arg2 Inv μ → tie.Joined1 Inv μ
+  push-arg2→joined1 c = push-arg2→row c .before
 
-  abbrev pub slice-known5→match-came : tie.After-slice-known5 Inv μ → tie.At-match-came Inv μ
-  slice-known5→match-came c = found→match-came (slice-known5→found c)
+  abbrev pub push-arg2→in-loop : tie.After-push-arg2 Inv μ → tie.In-loop Inv μ
+  push-arg2→in-loop c = joined1→in-loop (push-arg2→joined1 c)
 
-  abbrev pub slice-known5→joined1 : tie.After-slice-known5 Inv μ → tie.Joined1 Inv μ
-  slice-known5→joined1 c = found→joined1 (slice-known5→found c)
+  abbrev pub push-arg2→push : tie.After-push-arg2 Inv μ → tie.After-push Inv μ
+  push-arg2→push c = joined1→push (push-arg2→joined1 c)
 
-  abbrev pub slice-known5→in-loop : tie.After-slice-known5 Inv μ → tie.In-loop Inv μ
-  slice-known5→in-loop c = found→in-loop (slice-known5→found c)
+  abbrev pub slice-known3→push2 : tie.After-slice-known3 Inv μ → tie.After-push2 Inv μ
+  slice-known3→push2 c = c .before .before
 
-  abbrev pub slice-known5→loop : tie.After-slice-known5 Inv μ → tie.At-loop Inv μ
-  slice-known5→loop c = found→loop (slice-known5→found c)
+  abbrev pub slice-known3→found : tie.After-slice-known3 Inv μ → tie.After-found Inv μ
+  slice-known3→found c = slice-known3→push2 c .before .before .before
 
-  abbrev pub slice-known5→push : tie.After-slice-known5 Inv μ → tie.After-push Inv μ
-  slice-known5→push c = found→push (slice-known5→found c)
+  abbrev pub slice-known3→match-came : tie.After-slice-known3 Inv μ → tie.At-match-came Inv μ
+  slice-known3→match-came c = slice-known3→found c .before .before
+
+  abbrev pub slice-known3→row : tie.After-slice-known3 Inv μ → tie.After-row Inv μ
+  slice-known3→row c = push-arg2→row (c .before .before .before)
+
+  abbrev pub slice-known3→joined1 : tie.After-slice-known3 Inv μ → tie.Joined1 Inv μ
+  slice-known3→joined1 c = slice-known3→row c .before
+
+  abbrev pub slice-known3→in-loop : tie.After-slice-known3 Inv μ → tie.In-loop Inv μ
+  slice-known3→in-loop c = joined1→in-loop (slice-known3→joined1 c)
+
+  abbrev pub slice-known3→push : tie.After-slice-known3 Inv μ → tie.After-push Inv μ
+  slice-known3→push c = joined1→push (slice-known3→joined1 c)

@@ -1,17 +1,16 @@
 -- The earlier places that the proof of `serve` names: `x→y c` is what is known at y, seen from the place x.
 -- Made of the code by proof-names, which reads the lists below when the code has changed.
 -- All places in the code's order, each behind the one in front of it; where it is behind another, `X<Y` names that:
--- Start After-shared-slice-known After-shared-slice-known2 After-shared-slice-known3 After-shared-slice-known4 After-shared-slice-known5 After-shared-slice-known6
--- After-slice-known After-search-arg After-search After-store After-slice-known2 Then1 After-augment-arg After-augment After-store2 After-slice-known3 Else1<After-slice-known2
--- Then2 Else2<Else1 After-search-arg2 After-search2 After-store3 After-slice-known4 Then3 After-augment-arg2 After-augment2 After-store4 After-slice-known5
--- Else3<After-slice-known4
+-- Start After-shared-slice-known After-shared-slice-known2 After-shared-slice-known3 After-shared-slice-known4 After-shared-slice-known5 After-slice-known After-search-arg
+-- After-search After-store After-slice-known2 Then1 After-augment-arg After-augment After-store2 After-slice-known3 Else1<After-slice-known2 Then2 Else2<Else1 After-search-arg2
+-- After-search2 After-store3 After-slice-known4 Then3 After-augment-arg2 After-augment2 After-store4 After-slice-known5 Else3<After-slice-known4
 -- The needs, each with its place:
 -- search-requires@After-search-arg augment-requires@After-augment-arg same-length@After-slice-known3 returns@After-slice-known3 same-length-2@Then2 returns-2@Then2 add-again@Else2
 -- search-requires-2@After-search-arg2 augment-requires-2@After-augment-arg2 same-length-3@After-slice-known5 returns-3@After-slice-known5 same-length-4@Else3 returns-4@Else3
 use Rattle.route.proofs.serve.serve.Tie as tie
 
 abbrev pub search-arg→start : tie.After-search-arg → tie.Start
-search-arg→start c = c .before .before .before .before .before .before .before .before
+search-arg→start c = c .before .before .before .before .before .before .before
 
 abbrev pub augment-arg→then1 : tie.After-augment-arg → tie.Then1
 augment-arg→then1 c = c .before

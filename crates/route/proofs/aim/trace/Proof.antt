@@ -1,11 +1,11 @@
--- `lay` goes back along the way. Nothing rests on what it writes: the hints stay as many, and the cell is a byte. The measure is what is left of the cells. Assumes nothing.
+-- `trace` goes back along the way. Nothing rests on what it writes: the hints stay as many, and the cell is a byte. The measure is what is left of the cells. Assumes nothing.
 use Prim.Native.Nat.{_-_, _≤_, _<_}
 use mathlib.Core.Path.{_≡_}
 use lib.ListN.{length}
 use Rattle.model.specs.Limits.{maxCells}
 use borrow.Author.Needs.{needs}
-use Rattle.network.proofs.aim.lay.Statement.{statement}
-use Rattle.network.proofs.aim.lay.Tie as tie
+use Rattle.route.proofs.aim.trace.Statement.{statement}
+use Rattle.route.proofs.aim.trace.Tie as tie
 
 abbrev Inv-loop : tie.InvT-loop
 Inv-loop hint₀ to place cells c cell x₀ counter₀ hint x counter = (counter ≤ cells) × (length hint ≡ maxCells) × (x < maxCells)
@@ -13,8 +13,8 @@ Inv-loop hint₀ to place cells c cell x₀ counter₀ hint x counter = (counter
 abbrev μ-loop : tie.MeasureT-loop
 μ-loop hint₀ to place cells c cell x₀ counter₀ hint x counter = cells - counter
 
-pub lay-spec : {M : Type 1} → statement M
-lay-spec =
+pub trace-spec : {M : Type 1} → statement M
+trace-spec =
     tie.close
     (tie.spec
     Inv-loop μ-loop (λ c. search needs) (λ c. search needs) (λ c. search needs) (λ c. search needs) (λ c κs. search needs) (λ c. search needs) (λ c. search needs)

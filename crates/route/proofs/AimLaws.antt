@@ -1,12 +1,14 @@
 -- The queue of the search over the floor holds known cells only. Assumes nothing.
 use Prim.Native.Nat.{ℕ, _+_, _≤_, _<_}
-use mathlib.Core.Path.{_∙_}
+use mathlib.Core.Path.{_≡_, _∙_}
 use mathlib.Core.List.{List}
 use native.Mathlib.Omega.{arith}
-use lib.ListN.{getD, set, replicate, length-set, length-replicate}
+use lib.ListN.{length, getD, set, replicate, length-set, length-replicate}
 use Rattle.model.specs.Limits.{maxCells}
-use Rattle.network.specs.Queue.{Queue}
-use Rattle.network.proofs.TableLaws.{Entry, new, old, entry}
+use Rattle.floor.specs.Tables.{Rows, rowOf}
+use Rattle.route.specs.Finds.{Cells}
+use Rattle.route.specs.Queue.{Queue}
+use Rattle.floor.proofs.TableLaws.{Entry, new, old, entry}
 
 pub queue-more : {cells : ℕ} {queue : List ℕ} {end : ℕ} (b : ℕ) → end < cells → b < cells → Queue cells queue end → Queue cells (set queue end b) (end + 1)
 queue-more {cells} {queue} {end} b h g q = record {
@@ -25,3 +27,7 @@ queue-first {cells} b g h = queue-more b (omega arith) h none
   where
     none : Queue cells (replicate maxCells 0) 0
     none = record { size = length-replicate {A = ℕ} maxCells 0; few = g; room = omega arith; known = λ i l. absurd (omega arith) }
+
+-- A row has known cells, and no more than there can be.
+pub row-cells : {n c : ℕ} {near begin row : List ℕ} → Rows n near begin → c < n → row ≡ rowOf near begin c → Cells n row × (length row ≤ maxCells)
+row-cells {c = c} r h e = rw e (λ x i. r .known c x h i, r .few c h)
