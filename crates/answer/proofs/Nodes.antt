@@ -12,17 +12,13 @@ use Rattle.model.proofs.Basics.{and-second}
 use Rattle.model.proofs.Floor.{known-test}
 use Rattle.flow.specs.Flow.{off, to}
 use Rattle.network.specs.declared.planes.Grid.{Grid}
-use Rattle.network.specs.Store.{placeAt, usedAt, markAt, prevAt, Within, gridOf, idx, isUsed, isMarked}
+use Rattle.network.specs.Store.{placeAt, usedAt, markAt, prevAt, gridOf, idx, isUsed, isMarked}
 use Rattle.network.specs.Links.{backLink}
 use Rattle.network.specs.Holds.{Holds}
 use Rattle.network.proofs.NodeBytes.{link-off, link-to, link-of, used, unused}
-use Rattle.network.proofs.StoreBytes.{idx-below}
 use Rattle.network.proofs.Points.{point-cell}
 
 module _ {j : Job} {g : Grid} {s : List ℕ} (h : Holds j g s) (x : Point) where
-  pub within : Known j x → Within g s (placeAt g x)
-  within k = (h .room, rw (h .grid) (idx-below j {x = x} k))
-
   pub mark-is : (stamp : ℕ) → Known j x → isMarked j s stamp x ≡ eqb (markAt g s (placeAt g x)) stamp
   mark-is stamp k = rw (h .grid) (and-second (knownPoint j x) (eqb (markAt (gridOf j) s (idx j x)) stamp) (known-test j x k))
 
