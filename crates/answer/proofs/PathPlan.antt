@@ -1,202 +1,151 @@
 -- The planner's paths, one after the other: each is traced back from its call, through the flow in which no two carts trade; at the end they are a right plan. Assumes nothing.
-use Prim.Native.Nat.{ℕ, suc, _+_, _*_, _-_, _≤_, _<_}
-use mathlib.Core.Path.{_≡_, refl, sym, ap, _∙_, subst}
-use mathlib.Core.List.{List, _++_}
-use mathlib.Core.Bool.{Bool, true, false, cond}
-use native.Mathlib.Nat.{mul-le-mul-right}
+use Prim.Native.Nat.{ℕ, suc, _+_, _*_, _-_, _<_, _≤_}
+use mathlib.Core.Path.{_≡_, sym, ap, _∙_}
+use mathlib.Core.List.{List, [], map}
 use native.Mathlib.Omega.{arith}
-use lib.ListN.{length, getD, take, drop, set, length-set, List·getD-eq-default}
-use lib.Seq.{take-at, getD-set-same, getD-set-other}
+use lib.ListN.{length, getD, take, drop, set}
+use lib.Seq.{length-take-le, getD-take, set-getD, getD-set-same, getD-set-other}
+use borrow.Rule.Slice.PartMut.{mid-len}
 use Rattle.model.specs.Limits.{maxCells, maxCalls, maxSteps}
-use Rattle.model.specs.Lists.{In}
+use Rattle.model.specs.Lists.{In, NoDup, Rising}
 use Rattle.model.specs.Job.{Job, call, callOf}
-use Rattle.model.specs.Choke.{Point, point, Known}
+use Rattle.model.specs.Choke.{point}
 use Rattle.model.specs.Plan.{Path, Before}
-use Rattle.model.specs.Ready.{Ready}
 use Rattle.model.specs.Contracts.{RightPlan}
-use Rattle.model.proofs.Basics.{nope}
 use Rattle.model.proofs.Decide.{dec-lt}
-use Rattle.model.proofs.Lists.{in-getD}
-use Rattle.job.specs.Held.{Room, pathAt, pathsOf}
-use Rattle.flow.specs.Flow.{Link, off, end}
-use Rattle.network.specs.Graph.{isLift}
-use Rattle.network.specs.Store.{nodes, isUsed}
+use Rattle.model.proofs.Lists.{in-getD, rising-of}
+use Rattle.job.specs.Held.{Room, pathAt, pathsTo}
+use Rattle.job.proofs.Rows.{withRow, room-more, path-kept, path-new, paths-length, path-at, paths-in}
+use Rattle.flow.specs.Flow.{end}
+use Rattle.network.specs.declared.planes.Grid.{Grid}
 use Rattle.network.specs.Links.{backLink, onLink}
-use Rattle.network.specs.Stand.{stoodBack}
 use Rattle.network.specs.Traced.{Traced}
-use Rattle.answer.specs.Full.{FullFlow}
-use Rattle.answer.specs.Trail.{trail, Trailed}
 use Rattle.network.proofs.Plans as plans
 use Rattle.network.proofs.Plans.{starts-on-cart, flow-plan}
-use Rattle.network.proofs.NodeBytes.{used-known}
+use Rattle.network.proofs.Points.{point-cell, point-step}
+use Rattle.network.proofs.ChokeLifts.{nodeOf}
 use Rattle.network.proofs.Calm.{stood-flow, stood-calm, stood-ends}
-use Rattle.answer.proofs.PathArrays.{lift-read, deadline-read}
-use Rattle.job.proofs.Rows.{withRow, path-kept, path-new}
-use Rattle.answer.proofs.PathTrail.{trail-length, trail-ends, trail-inside, trail-start, trail-follows}
-use Rattle.answer.proofs.PathList.{values, values-length, values-in, values-rising, values-once, paths-values, calls-once}
+use Rattle.answer.specs.Full.{FullFlow}
+use Rattle.answer.specs.Trail.{backFrom, HasCart, Trail}
+use Rattle.answer.proofs.Calls.{node-read}
+use Rattle.answer.proofs.Rising.{rising-once, precedes-on, precedes-apart}
 
--- The first i paths are traced, in the order of the calls.
-pub record Written (j : Job) (order s first second rows : List ℕ) (i : ℕ) : Type 0 where
-  pub room : Room first second rows
-  pub traced : (m : ℕ) → m < i → Traced j (stoodBack (backLink j s)) (pathAt j first second rows m)
-  pub calls : (m : ℕ) → m < i → getD second m 0 ≡ getD order m 0
+-- The first i paths are traced.
+pub record Written (j : Job) (order s first lasts rows : List ℕ) (i : ℕ) : Type 0 where
+  pub room : Room first order lasts rows
+  pub short : (m : ℕ) → m < i → getD lasts m 0 < maxSteps
+  pub traced : (m : ℕ) → m < i → Traced j (backFrom j s) (pathAt first order lasts rows m)
 
-pub written-none : (j : Job) (order s first second rows : List ℕ) → Room first second rows → Written j order s first second rows 0
-written-none j order s first second rows r = record { room = r; traced = λ m h. absurd (omega arith); calls = λ m h. absurd (omega arith) }
+pub written-none : {j : Job} {order s first lasts rows : List ℕ} → Room first order lasts rows → Written j order s first lasts rows 0
+written-none r = record { room = r; short = λ m h. absurd (omega arith); traced = λ m h. absurd (omega arith) }
 
-short : (j : Job) → Ready j → (b : ℕ) → callOf j b .deadline < maxSteps
-short j r b = go (dec-lt b (length (j .calls)))
-  where
-    go : Dec (b < length (j .calls)) → callOf j b .deadline < maxSteps
-    go (yes h) = r .fit .known-calls _ (in-getD (j .calls) b (call 0 0) h) .1
-    go (no h) = let e : callOf j b ≡ call 0 0 = List·getD-eq-default (j .calls) (call 0 0) (omega arith) in rw e (omega arith)
+-- The row that is lent for a path.
+pub row-long : {first order lasts rows : List ℕ} {i : ℕ} → Room first order lasts rows → i < maxCalls
+    → length (take (i * maxSteps + maxSteps - i * maxSteps) (drop (i * maxSteps) rows)) ≡ maxSteps
+row-long {i = i} r few = mid-len (i * maxSteps) (i * maxSteps + maxSteps) _ (omega (arith, r .cells)) ∙ omega arith
 
-abbrev pathOf : ℕ → ℕ → List ℕ → Path
-pathOf a b ws = record { cart = a; call = b; cells = ws }
+module _ {j : Job} {lifts deadlines : List ℕ} {calls : ℕ} {cartOn order : List ℕ} {grid : Grid} {s : List ℕ} (g : FullFlow j lifts deadlines calls cartOn order grid s) where
+  abbrev q : ℕ → ℕ
+  q i = getD order i 0
 
-ends-used : (b c : Bool) (x : Link Point) → cond b (cond c end x) off ≡ end → b ≡ true
-ends-used true c x e = refl
-ends-used false c x e = nope (cc)
+  is-call : {i : ℕ} → i < calls → q i < length (j .calls)
+  is-call {i} more = g .ordered .known i (omega (arith, g .listed .counted))
 
-module _ {j : Job} {lifts deadlines : List ℕ} {calls : ℕ} {cartOn order s : List ℕ} {n k : ℕ} (g : FullFlow j lifts deadlines calls cartOn order s n k)
-    (i : ℕ) (more : i < calls) where
-  abbrev q : ℕ
-  q = getD order i 0
+  pub call-known : {i : ℕ} → i < calls → getD order i 0 < calls
+  call-known more = omega (arith, is-call more, g .listed .counted)
 
-  abbrev c : ℕ
-  c = callOf j q .cell
+  pub few : calls ≤ maxCalls
+  few = omega (arith, g .listed .counted, g .holds .ready .fit .few-calls)
 
-  abbrev t : ℕ
-  t = callOf j q .deadline
+  -- The next call. The code has its number, lift cell and deadline in locals.
+  module _ {i : ℕ} (more : i < calls) {u p d : ℕ} (number : u ≡ getD order i 0) (lift : p ≡ getD lifts u 0) (deadline : d ≡ getD deadlines u 0) where
+    here : point p d ≡ nodeOf (callOf j (q i))
+    here = node-read (g .listed) (call-known more) number lift deadline
 
-  abbrev cells : List ℕ
-  cells = trail (nodes j) (j .cells) s c t
+    served : onLink j s (point p d) ≡ end
+    served = ap (onLink j s) here ∙ g .full (callOf j (q i)) (in-getD (j .calls) (q i) (call 0 0) (is-call more))
 
-  is-call : q < length (j .calls)
-  is-call = g .ordered .known i (omega (arith, g .counted))
+    pub can-follow : HasCart j s (point p d)
+    can-follow = plans.lifts (stood-flow (g .holds .flow)) (point p d) (stood-ends (g .holds .flow) (point p d) served)
 
-  pub call-known : getD order i 0 < calls
-  call-known = omega (arith, is-call, g .counted)
+    by-last : d < maxSteps
+    by-last = omega (arith, ap (λ x. x .step) here, g .holds .ready .fit .known-calls (callOf j (q i)) (in-getD (j .calls) (q i) (call 0 0) (is-call more)) .1)
 
-  served : onLink j s (point c t) ≡ end
-  served = g .full (callOf j q) (in-getD (j .calls) q (call 0 0) is-call)
+    module _ {row row₀ : List ℕ} {r : ℕ} (tr : Trail j s (point p d) row₀ row r) where
+      on-cart : In r (j .carts)
+      on-cart = starts-on-cart (stood-flow (g .holds .flow)) (point r 0) (tr .starts)
 
-  used : stoodBack (backLink j s) (point c t) ≡ off → ⊥
-  used = plans.lifts (stood-flow (g .flow)) (point c t) (stood-ends (g .flow) (point c t) served)
+      pub has-cart : (r < maxCells) × (0 < getD cartOn r 0)
+      has-cart = (omega (arith, g .holds .ready .fit .known-carts r on-cart, g .holds .ready .fit .few-cells), g .carts .has-cart r on-cart)
 
-  known : Known j (point c t)
-  known = used-known j s (point c t) (ends-used (isUsed j s (point c t)) (isLift j (point c t)) _ served)
+      abbrev cart : ℕ
+      cart = getD cartOn r 0 - 1
 
-  begins : (stoodBack (backLink j s) (point (getD cells 0 0) 0) ≡ end) × (getD cells 0 0 < j .cells)
-  begins = trail-start j s (g .flow) t c (known .0) used
+      abbrev path : Path
+      path = record { cart = cart; call = q i; cells = take (suc d) row }
 
-  -- It begins on a cart's cell.
-  on-cart : 0 < getD cartOn (getD cells 0 0) 0
-  on-cart = g .carts .has-cart (getD cells 0 0) (starts-on-cart (stood-flow (g .flow)) (point (getD cells 0 0) 0) (begins .0))
+      traces : length row ≡ maxSteps → Traced j (backFrom j s) path
+      traces long =
+          let c = g .carts .cart r (g .holds .ready .fit .known-carts r on-cart) (has-cart .1) in
+          let size : length (take (suc d) row) ≡ suc d = length-take-le (suc d) row (omega (arith, by-last, long)) in
+          let due : d ≡ callOf j (q i) .deadline = point-step here in
+          record {
+            known-cart = c .0;
+            known-call = is-call more;
+            size = size ∙ ap suc due;
+            ends = ap (λ t. getD (take (suc d) row) t 0) (sym due) ∙ getD-take (suc d) row d 0 (omega arith) ∙ tr .ends ∙ point-cell here;
+            follows = λ t l. rw (getD-take (suc d) row (suc t) 0 (omega (arith, size)), getD-take (suc d) row t 0 (omega (arith, size))) (tr .follows t (omega (arith, size)));
+            starts = c .1 ∙ tr .begins ∙ sym (getD-take (suc d) row 0 0 (omega arith));
+          }
 
-  traces : (r : ℕ) → r ≡ getD cells 0 0 → Traced j (stoodBack (backLink j s)) (pathOf (getD cartOn r 0 - 1) q cells)
-  traces r e =
-      let h = g .carts .cart (getD cells 0 0) (begins .1) on-cart in
-      record {
-        known-cart = rw e (h .0);
-        known-call = is-call;
-        size = trail-length (nodes j) (j .cells) s t c;
-        ends = trail-ends (nodes j) (j .cells) s t c;
-        follows = λ m l. trail-follows j s (g .flow) t c used m (omega (arith, trail-length (nodes j) (j .cells) s t c));
-        starts = rw e (h .1);
-      }
+      pub written-more : {first lasts rows : List ℕ} → Written j order s first lasts rows i
+          → length row ≡ length (take (i * maxSteps + maxSteps - i * maxSteps) (drop (i * maxSteps) rows))
+          → Written j order s (set first i (getD cartOn r 0 - 1)) (set lasts i (getD deadlines u 0)) (withRow rows i row) (i + 1)
+      written-more {first} {lasts} {rows} w same = rw (← deadline) (record {
+        room = rw kept at (room-more (w .room) row i cart (q i) d slot same);
+        short = λ m h. short m h (dec-lt m i);
+        traced = λ m h. traced m h (dec-lt m i);
+      })
+        where
+          slot : i < maxCalls
+          slot = omega (arith, few)
 
-  -- One path more.
-  module _ {first second rows : List ℕ} (w : Written j order s first second rows i) (row : List ℕ) (r : ℕ)
-      (same : length row ≡ length (take (i * maxSteps + maxSteps - i * maxSteps) (drop (i * maxSteps) rows))) (kept : length (withRow rows i row) ≡ length rows) where
-    abbrev cart : ℕ
-    cart = getD cartOn r 0 - 1
+          kept : set order i (q i) ≡ order
+          kept = set-getD order i 0
 
-    few : i < maxCalls
-    few = omega (arith, g .counted, g .ready .fit .few-calls)
+          short : (m : ℕ) → m < i + 1 → Dec (m < i) → getD (set lasts i d) m 0 < maxSteps
+          short m h (yes l) = rw (getD-set-other lasts i m d 0 (λ e. omega arith)) (w .short m l)
+          short m h (no l) = let z : m ≡ i = omega arith in rw (z, getD-set-same lasts i d 0 (omega (arith, slot, w .room .steps))) by-last
 
-    fits : i * maxSteps + maxSteps ≤ length rows
-    fits = omega (arith, few, w .room .cells)
+          traced : (m : ℕ) → m < i + 1 → Dec (m < i) → Traced j (backFrom j s) (pathAt (set first i cart) order (set lasts i d) (withRow rows i row) m)
+          traced m h (yes l) = rw (rw kept at (path-kept (w .room) row i cart (q i) d slot same m l (w .short m l))) (w .traced m l)
+          traced m h (no l) = let z : m ≡ i = omega arith in rw (z, rw kept at (path-new (w .room) row i cart (q i) d slot same by-last)) (traces (same ∙ row-long (w .room) slot))
 
-    more-written : take (suc t) row ≡ cells → r ≡ getD cells 0 0 → Written j order s (set first i cart) (set second i q) (withRow rows i row) (i + 1)
-    more-written e f = record {
-      room = record { firsts = simp length-set (w .room .firsts); seconds = simp length-set (w .room .seconds); cells = kept ∙ w .room .cells };
-      traced = λ m h. traced m h (dec-lt m i);
-      calls = λ m h. called m h (dec-lt m i);
-    }
+  -- All paths are written.
+  module _ {first lasts rows : List ℕ} where
+    pub right-plan : {m : ℕ} → m ≡ calls → Written j order s first lasts rows m → RightPlan j (pathsTo first order lasts rows (length (j .calls)))
+    right-plan {m} e w = (
+      flow-plan j (g .holds .ready) (stood-flow (g .holds .flow)) (stood-calm (backLink j s)) (λ q h. stood-ends (g .holds .flow) (nodeOf q) (g .full q h)) ps
+          (paths-length first order lasts rows all) own (λ p i. traced p (paths-in first order lasts rows all p i)),
+      rises,
+    )
       where
-        new : pathAt j (set first i cart) (set second i q) (withRow rows i row) i ≡ pathOf cart q cells
-        new =
-            path-new j (short j (g .ready)) first second rows row i cart q fits same (omega (arith, few, w .room .firsts)) (omega (arith, few, w .room .seconds))
-            ∙ ap (pathOf cart q) e
+        all : ℕ
+        all = length (j .calls)
 
-        traced : (m : ℕ) → m < i + 1 → Dec (m < i) → Traced j (stoodBack (backLink j s)) (pathAt j (set first i cart) (set second i q) (withRow rows i row) m)
-        traced m h (yes l) = subst (Traced j (stoodBack (backLink j s))) (sym (path-kept j (short j (g .ready)) first second rows row i cart q fits same m l)) (w .traced m l)
-        traced m h (no l) = let z : m ≡ i = omega arith in rw z (subst (Traced j (stoodBack (backLink j s))) (sym new) (traces r f))
+        ps : List Path
+        ps = pathsTo first order lasts rows all
 
-        called : (m : ℕ) → m < i + 1 → Dec (m < i) → getD (set second i q) m 0 ≡ getD order m 0
-        called m h (yes l) = getD-set-other second i m q 0 (λ z. omega arith) ∙ w .calls m l
-        called m h (no l) = let z : m ≡ i = omega arith in rw z (getD-set-same second i q 0 (omega (arith, few, w .room .seconds)))
+        none : Path
+        none = record { cart = 0; call = 0; cells = [] }
 
-  -- The code has the call's number, its lift cell and its deadline in locals.
-  module _ (u p d : ℕ) (number : u ≡ getD order i 0) (lift : p ≡ getD lifts u 0) (deadline : d ≡ getD deadlines u 0) where
-    cell : p ≡ c
-    cell = lift-read j lifts deadlines calls (g .counted) (g .listed) q u p call-known number lift
+        rises : Rising (Before j) ps
+        rises = rising-of none (Before j) ps (λ k l.
+            let b : suc k < all = omega (arith, paths-length first order lasts rows all) in
+            rw (path-at first order lasts rows all k none (omega arith), path-at first order lasts rows all (suc k) none b) (g .ordered .rises k b))
 
-    due : d ≡ t
-    due = deadline-read j lifts deadlines calls (g .counted) (g .listed) q u d call-known number deadline
+        own : NoDup (map (λ p. p .call) ps)
+        own = rising-once (λ p. p .call) (Before j) (λ x y z. precedes-on j (x .call) (y .call) (z .call)) (λ x y. precedes-apart j (x .call) (y .call)) ps rises
 
-    pub can-follow : (row : List ℕ) → length row ≡ maxSteps → Trailed k n s row p d
-    can-follow row long = rw (g .size, g .width, cell, due) (record {
-      inside = trail-inside j s (g .flow) t c (known .0) used;
-      small = g .ready .fit .few-cells;
-      fits = omega (arith, mul-le-mul-right (j .cells) (known .1));
-      room = omega (arith, g .room);
-      long = omega (arith, short j (g .ready) q, long);
-    })
-
-    same-trail : trail k n s p d ≡ cells
-    same-trail = rw (g .size, g .width, cell, due)
-
-    pub has-cart : (r : ℕ) → r ≡ getD (trail k n s p d) 0 0 → (r < maxCells) × (0 < getD cartOn r 0)
-    has-cart r e =
-        let f : r ≡ getD cells 0 0 = e ∙ ap (λ l. getD l 0 0) same-trail in
-        rw f (omega (arith, begins .1, g .ready .fit .few-cells), on-cart)
-
-    pub written-more : {first second rows : List ℕ} → Written j order s first second rows i → (row row₀ : List ℕ) (r : ℕ)
-        → length row ≡ length (take (i * maxSteps + maxSteps - i * maxSteps) (drop (i * maxSteps) rows)) → length (withRow rows i row) ≡ length rows
-        → row ≡ trail k n s p d ++ drop (d + 1) row₀ → r ≡ getD (trail k n s p d) 0 0
-        → Written j order s (set first i (getD cartOn r 0 - 1)) (set second i (getD order i 0)) (withRow rows i row) (i + 1)
-    written-more w row row₀ r same kept e f =
-        more-written w row r same kept
-        (ap (take (suc t)) (e ∙ ap (λ l. l ++ drop (d + 1) row₀) same-trail) ∙ take-at cells (drop (d + 1) row₀) (suc t) (trail-length (nodes j) (j .cells) s t c))
-        (f ∙ ap (λ l. getD l 0 0) same-trail)
-
--- All paths are written.
-module _ {j : Job} {lifts deadlines : List ℕ} {calls : ℕ} {cartOn order s : List ℕ} {n k : ℕ} (g : FullFlow j lifts deadlines calls cartOn order s n k)
-    {first second rows : List ℕ} where
-  right : Written j order s first second rows (length (j .calls)) → RightPlan j (pathsOf j first second rows)
-  right w =
-      subst (RightPlan j) (sym (paths-values j first second rows all)) (
-        flow-plan j (g .ready) (stood-flow (g .flow)) (stood-calm (backLink j s)) (λ q h. stood-ends (g .flow) (point (q .cell) (q .deadline)) (g .full q h)) (values f 0 all) (values-length f 0 all) (values-once f (λ p. p .call) 0 all once) traced,
-        values-rising f (Before j) 0 all rises,
-      )
-    where
-      all : ℕ
-      all = length (j .calls)
-
-      f : ℕ → Path
-      f = pathAt j first second rows
-
-      once : (m m′ : ℕ) → 0 ≤ m → m < m′ → m′ < 0 + all → getD second m 0 ≡ getD second m′ 0 → ⊥
-      once m m′ lo l hi e =
-          calls-once j order (g .ordered) m m′ l (omega arith) (sym (w .calls m (omega arith)) ∙ e ∙ w .calls m′ (omega arith))
-
-      traced : (p : Path) → In p (values f 0 all) → Traced j (stoodBack (backLink j s)) p
-      traced p h = let (m, lo, hi, e) = values-in f 0 all p h in subst (Traced j (stoodBack (backLink j s))) (sym e) (w .traced m (omega arith))
-
-      rises : (m : ℕ) → 0 ≤ m → suc m < 0 + all → Before j (f m) (f (suc m))
-      rises m lo hi = rw (w .calls m (omega arith), w .calls (suc m) (omega arith)) (g .ordered .rises m (omega arith))
-
-  pub right-plan : (m : ℕ) → m ≡ calls → Written j order s first second rows m → RightPlan j (pathsOf j first second rows)
-  right-plan m e w = let f : m ≡ length (j .calls) = e ∙ sym (g .counted) in right (rw f at w)
+        traced : (p : Path) → (k : ℕ) × (k < all) × (p ≡ pathAt first order lasts rows k) → Traced j (backFrom j s) p
+        traced p (k, l, f) = rw f (w .traced k (omega (arith, g .listed .counted)))

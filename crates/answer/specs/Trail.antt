@@ -1,41 +1,29 @@
--- The way of a cart back from a cell at a step, as the store tells it. n is the number of cells, k that of nodes.
-use Prim.Native.Nat.{ℕ, zero, suc, _+_, _*_, _<_, _≤_}
-use mathlib.Core.List.{List, [], _∷_, _++_}
-use mathlib.Core.Bool.{cond}
-use lib.Dec.{eqb}
-use lib.ListN.{length, getD}
-use Rattle.model.specs.Limits.{maxCells}
+-- The way of a cart back from a node, in the flow that the store holds, but for two carts that would trade places: those both stand.
+use Prim.Native.Nat.{ℕ, suc, _-_, _<_}
+use mathlib.Core.Path.{_≡_}
+use mathlib.Core.List.{List}
+use lib.ListN.{getD}
+use Rattle.model.specs.Job.{Job}
+use Rattle.model.specs.Choke.{Point, point}
+use Rattle.flow.specs.Flow.{Link, off, end, to}
+use Rattle.network.specs.Links.{backLink}
+use Rattle.network.specs.Stand.{stoodBack}
 
--- where the flow has the cart on c at step t come from
-abbrev pub linked : ℕ → ℕ → List ℕ → ℕ → ℕ → ℕ
-linked k n s c t = getD s (3 * k + (t * n + c)) 0
+abbrev pub backFrom : Job → List ℕ → Point → Link Point
+backFrom j s = stoodBack (backLink j s)
 
--- The same, but where the cart then on that cell came from c, both stood.
-abbrev pub cameFrom : ℕ → ℕ → List ℕ → ℕ → ℕ → ℕ
-cameFrom k n s c t =
-    cond (eqb (getD s (t * n + linked k n s c t) 0) 0) (linked k n s c t) (cond (eqb (linked k n s (linked k n s c t) t) c) c (linked k n s c t))
+-- A cart is on the node.
+abbrev pub HasCart : Job → List ℕ → Point → Type 0
+HasCart j s x = backFrom j s x ≡ off → ⊥
 
--- The node is one of the job's, and so is the cell that its cart came from.
-pub record Linked (k n : ℕ) (s : List ℕ) (c t : ℕ) : Type 0 where
-  pub known : c < n
-  pub from-known : linked k n s c t < n
-  pub fits : t * n + n ≤ k
-  pub room : 4 * k ≤ length s
+-- It came there from the cell c.
+abbrev pub CameFrom : Job → List ℕ → Point → ℕ → Type 0
+CameFrom j s x c = backFrom j s x ≡ to (point c (x .step - 1))
 
--- the cells from step 0 to t, the last of them c
-abbrev pub trail : ℕ → ℕ → List ℕ → ℕ → ℕ → List ℕ
-trail k n s c zero = c ∷ []
-trail k n s c (suc t) = trail k n s (cameFrom k n s c (suc t)) t ++ (c ∷ [])
-
--- All of them are cells of the floor, and so is each that the flow tells.
-abbrev pub Inside : ℕ → ℕ → List ℕ → ℕ → ℕ → Type 0
-Inside k n s c zero = c < n
-Inside k n s c (suc t) = (c < n) × (linked k n s c (suc t) < n) × Inside k n s (cameFrom k n s c (suc t)) t
-
--- The trail can be read, and the row has room for it.
-pub record Trailed (k n : ℕ) (s row : List ℕ) (c t : ℕ) : Type 0 where
-  pub inside : Inside k n s c t
-  pub small : n ≤ maxCells
-  pub fits : t * n + n ≤ k
-  pub room : 4 * k ≤ length s
-  pub long : t < length row
+-- Its cells up to the node were written into the row, where no other entry changed. The first of them is c, where a cart starts.
+pub record Trail (j : Job) (s : List ℕ) (x : Point) (row row′ : List ℕ) (c : ℕ) : Type 0 where
+  pub ends : getD row′ (x .step) 0 ≡ x .cell
+  pub follows : (t : ℕ) → t < x .step → backFrom j s (point (getD row′ (suc t) 0) (suc t)) ≡ to (point (getD row′ t 0) t)
+  pub begins : c ≡ getD row′ 0 0
+  pub starts : backFrom j s (point c 0) ≡ end
+  pub kept : (t : ℕ) → x .step < t → getD row′ t 0 ≡ getD row t 0

@@ -8,7 +8,7 @@ use Rattle.model.proofs.Basics.{nope}
 use Rattle.model.proofs.Decide.{dec-in}
 use Rattle.flow.specs.Flow.{Link, off, end, to, arr, dep, Graph, Flow, Residual}
 use Rattle.flow.specs.Way.{Hop, vias, ats, lastAt, Way, nextBy, prevBy}
-use Rattle.flow.proofs.Hops.{On, on-out, on-via, on-at, via-on, at-on, last-in, arcs, via-once}
+use Rattle.flow.proofs.Hops.{On, on-out, on-via, on-at, via-on, at-on, arcs, via-once}
 use Rattle.flow.proofs.Links.{join-same, join-other, next-kept, next-last, next-hop, prev-kept, prev-start, prev-hop}
 
 module _ {N : Type 0} (dec : Discrete N) {G : Graph N} {next prev : N → Link N} (ok : Flow G next prev)
@@ -195,9 +195,6 @@ module _ {N : Type 0} (dec : Discrete N) {G : Graph N} {next prev : N → Link N
       stay h (through i f) = nope (cc (ok .off-prev v f))
       stay h (back x i f) = nope (cc)
 
-  pub start-fresh : prev s ≡ end → ⊥
-  start-fresh h = nope (cc (ok .off-prev s (way .unused)))
-
   pub ends-more : (v : N) → (nextBy dec s hs next v ≡ end) ↔ ((next v ≡ end) ⊎ (v ≡ lastAt s hs))
   ends-more v = (λ h. only h (look-next v), ⊎-elim (λ h. stay h (before v)) (λ e. rw e (next-last dec next s hs (way .once))))
     where
@@ -211,14 +208,6 @@ module _ {N : Type 0} (dec : Discrete N) {G : Graph N} {next prev : N → Link N
       stay h (unmet k) = next-kept dec next s hs v k ∙ h
       stay h (through i f) = nope (cc)
       stay h (back w i f) = nope (cc (ok .back v w f))
-
-  pub end-fresh : next (lastAt s hs) ≡ end → ⊥
-  end-fresh h = go (before (lastAt s hs))
-    where
-      go : Before (lastAt s hs) → ⊥
-      go (unmet k) = k (last-in s hs)
-      go (through i f) = nope (cc)
-      go (back w i f) = nope (cc (ok .back (lastAt s hs) w f))
 
   pub augmented : Flow G (nextBy dec s hs next) (prevBy dec s hs prev)
   augmented = record {

@@ -1,10 +1,7 @@
-pub mod Pigeon
 pub mod Update
 pub mod Flow
 pub mod Hops
 pub mod Links
 pub mod Augment
-pub mod Cut
 pub mod Line
 pub mod Exchange
-pub mod Count

@@ -1,63 +1,55 @@
--- The lines of a flow in a graph of layers: from a start the next links lead down, one layer a link, to a goal in layer 0.
--- Two lines that share a node are one, as the links also lead back from it. Assumes nothing.
-use Prim.Native.Nat.{ℕ, zero, suc, _+_, _≤_, _<_}
-use mathlib.Core.Path.{_≡_, refl}
+-- The lines of a flow. A node is on one line, as the links also lead back from it; and in a graph of layers each used node is on one that begins at a start:
+-- the ranks rise as the links are followed back, and end at H. Assumes nothing.
+use Prim.Native.Nat.{ℕ, zero, suc, _+_, _<_}
+use mathlib.Core.Path.{_≡_, refl, sym}
 use native.Mathlib.Omega.{arith}
 use Rattle.model.proofs.Basics.{nope}
 use Rattle.flow.specs.Flow.{Link, off, end, to, Graph, Flow}
-use Rattle.flow.specs.Line.{Ranked, place, line}
+use Rattle.flow.specs.Line.{Ranked, Chain, Ahead}
 
-module _ {N : Type 0} {G : Graph N} {rank : N → ℕ} {H : ℕ} (rk : Ranked G rank H) {next prev : N → Link N} (ok : Flow G next prev) where
-  goes-on : (v : N) → (next v ≡ off → ⊥) → 0 < rank v → next v ≡ to (place (next v) v)
-  goes-on v used h = go (next v) refl
+pub chain-more : {N : Type 0} (next : N → Link N) (k : ℕ) (x y z : N) → Chain next k x y → next y ≡ to z → Chain next (suc k) x z
+chain-more next zero x y z c e = (z, cc, refl)
+chain-more next (suc k) x y z (w, e′, c) e = (w, e′, chain-more next k w y z c e)
+
+module _ {N : Type 0} {G : Graph N} {next prev : N → Link N} (ok : Flow G next prev) where
+  turned : (k : ℕ) (s v : N) → Chain next k s v → Chain prev k v s
+  turned zero s v c = sym c
+  turned (suc k) s v (z, e, c) = chain-more prev k v z s (turned k z v c) (ok .forth s z e)
+
+  -- No link leads to s.
+  abbrev Heads : N → Type 0
+  Heads s = (u : N) → prev s ≡ to u → ⊥
+
+  same-head : (k k′ : ℕ) (v s s′ : N) → Heads s → Heads s′ → Chain prev k v s → Chain prev k′ v s′ → s ≡ s′
+  same-head zero zero v s s′ h h′ c c′ = cc
+  same-head zero (suc k′) v s s′ h h′ c (z, e, c′) = absurd (h z (cc))
+  same-head (suc k) zero v s s′ h h′ (z, e, c) c′ = absurd (h′ z (cc))
+  same-head (suc k) (suc k′) v s s′ h h′ (z, e, c) (z′, e′, c′) = let q : z ≡ z′ = cc in same-head k k′ z′ s s′ h h′ (rw q at c) c′
+
+  pub one-line : (v s s′ : N) → Heads s → Heads s′ → Ahead next s v → Ahead next s′ v → s ≡ s′
+  one-line v s s′ h h′ (k, c) (k′, c′) = same-head k k′ v s s′ h h′ (turned k s v c) (turned k′ s′ v c′)
+
+  -- v is on a line from a start
+  abbrev pub Led : N → Type 0
+  Led v = (s : N) × Ahead next s v × (prev s ≡ end)
+
+  led : (v : N) → (prev v ≡ off → ⊥) → ((u : N) → prev v ≡ to u → Led u) → Led v
+  led v used ih = go (prev v) refl
     where
-      go : (n : Link N) → next v ≡ n → next v ≡ to (place (next v) v)
+      longer : (u : N) → prev v ≡ to u → Led u → Led v
+      longer u e (s, (k, c), q) = (s, (suc k, chain-more next k s u v c (ok .back u v e)), q)
+
+      go : (l : Link N) → prev v ≡ l → Led v
       go off e = absurd (used e)
-      go end e = absurd (omega (arith, rk .goals v (ok .goals v e)))
-      go (to w) e = rw (e, place)
+      go end e = (v, (0, refl), e)
+      go (to u) e = longer u e (ih u e)
 
-  stops : (v : N) → (next v ≡ off → ⊥) → rank v ≡ 0 → next v ≡ end
-  stops v used h = go (next v) refl
-    where
-      go : (n : Link N) → next v ≡ n → next v ≡ end
-      go off e = absurd (used e)
-      go end e = e
-      go (to w) e = absurd (omega (arith, rk .falls v w (ok .edge v w e)))
+  module _ {rank : N → ℕ} {H : ℕ} (rk : Ranked G rank H) where
+    -- f bounds the layers that are left above.
+    reach : (f : ℕ) (v : N) → H < rank v + f → (prev v ≡ off → ⊥) → Led v
+    reach zero v h used = led v used (λ u e. absurd (omega (arith, rk .falls u v (ok .edge u v (ok .back u v e)), rk .bound u v (ok .edge u v (ok .back u v e)))))
+    reach (suc f) v h used =
+        led v used (λ u e. reach f u (omega (arith, rk .falls u v (ok .edge u v (ok .back u v e)))) (λ q. nope (cc (ok .back u v e, ok .off-next u q))))
 
-  module _ (s : N) (begins : prev s ≡ end) where
-    on-line : (j : ℕ) → j ≤ rank s → (rank (line next s j) + j ≡ rank s) × (next (line next s j) ≡ off → ⊥)
-    on-line zero h = (omega arith, λ e. nope (cc (ok .off-prev s e)))
-    on-line (suc j) h = go (on-line j (omega arith))
-      where
-        go : (rank (line next s j) + j ≡ rank s) × (next (line next s j) ≡ off → ⊥)
-            → (rank (line next s (suc j)) + suc j ≡ rank s) × (next (line next s (suc j)) ≡ off → ⊥)
-        go (r, used) =
-            let n : next (line next s j) ≡ to (line next s (suc j)) = goes-on (line next s j) used (omega arith) in
-            (omega (arith, rk .falls _ _ (ok .edge _ _ n)), λ e. nope (cc (ok .off-prev _ e, ok .forth _ _ n)))
-
-    pub line-rank : (j : ℕ) → j ≤ rank s → rank (line next s j) + j ≡ rank s
-    line-rank j h = on-line j h .0
-
-    pub line-used : (j : ℕ) → j ≤ rank s → next (line next s j) ≡ off → ⊥
-    line-used j h = on-line j h .1
-
-    pub line-next : (j : ℕ) → j < rank s → next (line next s j) ≡ to (line next s (suc j))
-    line-next j h = goes-on (line next s j) (line-used j (omega arith)) (omega (arith, line-rank j (omega arith)))
-
-    pub line-edge : (j : ℕ) → j < rank s → G .Edge (line next s j) (line next s (suc j))
-    line-edge j h = ok .edge _ _ (line-next j h)
-
-    pub line-end : next (line next s (rank s)) ≡ end
-    line-end = stops _ (line-used (rank s) (omega arith)) (omega (arith, line-rank (rank s) (omega arith)))
-
-    pub line-goal : G .Goal (line next s (rank s))
-    line-goal = ok .goals _ line-end
-
-  -- Two lines that share a node are one.
-  pub line-apart : (s s′ : N) → prev s ≡ end → prev s′ ≡ end → (j j′ : ℕ) → j ≤ rank s → j′ ≤ rank s′
-      → line next s j ≡ line next s′ j′ → s ≡ s′
-  line-apart s s′ e e′ zero zero h h′ q = q
-  line-apart s s′ e e′ zero (suc j′) h h′ q = nope (cc (ok .forth _ _ (line-next s′ e′ j′ h′)))
-  line-apart s s′ e e′ (suc j) zero h h′ q = nope (cc (ok .forth _ _ (line-next s e j h)))
-  line-apart s s′ e e′ (suc j) (suc j′) h h′ q =
-      line-apart s s′ e e′ j j′ (omega arith) (omega arith) (cc (ok .forth _ _ (line-next s e j h), ok .forth _ _ (line-next s′ e′ j′ h′)))
+    pub on-line : (v : N) → (prev v ≡ off → ⊥) → Led v
+    on-line v used = reach (suc H) v (omega arith) used

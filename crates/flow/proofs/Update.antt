@@ -27,13 +27,3 @@ module _ {N B : Type 0} (dec : Discrete N) (f : N → B) (x : N) (y : B) where
       go : Upd v → upd dec f x y v ≡ f v
       go (changed e q) = absurd (h e)
       go (kept h′ q) = q
-
--- Changes at two places may be made in either order.
-pub upd-swap : {N B : Type 0} (dec : Discrete N) (f : N → B) (a b : N) (p q : B) (v : N) → (a ≡ b → ⊥)
-    → upd dec (upd dec f a p) b q v ≡ upd dec (upd dec f b q) a p v
-upd-swap {N} {B} dec f a b p q v h = go (dec v b) (dec v a)
-  where
-    go : (d : Dec (v ≡ b)) (d′ : Dec (v ≡ a)) → pick d q (pick d′ p (f v)) ≡ pick d′ p (pick d q (f v))
-    go (yes e) (yes e′) = absurd (h (cc))
-    go (yes e) (no k) = refl
-    go (no k) d′ = refl

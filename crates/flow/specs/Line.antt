@@ -1,20 +1,18 @@
--- The lines of a flow, from a start along the next links, in a graph that stands in layers.
+-- The lines of a flow, followed link by link, and a graph that stands in layers.
 use Prim.Native.Nat.{ℕ, zero, suc, _≤_}
 use mathlib.Core.Path.{_≡_}
-use Rattle.flow.specs.Flow.{Link, off, end, to, Graph}
+use Rattle.flow.specs.Flow.{Link, to, Graph}
 
--- Each edge goes one layer down, from layer H at the highest, and the goals are in layer 0.
+-- Each edge goes one layer down, from layer H at the highest.
 pub record Ranked {N : Type 0} (G : Graph N) (rank : N → ℕ) (H : ℕ) : Type 0 where
   pub falls : (u w : N) → G .Edge u w → rank u ≡ suc (rank w)
   pub bound : (u w : N) → G .Edge u w → rank u ≤ H
-  pub goals : (v : N) → G .Goal v → rank v ≡ 0
 
-abbrev pub place : {N : Type 0} → Link N → N → N
-place off v = v
-place end v = v
-place (to w) v = w
+-- y is k links after x
+abbrev pub Chain : {N : Type 0} → (N → Link N) → ℕ → N → N → Type 0
+Chain next zero x y = x ≡ y
+Chain {N} next (suc k) x y = (z : N) × (next x ≡ to z) × Chain next k z y
 
--- the node j links after s
-abbrev pub line : {N : Type 0} → (N → Link N) → N → ℕ → N
-line next s zero = s
-line next s (suc j) = place (next (line next s j)) (line next s j)
+-- y is x or comes after it
+abbrev pub Ahead : {N : Type 0} → (N → Link N) → N → N → Type 0
+Ahead next x y = (k : ℕ) × Chain next k x y

@@ -14,7 +14,7 @@ use Rattle.model.proofs.Decide.{dec-in, dec-eq}
 use Rattle.model.proofs.Listed.{below, length-below, in-below}
 
 -- n members whose numbers are below n, no two the same: a number below n, that of x, is the number of a member.
-every : {A : Type 0} (f : A → ℕ) (n : ℕ) (l : List A) → length l ≡ n → NoDup (map f l) → ((a : A) → In a l → f a < n)
+pub every : {A : Type 0} (f : A → ℕ) (n : ℕ) (l : List A) → length l ≡ n → NoDup (map f l) → ((a : A) → In a l → f a < n)
     → (x : A) → f x < n → (a : A) × In a l × (f a ≡ f x)
 every {A} f n l size own known x h = go (dec-in dec-eq (f x) (map f l))
   where

@@ -8,21 +8,18 @@ use mathlib.Core.Logic.{inl, inr}
 use native.Mathlib.Omega.{arith}
 use lib.ListN.{length, getD}
 use Rattle.model.specs.Lists.{In, NoDup}
-use Rattle.model.specs.Job.{Job, Call, call, callOf, horizon}
+use Rattle.model.specs.Job.{Job, Call, call, callOf}
 use Rattle.model.specs.Plan.{Path, Leads, Share, Trade, Plan}
 use Rattle.model.specs.Choke.{Point, point}
 use Rattle.model.specs.Ready.{Ready}
 use Rattle.model.proofs.Basics.{nope}
 use Rattle.model.proofs.Lists.{in-getD, in-map, in-unmap, one-of, place-of}
 use Rattle.flow.specs.Flow.{Link, off, end, to, Flow}
-use Rattle.flow.specs.Line.{Ranked, place, line}
-use Rattle.flow.proofs.Line.{line-apart}
+use Rattle.flow.specs.Line.{Chain}
+use Rattle.flow.proofs.Line.{chain-more, one-line}
 use Rattle.network.specs.Graph.{graph}
 use Rattle.network.specs.Traced.{Traced, Calm}
 use Rattle.network.proofs.Points.{point-cell, point-eq}
-
-pub ranked : (j : Job) → Ranked (graph j) (λ x. x .step) (horizon j)
-ranked j = record { falls = λ u w e. e .falls; bound = λ u w e. e .in-time; goals = λ v e. e .0 }
 
 -- What following a path asks, a step at a time: the links lead on from a used node, to a cart's cell at step 0.
 module _ {j : Job} {back on : Point → Link Point} (ok : Flow (graph j) back on) where
@@ -71,15 +68,12 @@ module _ (j : Job) (r : Ready j) {back on : Point → Link Point} (ok : Flow (gr
   begins : (p : Path) → Traced j back p → on (spot p) ≡ end
   begins p tr = full (callOf j (p .call)) (in-getD (j .calls) (p .call) (call 0 0) (tr .known-call))
 
-  -- The path is the line from its call's node.
-  on-line : (p : Path) → Traced j back p → (k t : ℕ) → t + k ≡ callOf j (p .call) .deadline → stand p t ≡ line back (spot p) k
+  -- The path follows the links from its call's node.
+  on-line : (p : Path) → Traced j back p → (k t : ℕ) → t + k ≡ callOf j (p .call) .deadline → Chain back k (spot p) (stand p t)
   on-line p tr zero t e =
       let d : t ≡ callOf j (p .call) .deadline = omega arith in
-      point-eq (ap (λ i. getD (p .cells) i 0) d ∙ tr .ends) d
-  on-line p tr (suc k) t e =
-      let n : back (stand p (suc t)) ≡ to (stand p t) = tr .follows t (omega (arith, tr .size)) in
-      let ih : stand p (suc t) ≡ line back (spot p) k = on-line p tr k (suc t) (omega arith) in
-      rw (sym ih, n, place)
+      sym (point-eq (ap (λ i. getD (p .cells) i 0) d ∙ tr .ends) d)
+  on-line p tr (suc k) t e = chain-more back k (spot p) (stand p (suc t)) (stand p t) (on-line p tr k (suc t) (omega arith)) (tr .follows t (omega (arith, tr .size)))
 
   -- Paths that stand on one node are of one call: calls have cells of their own.
   apart : (p q : Path) → Traced j back p → Traced j back q → (t : ℕ) → t < length (p .cells) → t < length (q .cells)
@@ -87,9 +81,11 @@ module _ (j : Job) (r : Ready j) {back on : Point → Link Point} (ok : Flow (gr
   apart p q tr tr′ t h h′ e =
       let k = callOf j (p .call) .deadline - t in
       let k′ = callOf j (q .call) .deadline - t in
+      let same : stand p t ≡ stand q t = point-eq e refl in
+      let c : Chain back k (spot p) (stand q t) = rw same at (on-line p tr k t (omega (arith, tr .size))) in
       place-of (λ q. q .cell) (j .calls) (r .fit .own-lifts) (p .call) (q .call) (call 0 0) (tr .known-call) (tr′ .known-call)
-      (point-cell (line-apart (ranked j) ok (spot p) (spot q) (begins p tr) (begins q tr′) k k′ (omega arith) (omega arith)
-      (sym (on-line p tr k t (omega (arith, tr .size))) ∙ point-eq e refl ∙ on-line q tr′ k′ t (omega (arith, tr′ .size)))))
+      (point-cell (one-line ok (stand q t) (spot p) (spot q) (λ u f. nope (cc (begins p tr))) (λ u f. nope (cc (begins q tr′)))
+      (k, c) (k′, on-line q tr′ k′ t (omega (arith, tr′ .size)))))
 
   module _ (ps : List Path) (own : NoDup (map (λ p. p .call) ps)) (traced : (p : Path) → In p ps → Traced j back p) where
     leads : (p : Path) → In p ps → Leads j p

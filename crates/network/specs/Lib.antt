@@ -5,4 +5,3 @@ pub mod Stand
 pub mod Store
 pub mod Links
 pub mod Holds
-pub mod Lines

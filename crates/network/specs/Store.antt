@@ -2,6 +2,7 @@
 --   0 used         1 mark of the search    2 the cell it goes on to    3 the cell it came from
 --   4, 5, 6        the search's stack: cell and step of each position, and the cell by way of which it was reached
 use Prim.Native.Nat.{ℕ, _+_, _*_, _≤_, _<_}
+use mathlib.Core.Path.{_≡_}
 use mathlib.Core.List.{List}
 use mathlib.Core.Bool.{Bool, not, _&&_}
 use lib.Dec.{eqb}
@@ -89,3 +90,7 @@ isUsed j s x = knownPoint j x && not (eqb (usedAt (gridOf j) s (idx j x)) 0)
 -- marked in the search that has this stamp
 abbrev pub isMarked : Job → List ℕ → ℕ → Point → Bool
 isMarked j s stamp x = knownPoint j x && eqb (markAt (gridOf j) s (idx j x)) stamp
+
+-- No node is used or marked.
+abbrev pub Blank : Grid → List ℕ → Type 0
+Blank g s = (v : ℕ) → v < g .nodes → (usedAt g s v ≡ 0) × (markAt g s v ≡ 0)

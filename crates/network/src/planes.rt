@@ -1,8 +1,10 @@
 // The store as the planner cuts it, in the one place that knows: planes of one byte a node, one after the other, and behind them those of the search's stack.
+use model::bytes::clear;
 use model::bytes::wide;
 ghost use mathlib.Core.Path.{_≡_};
 ghost use Prim.Native.Nat.{_<_};
-ghost use Rattle.network.specs.Store.{placeOf, Within, usedAt, markAt, nextAt, prevAt, cellAt, stepAt, viaAt, withUsed, withMark, withNext, withPrev, withEntry};
+ghost use lib.ListN.{length};
+ghost use Rattle.network.specs.Store.{placeOf, Roomy, Within, Blank, usedAt, markAt, nextAt, prevAt, cellAt, stepAt, viaAt, withUsed, withMark, withNext, withPrev, withEntry};
 
 // The planes. The bytes of a node: whether it is used, the stamp of a search, the cells before and behind it; of the stack: cell, step, and by way of which cell.
 const USED: usize = 0;
@@ -124,4 +126,12 @@ pub fn set_position(store: &mut [u8], grid: Grid, i: usize, node: Node, via: usi
     store[CELL * grid.nodes + i] = node.cell as u8;
     store[STEP * grid.nodes + i] = node.step as u8;
     store[VIA * grid.nodes + i] = via as u8;
+}
+
+// No node is used or marked then: the first two planes are cleared.
+pub fn wipe(store: &mut [u8], grid: Grid)
+    requires { ⌜ Roomy grid (now store) ⌝ }
+    ensures { λ _. ⌜ Blank grid (now (store .exit)) × (length (now (store .exit)) ≡ length (now (store .entry))) ⌝ }
+{
+    clear(store, NEXT * grid.nodes);
 }

@@ -1,73 +1,55 @@
--- What each part of the planner hands to the next: the tables of a job and the cleared store are what its calls are served from, and what that leaves is what the
--- paths and the choke list ask for. Assumes nothing.
-use Prim.Native.Nat.{ℕ, _<_}
-use mathlib.Core.Path.{_≡_, refl}
+-- What each part of the planner hands to the next: the store that a job is lent has room for its grid, and what serving the calls leaves is what the paths and the choke list ask for.
+-- Assumes nothing.
+use Prim.Native.Nat.{ℕ, _+_, _*_, _≤_}
+use mathlib.Core.Path.{_≡_, ap}
 use mathlib.Core.List.{List}
+use native.Mathlib.Nat.{mul-le-mul-left}
 use native.Mathlib.Omega.{arith}
-use lib.ListN.{length, getD}
-use Rattle.model.specs.Job.{Job, horizon}
+use lib.ListN.{length}
+use Rattle.model.specs.Job.{Job, horizon, storeLeast}
 use Rattle.model.specs.Ready.{Ready}
 use Rattle.job.specs.Arrays.{jobOf}
 use Rattle.job.specs.declared.state.Job as arrays
-use Rattle.job.proofs.Arrays.{Whole, calls-count}
-use Rattle.network.specs.Store.{nodes, at, Spacious}
-use Rattle.network.specs.Links.{FlowIn}
-use Rattle.network.specs.Rows.{Beside, Rows, Filled}
-use Rattle.network.specs.Sorted.{Sorted}
-use Rattle.network.proofs.JobTables.{near-of, due-of, carts-of, order-of}
+use Rattle.job.proofs.Arrays.{Whole}
+use Rattle.floor.specs.Tables.{Tables}
+use Rattle.floor.specs.Order.{Sorted}
+use Rattle.floor.proofs.JobTables.{calls-of, order-of}
+use Rattle.network.specs.declared.planes.Grid.{Grid}
+use Rattle.network.specs.Store.{gridOf, Roomy, Blank}
 use Rattle.route.specs.declared.serve.Served.{Served}
 use Rattle.route.specs.declared.serve.Served.the-variants.{Yes, No}
 use Rattle.answer.specs.Cut.{Failed}
 use Rattle.answer.specs.Full.{FullFlow}
-use Rattle.planner.specs.Solved.{Begun, ServedAll}
+use Rattle.planner.specs.Solved.{Begun, ServedAll, Finished}
 
-pub begun : (a : arrays.Job) → Whole a → Ready (jobOf a) → {near start degree due cartOn order s : List ℕ} {k : ℕ} → k ≡ nodes (jobOf a)
-    → Rows (a .cells) (Beside (a .from) (a .to) (a .tracks)) near start degree → Filled (a .lifts) (λ q. getD (a .deadlines) q 0) (a .calls) due
-    → Filled (a .starts) (λ q. q) (a .carts) cartOn → Sorted (a .deadlines) (a .calls) order
-    → Spacious (jobOf a) s → ((v : ℕ) → v < k → (at k s 0 v ≡ 0) × (at k s 1 v ≡ 0))
-    → Begun (jobOf a) (a .lifts) (a .deadlines) (a .calls) near start degree due cartOn order s (a .cells) k
-begun a w ready size rows dues carts sorted room blank = record {
-  ready = ready;
-  width = refl;
-  size = size;
-  counted = calls-count a w;
-  listed = refl;
-  rows = near-of a w rows;
-  dues = due-of a w dues;
-  carts = carts-of a w carts;
-  ordered = order-of a w sorted;
-  room = room;
-  blank = blank;
-}
+-- The grid that is made of the last step.
+abbrev pub gridTo : Job → ℕ → Grid
+gridTo j last = record { cells = j .cells; nodes = (last + 1) * j .cells }
 
--- The calls were served, as far as they could be, in a store that is as long.
-module _ {j : Job} {lifts deadlines : List ℕ} {calls : ℕ} {near start degree due cartOn order s₀ : List ℕ} {n k : ℕ} (g : Begun j lifts deadlines calls near start degree due cartOn order s₀ n k)
-    {s : List ℕ} (same : length s ≡ length s₀) (answer : Served) (served : FlowIn j s × ServedAll j s answer) where
-  -- All of them are.
-  pub full : {m : ℕ} → answer ≡ Yes m → FullFlow j lifts deadlines calls cartOn order s n k
-  full {m} e =
-      let all : ServedAll j s (Yes m) = rw e at (served .1) in
-      record {
-        ready = g .ready;
-        width = g .width;
-        size = g .size;
-        counted = g .counted;
-        listed = g .listed;
-        carts = g .carts;
-        ordered = g .ordered;
-        room = omega (arith, g .room);
-        flow = served .0;
-        full = all;
-      }
+pub grid-is : (j : Job) {last : ℕ} → last ≡ horizon j → gridTo j last ≡ gridOf j
+grid-is j e = ap (gridTo j) e
 
-  -- One cannot be.
-  pub stuck : {m : ℕ} → answer ≡ No m → Failed j lifts deadlines calls s n k m
-  stuck {m} e =
-      let all : ServedAll j s (No m) = rw e at (served .1) in
-      record {
-        holds = record { ready = g .ready; width = g .width; size = g .size; room = omega (arith, g .room); flow = served .0 };
-        counted = g .counted;
-        listed = g .listed;
-        from = all .0;
-        stuck = all .1;
-      }
+pub roomy : (j : Job) (s : List ℕ) {g : Grid} → g ≡ gridOf j → storeLeast j ≤ length s → Roomy g s
+roomy j s e room =
+    let less : j .cells ≤ j .cells + 2 * length (j .tracks) = omega arith in
+    rw e (omega (arith, mul-le-mul-left ((horizon j + 1) * 32) less))
+
+module _ (a : arrays.Job) (w : Whole a) where
+  -- Serving the calls can begin.
+  pub begun : Ready (jobOf a) → {near begin due cartOn order s : List ℕ} {g : Grid} → Tables (jobOf a) near begin due cartOn → Sorted (a .lifts) (a .deadlines) (a .calls) order
+      → g ≡ gridOf (jobOf a) → storeLeast (jobOf a) ≤ length s → Blank g s → Begun (jobOf a) (a .lifts) (a .deadlines) (a .calls) near begin due cartOn order s g
+  begun ready {s = s} tables sorted grid room blank =
+      record { ready = ready; listed = calls-of a w; tables = tables; ordered = order-of a w sorted; grid = grid; room = roomy (jobOf a) s grid room; blank = blank }
+
+  module _ {cartOn order : List ℕ} {g : Grid} {s : List ℕ} {r : Served} (f : Finished (jobOf a) cartOn order g s r) where
+    -- All calls are served.
+    pub full : {m : ℕ} → r ≡ Yes m → FullFlow (jobOf a) (a .lifts) (a .deadlines) (a .calls) cartOn order g s
+    full {m} e =
+        let all : ServedAll (jobOf a) s (Yes m) = rw e at (f .served) in
+        record { listed = calls-of a w; carts = f .carts; ordered = f .ordered; holds = f .holds; full = all }
+
+    -- One cannot be.
+    pub stuck : {m : ℕ} → r ≡ No m → Failed (jobOf a) (a .lifts) (a .deadlines) (a .calls) g s m
+    stuck {m} e =
+        let all : ServedAll (jobOf a) s (No m) = rw e at (f .served) in
+        record { listed = calls-of a w; holds = f .holds; from = all .0; stuck = all .1 }

@@ -1,43 +1,55 @@
 // The calls one after the other by deadline, each served by a search; then the paths, or the choke list.
 use job::state::Job;
 use model::Limits;
-use model::bytes::clear;
 use model::bytes::wide;
+use network::planes::Grid;
+use network::planes::Node;
+use network::planes::wipe;
 use route::serve::Served;
 ghost use mathlib.Core.Path.{_≡_};
-ghost use mathlib.Core.List.{_++_};
-ghost use Prim.Native.Nat.{_<_, _≤_};
-ghost use lib.ListN.{length, drop, replicate};
+ghost use Prim.Native.Nat.{_+_, _≤_};
+ghost use lib.ListN.{length};
+ghost use Rattle.model.specs.Limits.{maxCells};
 ghost use Rattle.model.specs.Job as model;
 ghost use Rattle.model.specs.Job.{storeLeast};
 ghost use Rattle.model.specs.Ready.{Ready};
 ghost use Rattle.job.specs.Arrays.{jobOf, Sized};
 ghost use Rattle.job.specs.Held.{Room};
-ghost use Rattle.network.specs.Links.{FlowIn};
-ghost use Rattle.planner.specs.Solved.{Begun, ServedAll, Solved};
+ghost use Rattle.floor.specs.Tables.{nearSize, Tables};
+ghost use Rattle.network.specs.Holds.{Holds};
+ghost use Rattle.planner.specs.Solved.{Begun, ServedAll, Finished, Solved};
 
-pub enum Outcome {
+// A plan, or how many choke points show that there is none.
+pub enum Solution {
     Plan,
     Cannot { points: usize },
 }
 
-// Serves the calls in their order, until one cannot be. The job has n cells and k nodes. No node is used or marked at the start.
+// The tables of the job's floor.
+fn fill_tables(job: Job, near: &mut [u8], begin: &mut [u16], due: &mut [u16], cart_on: &mut [u8])
+    requires { ⌜ Ready (jobOf job) × Sized job × (length (now near) ≡ nearSize) × (length (now begin) ≡ maxCells + 1) × (length (now due) ≡ maxCells) × (length (now «cart_on») ≡ maxCells) ⌝ }
+    ensures { λ _. ⌜ Tables (jobOf job) (now (near .exit)) (now (begin .exit)) (now (due .exit)) (now («cart_on» .exit)) ⌝ }
+{
+    floor::tables::neighbours(&job.from, &job.to, job.tracks, job.cells, near, begin);
+    floor::tables::deadlines(&job.lifts, &job.deadlines, job.calls, due);
+    floor::tables::carts(&job.starts, job.carts, cart_on);
+}
+
+// Serves the calls in their order, until one cannot be. No node is used or marked at the start.
 fn serve_all<'a>(
     lifts: &'a [u8; Limits::CALLS],
     deadlines: &'a [u8; Limits::CALLS],
     calls: usize,
     near: &[u8],
-    start: &[u16],
-    degree: &[u16],
+    begin: &[u16],
     due: &[u16],
     cart_on: &[u8],
     order: &[u8],
     store: &mut [u8],
-    n: usize,
-    k: usize,
+    grid: Grid,
 ) -> Served
-    requires { ⌜ ((j : model.Job) × Begun j (now lifts) (now deadlines) calls (now near) (now start) (now degree) (now due) (now «cart_on») (now order) (now store) n k) ⌝ }
-    ensures { λ r. ⌜ (length (now (store .exit)) ≡ length (now (store .entry))) × ((j : model.Job) → Begun j (now (lifts .entry)) (now (deadlines .entry)) calls (now (near .entry)) (now (start .entry)) (now (degree .entry)) (now (due .entry)) (now («cart_on» .entry)) (now (order .entry)) (now (store .entry)) n k → FlowIn j (now (store .exit)) × ServedAll j (now (store .exit)) r) ⌝ }
+    requires { ⌜ ((j : model.Job) × Begun j (now lifts) (now deadlines) calls (now near) (now begin) (now due) (now «cart_on») (now order) (now store) grid) ⌝ }
+    ensures { λ r. ⌜ (length (now (store .exit)) ≡ length (now (store .entry))) × ((j : model.Job) → Begun j (now (lifts .entry)) (now (deadlines .entry)) calls (now (near .entry)) (now (begin .entry)) (now (due .entry)) (now («cart_on» .entry)) (now (order .entry)) (now (store .entry)) grid → Holds j grid (now (store .exit)) × ServedAll j (now (store .exit)) r) ⌝ }
 {
     let mut hint = [0u8; Limits::CELLS];
     let mut stamp = 1u8;
@@ -46,20 +58,18 @@ fn serve_all<'a>(
         let q = wide(order[i]);
         let cell = wide(lifts[q]);
         let step = wide(deadlines[q]);
-        network::aim::aim(n, near, start, degree, cart_on, store, cell, &mut hint);
+        route::aim::aim(near, begin, cart_on, store, grid, cell, &mut hint);
         let fresh = i == 0;
+        let node = Node { cell, step };
         let served = route::serve::serve(
             near,
-            start,
-            degree,
+            begin,
             due,
             cart_on,
             &hint,
             store,
-            n,
-            k,
-            cell,
-            step,
+            grid,
+            node,
             stamp,
             fresh,
         );
@@ -72,80 +82,95 @@ fn serve_all<'a>(
     Served::Yes(stamp)
 }
 
-// The numbers of each PATH or CHOKE line go into first and second, the cells of the i-th path into row i.
+// The numbers of each PATH or CHOKE line go into first and second, the last step of the i-th path into lasts, and its cells into row i. The calls in their order stand in second.
+fn write_answer(
+    job: Job,
+    cart_on: &[u8],
+    store: &[u8],
+    grid: Grid,
+    served: Served,
+    first: &mut [u8],
+    second: &mut [u8],
+    lasts: &mut [u8],
+    rows: &mut [u8],
+) -> Solution
+    requires { ⌜ Sized job × Finished (jobOf job) (now «cart_on») (now second) grid (now store) served × Room (now first) (now second) (now lasts) (now rows) ⌝ }
+    ensures { λ r. ⌜ Room (now (first .exit)) (now (second .exit)) (now (lasts .exit)) (now (rows .exit)) × Solved (jobOf job) r (now (first .exit)) (now (second .exit)) (now (lasts .exit)) (now (rows .exit)) ⌝ }
+{
+    let Served::No(stamp) = served else {
+        answer::paths::write_paths(
+            &job.lifts,
+            &job.deadlines,
+            job.calls,
+            cart_on,
+            store,
+            grid,
+            first,
+            second,
+            lasts,
+            rows,
+        );
+        return Solution::Plan;
+    };
+    let points = answer::cut::list_chokes(
+        &job.lifts,
+        &job.deadlines,
+        job.calls,
+        store,
+        grid,
+        stamp,
+        first,
+        second,
+    );
+    Solution::Cannot { points }
+}
+
+// What `write_answer` writes: a plan, or a true choke list.
 pub fn solve(
     job: Job,
     store: &mut [u8],
     first: &mut [u8],
     second: &mut [u8],
+    lasts: &mut [u8],
     rows: &mut [u8],
-) -> Outcome
-    requires { ⌜ Ready (jobOf job) × Sized job × (storeLeast (jobOf job) ≤ length (now store)) × Room (now first) (now second) (now rows) ⌝ }
-    ensures { λ r. ⌜ (length (now (store .exit)) ≡ length (now (store .entry))) × Room (now (first .exit)) (now (second .exit)) (now (rows .exit)) × Solved (jobOf job) r (now (first .exit)) (now (second .exit)) (now (rows .exit)) ⌝ }
+) -> Solution
+    requires { ⌜ Ready (jobOf job) × Sized job × (storeLeast (jobOf job) ≤ length (now store)) × Room (now first) (now second) (now lasts) (now rows) ⌝ }
+    ensures { λ r. ⌜ (length (now (store .exit)) ≡ length (now (store .entry))) × Room (now (first .exit)) (now (second .exit)) (now (lasts .exit)) (now (rows .exit)) × Solved (jobOf job) r (now (first .exit)) (now (second .exit)) (now (lasts .exit)) (now (rows .exit)) ⌝ }
 {
-    let n = job.cells;
-    let calls = job.calls;
-    let last = job::size::horizon(&job.deadlines, calls);
-    let k = (last + 1) * n;
-    clear(store, 2 * k);
+    let cells = job.cells;
+    let last = job::size::last_step(job);
+    let grid = Grid {
+        cells,
+        nodes: (last + 1) * cells,
+    };
+    wipe(store, grid);
     let mut near = [0u8; Limits::CELLS + 2 * Limits::TRACKS];
-    let mut start = [0u16; Limits::CELLS];
-    let mut degree = [0u16; Limits::CELLS];
+    let mut begin = [0u16; Limits::CELLS + 1];
     let mut due = [0u16; Limits::CELLS];
     let mut cart_on = [0u8; Limits::CELLS];
-    let mut order = [0u8; Limits::CALLS];
-    network::tables::neighbours(
-        &job.from,
-        &job.to,
-        job.tracks,
-        n,
-        &mut near,
-        &mut start,
-        &mut degree,
-    );
-    network::tables::deadlines(&job.lifts, &job.deadlines, calls, &mut due);
-    network::tables::carts(&job.starts, job.carts, &mut cart_on);
-    network::order::by_deadline(&job.deadlines, calls, &mut order);
+    fill_tables(job, &mut near, &mut begin, &mut due, &mut cart_on);
+    floor::order::by_deadline(&job.lifts, &job.deadlines, job.calls, second);
     let served = serve_all(
         &job.lifts,
         &job.deadlines,
-        calls,
+        job.calls,
         &near,
-        &start,
-        &degree,
+        &begin,
         &due,
         &cart_on,
-        &order,
+        second,
         store,
-        n,
-        k,
+        grid,
     );
-    let Served::No(stamp) = served else {
-        answer::paths::write_paths(
-            &job.lifts,
-            &job.deadlines,
-            calls,
-            &cart_on,
-            &order,
-            store,
-            n,
-            k,
-            first,
-            second,
-            rows,
-        );
-        return Outcome::Plan;
-    };
-    let points = answer::cut::list_chokes(
-        &job.lifts,
-        &job.deadlines,
-        calls,
+    write_answer(
+        job,
+        &cart_on,
         store,
-        n,
-        k,
-        stamp,
+        grid,
+        served,
         first,
         second,
-    );
-    Outcome::Cannot { points }
+        lasts,
+        rows,
+    )
 }

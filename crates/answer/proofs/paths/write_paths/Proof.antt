@@ -1,70 +1,62 @@
--- The calls are taken in the order of the sheet. The invariant: the paths so far are traced and are those of the first calls, for every job that the numbers and
--- arrays are of; the contract says that there is one, which keeps the indices in range. The measure is the number of calls left. Assumes nothing.
-use Prim.Native.Nat.{_+_, _*_, _-_, _<_, _≤_}
-use mathlib.Core.Path.{_∙_}
-use native.Mathlib.Omega.{arith}
-use denote.Ref.{now}
-use lib.ListN.{length, getD}
-use borrow.Author.Needs.{needs}
-use borrow.Rule.Slice.PartMut.{mid-len}
-use Rattle.model.specs.Limits.{maxCells, maxSteps}
-use Rattle.model.specs.Job.{Job}
+-- The calls are taken in the order of the sheet. The invariant: the paths so far are traced, for every job that the arrays and the store are of;
+-- the contract says that there is one, which keeps the indices in range. The measure is the number of calls left. Assumes nothing.
 use Rattle.answer.specs.Full.{FullFlow}
-use Rattle.answer.proofs.PathPlan.{Written, written-none, call-known, can-follow, has-cart, written-more, right-plan}
+use Rattle.answer.specs.Trail.{HasCart}
+use Rattle.model.specs.Job.{Job}
+use Rattle.job.specs.Held.{Room}
+use Rattle.answer.proofs.PathPlan.{Written, call-known, can-follow, few, has-cart, right-plan, row-long, written-more, written-none}
+use Prim.Native.Nat.{_-_, _<_, _≤_}
+use native.Mathlib.Omega.{arith}
+use lib.ListN.{getD}
+use Rattle.model.specs.Limits.{maxCalls, maxCells}
+use borrow.Author.Needs.{needs}
+use denote.Ref.{now}
+use Rattle.model.specs.Choke.{point}
 use Rattle.answer.proofs.paths.write_paths.Statement.{statement}
 use Rattle.answer.proofs.paths.write_paths.Tie as tie
 mod Places
 use Places.*
 
 abbrev Inv-loop : tie.InvT-loop
-Inv-loop lifts deadlines calls cart-on order store n k first₀ second₀ rows₀ i₀ first second rows i =
-    (i ≤ calls) × ((j : Job) → FullFlow j lifts deadlines calls cart-on order store n k → Written j order store first second rows i)
+Inv-loop lifts deadlines calls cart-on store grid first₀ second lasts₀ rows₀ i₀ first lasts rows i =
+    (i ≤ calls) × (calls ≤ maxCalls) × Room first second lasts rows
+    × ((j : Job) → FullFlow j lifts deadlines calls cart-on second grid store → Written j second store first lasts rows i)
 
 abbrev μ-loop : tie.MeasureT-loop
-μ-loop lifts deadlines calls cart-on order store n k first₀ second₀ rows₀ i₀ first second rows i = calls - i
+μ-loop lifts deadlines calls cart-on store grid first₀ second lasts₀ rows₀ i₀ first lasts rows i = calls - i
 
--- the job that the contract tells of
-here : (c : tie.Start Inv-loop μ-loop) → FullFlow (c .pre .0 .0) (now (c .args .lifts)) (now (c .args .deadlines)) (c .args .calls) (now (c .args .cart-on)) (now (c .args .order)) (now (c .args .store)) (c .args .n) (c .args .k)
-here c = c .pre .0 .1
-
-known : (c : tie.In-loop Inv-loop μ-loop) → getD (now (in-loop→start c .args .order)) (in-loop→loop c .loop .i) 0 < in-loop→start c .args .calls
-known c = call-known (here (in-loop→start c)) (in-loop→loop c .loop .i) (c .loop-test .taken)
+abbrev Full : tie.Start Inv-loop μ-loop → Job → Type 0
+Full c j = FullFlow j (now (c .args .lifts)) (now (c .args .deadlines)) (c .args .calls) (now (c .args .cart-on)) (now (c .args .second)) (c .args .grid) (now (c .args .store))
 
 loop-holds : tie.Need-loop-holds Inv-loop μ-loop
-loop-holds c =
-    let a = slice-known3→start c .args in
-    (omega arith, λ j g. written-none j (now (a .order)) (now (a .store)) (now (a .first)) (now (a .second)) (now (a .rows)) (slice-known3→start c .pre .1))
+loop-holds c = (omega arith, few (slice-known3→start c .pre .0 .1), slice-known3→start c .pre .1, λ j g. written-none (slice-known3→start c .pre .1))
 
-shared-slice-read-wide : tie.Need-shared-slice-read-wide Inv-loop μ-loop
-shared-slice-read-wide c = omega (arith, shared-slice-known4→start c .pre .0 .1 .ordered .size)
+known : (c : tie.After-wide Inv-loop μ-loop) → c .wide .result < maxCalls
+known c = let g = wide→start c .pre .0 .1 in omega (arith, call-known g (wide→in-loop c .loop-test .taken), few g, c .wide .ensures .0)
 
 element-copy-out-wide : tie.Need-element-copy-out-wide Inv-loop μ-loop
-element-copy-out-wide c = omega (arith, known (wide→in-loop c), c .wide .ensures .0)
+element-copy-out-wide c = known c
 
 element-copy-out-wide-2 : tie.Need-element-copy-out-wide-2 Inv-loop μ-loop
-element-copy-out-wide-2 c = omega (arith, known (wide2→in-loop c), wide2→wide c .wide .ensures .0)
+element-copy-out-wide-2 c = known (wide2→wide c)
 
-mul-a : tie.Need-mul-a Inv-loop μ-loop
-mul-a c = omega arith
-
-add-e : tie.Need-add-e Inv-loop μ-loop
-add-e c = omega arith
-
-part-follow-end : tie.Need-part-follow-end Inv-loop μ-loop
-part-follow-end c = omega (arith, wide3→loop c .loop .inv .1 _ (here (wide3→start c)) .room)
+-- The node of the next call can be followed.
+follows : (c : tie.After-wide3 Inv-loop μ-loop) (j : Job) → Full (wide3→start c) j → HasCart j (now (wide3→start c .args .store)) (point (wide3→wide2 c .wide2 .result) (c .wide3 .result))
+follows c j g = can-follow g (wide3→in-loop c .loop-test .taken) (wide3→wide c .wide .ensures .0) (wide3→wide2 c .wide2 .ensures .0) (c .wide3 .ensures .0)
 
 follow-requires : tie.Need-follow-requires Inv-loop μ-loop
 follow-requires c κs =
-    let l = follow-arg→loop c .loop in
-    let h : l .i * maxSteps + maxSteps ≤ length (l .rows) = omega (arith, l .inv .1 _ (here (follow-arg→start c)) .room) in
-    can-follow (here (follow-arg→start c)) (l .i) (follow-arg→in-loop c .loop-test .taken) (follow-arg→wide c .wide .result) _ _ (follow-arg→wide c .wide .ensures .0)
-    (follow-arg→wide2 c .wide2 .ensures .0) (follow-arg→wide3 c .wide3 .ensures .0) _
-    (mid-len (l .i * maxSteps) (l .i * maxSteps + maxSteps) (l .rows) h ∙ omega arith)
+    let (j, g) = follow-arg→start c .pre .0 in (
+      (j, g .holds, follows (follow-arg→wide3 c) j g),
+      omega (arith, follow-arg→wide3 c .wide3 .ensures .1, row-long {i = follow-arg→loop c .loop .i} (follow-arg→loop c .loop .inv .2) (omega (arith, few g))),
+    )
 
+-- Its path begins on a cart's cell.
 carted : (c : tie.After-follow Inv-loop μ-loop) → (c .follow .result < maxCells) × (0 < getD (now (follow→start c .args .cart-on)) (c .follow .result) 0)
 carted c =
-    has-cart (here (follow→start c)) (follow→loop c .loop .i) (follow→in-loop c .loop-test .taken) (follow→wide c .wide .result) _ _ (follow→wide c .wide .ensures .0)
-    (follow→wide2 c .wide2 .ensures .0) (follow→wide3 c .wide3 .ensures .0) (c .follow .result) (c .follow .ensures .1)
+    let (j, g) = follow→start c .pre .0 in
+    has-cart g (follow→in-loop c .loop-test .taken) (follow→wide c .wide .ensures .0) (follow→wide2 c .wide2 .ensures .0) (follow→wide3 c .wide3 .ensures .0)
+    (c .follow .ensures j (g .holds) (follows (follow→wide3 c) j g))
 
 shared-slice-read-first : tie.Need-shared-slice-read-first Inv-loop μ-loop
 shared-slice-read-first c = omega (arith, shared-slice-known5→start c .pre .0 .1 .carts .size, carted (shared-slice-known5→follow c))
@@ -72,49 +64,27 @@ shared-slice-read-first c = omega (arith, shared-slice-known5→start c .pre .0 
 sub-first : tie.Need-sub-first Inv-loop μ-loop
 sub-first c = omega (arith, carted (shared-slice-known5→follow c))
 
-slice-write-first : tie.Need-slice-write-first Inv-loop μ-loop
-slice-write-first c = omega (arith, shared-slice-known5→loop c .loop .inv .1 _ (here (shared-slice-known5→start c)) .room)
-
-shared-slice-read-second : tie.Need-shared-slice-read-second Inv-loop μ-loop
-shared-slice-read-second c = omega (arith, shared-slice-known6→start c .pre .0 .1 .ordered .size)
-
-slice-write-second : tie.Need-slice-write-second Inv-loop μ-loop
-slice-write-second c = omega (arith, shared-slice-known6→loop c .loop .inv .1 _ (here (shared-slice-known6→start c)) .room)
-
-add-i : tie.Need-add-i Inv-loop μ-loop
-add-i c = omega arith
-
-loop-less : tie.Need-loop-less Inv-loop μ-loop
-loop-less c = omega arith
+element-copy-out-lasts : tie.Need-element-copy-out-lasts Inv-loop μ-loop
+element-copy-out-lasts c = known (shared-slice-known5→wide c)
 
 loop-again : tie.Need-loop-again Inv-loop μ-loop
 loop-again c =
-    let l = shared-slice-known6→loop c .loop in
-    let f = shared-slice-known6→follow c .follow in (
+    let (j, g) = lasts→start c .pre .0 in (
       omega arith,
-      λ j g. written-more g (l .i) (shared-slice-known6→in-loop c .loop-test .taken) (shared-slice-known6→wide c .wide .result) _ _ (shared-slice-known6→wide c .wide .ensures .0)
-          (shared-slice-known6→wide2 c .wide2 .ensures .0) (shared-slice-known6→wide3 c .wide3 .ensures .0) (l .inv .1 j g)
-          (f .last .1 .1 .1 .0) _ (f .result) (shared-slice-known6→rows c .rows .given .0) (shared-slice-known6→rows c .rows .given .1) (f .ensures .0) (f .ensures .1),
+      lasts→loop c .loop .inv .1,
+      written-more g (lasts→in-loop c .loop-test .taken) (lasts→wide c .wide .ensures .0) (lasts→wide2 c .wide2 .ensures .0) (lasts→wide3 c .wide3 .ensures .0)
+          (lasts→follow c .follow .ensures j (g .holds) (follows (lasts→wide3 c) j g)) (lasts→loop c .loop .inv .3 j g) (lasts→rows c .rows .given .0) .room,
+      λ j g. written-more g (lasts→in-loop c .loop-test .taken) (lasts→wide c .wide .ensures .0) (lasts→wide2 c .wide2 .ensures .0) (lasts→wide3 c .wide3 .ensures .0)
+          (lasts→follow c .follow .ensures j (g .holds) (follows (lasts→wide3 c) j g)) (lasts→loop c .loop .inv .3 j g) (lasts→rows c .rows .given .0),
     )
 
-same-length : tie.Need-same-length Inv-loop μ-loop
-same-length c = omega (arith, after-loop→loop c .loop .inv .1 _ (here (after-loop→start c)) .room, after-loop→start c .pre .1)
-
-same-length-2 : tie.Need-same-length-2 Inv-loop μ-loop
-same-length-2 c = omega (arith, after-loop→loop c .loop .inv .1 _ (here (after-loop→start c)) .room, after-loop→start c .pre .1)
-
-same-length-3 : tie.Need-same-length-3 Inv-loop μ-loop
-same-length-3 c = omega (arith, after-loop→loop c .loop .inv .1 _ (here (after-loop→start c)) .room, after-loop→start c .pre .1)
-
 returns : tie.Need-returns Inv-loop μ-loop
-returns c =
-    let l = after-loop→loop c .loop in
-    (l .inv .1 _ (here (after-loop→start c)) .room, λ j g. right-plan g (l .i) (omega arith) (l .inv .1 j g))
+returns c = (after-loop→loop c .loop .inv .2, λ j g. right-plan g (omega arith) (after-loop→loop c .loop .inv .3 j g))
 
 pub write-paths-spec : {M : Type 1} → statement M
 write-paths-spec =
     tie.close
     (tie.spec
-    Inv-loop μ-loop loop-holds shared-slice-read-wide (λ c κs. search needs) element-copy-out-wide (λ c κs. search needs) element-copy-out-wide-2 (λ c κs. search needs) mul-a add-e
-    (λ c. search needs) (λ c. search needs) part-follow-end follow-requires shared-slice-read-first sub-first slice-write-first shared-slice-read-second slice-write-second add-i
-    loop-less loop-again same-length same-length-2 same-length-3 returns)
+    Inv-loop μ-loop loop-holds (λ c. search needs) (λ c κs. search needs) element-copy-out-wide (λ c κs. search needs) element-copy-out-wide-2 (λ c κs. search needs)
+    (λ c. search needs) (λ c. search needs) (λ c. search needs) (λ c. search needs) (λ c. search needs) follow-requires shared-slice-read-first sub-first (λ c. search needs)
+    element-copy-out-lasts (λ c. search needs) (λ c. search needs) (λ c. search needs) loop-again (λ c. search needs) (λ c. search needs) (λ c. search needs) returns)

@@ -1,0 +1,38 @@
+-- `fill_tables` meets its contract: the job's arrays have what each table asks for, and each table is the job's. Assumes nothing.
+use Rattle.job.proofs.Arrays.{Whole, long, whole}
+use Rattle.floor.proofs.JobTables.{calls-apart, carts-apart, carts-of, due-of, near-of, tracks-of}
+use borrow.Author.Needs.{needs}
+use Rattle.planner.proofs.solve.fill_tables.Statement.{statement}
+use Rattle.planner.proofs.solve.fill_tables.Tie as tie
+mod Places
+use Places.*
+
+arrays-long : (c : tie.Start) → Whole (c .args .t1)
+arrays-long c = whole (c .args .t1) (c .pre .1) (long (c .args .t1) (c .good .0 .0) (c .good .0 .1 .1))
+
+neighbours-requires : tie.Need-neighbours-requires
+neighbours-requires c κs = let s = neighbours-arg4→start c in (tracks-of (s .args .t1) (arrays-long s) (s .pre .0), s .pre .1 .tracks, s .pre .0 .fit .few-cells, s .pre .2, s .pre .3)
+
+deadlines-requires : tie.Need-deadlines-requires
+deadlines-requires c κs = let s = deadlines-arg3→start c in (calls-apart (s .args .t1) (arrays-long s) (s .pre .0), s .pre .1 .calls, s .pre .4)
+
+carts-requires : tie.Need-carts-requires
+carts-requires c κs = let s = carts-arg2→start c in (carts-apart (s .args .t1) (arrays-long s) (s .pre .0), s .pre .1 .carts, s .pre .5)
+
+returns : tie.Need-returns
+returns c =
+    let s = slice-known8→start c in
+    let w = arrays-long s in
+    record {
+      sides =
+          near-of (s .args .t1) w (slice-known8→neighbours c .neighbours .ensures);
+      dues =
+          due-of (s .args .t1) w (slice-known8→deadlines c .deadlines .ensures);
+      carts = carts-of (s .args .t1) w (slice-known8→carts c .carts .ensures);
+    }
+
+pub fill-tables-spec : {M : Type 1} → statement M
+fill-tables-spec =
+    tie.close
+    (tie.spec
+    neighbours-requires deadlines-requires carts-requires (λ c. search needs) (λ c. search needs) (λ c. search needs) (λ c. search needs) returns)
