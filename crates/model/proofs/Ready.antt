@@ -9,6 +9,8 @@ use native.Mathlib.Omega.{arith}
 use lib.Dec.{eqb, ltb, leb}
 use lib.ListN.{length, getD}
 use borrow.Author.Tests.{ltb-true, ltb-false, leb-true, eqb-true, eqb-false, not-true}
+use Rattle.model.specs.declared.answer.Answer.{Answer}
+use Rattle.model.specs.declared.answer.Answer.the-variants.{TextTooLong, BadLine, Uneven}
 use Rattle.model.specs.Limits.{maxCells, maxTracks, maxCarts, maxCalls, maxSteps, maxText}
 use Rattle.model.specs.Lists.{In, NoDup}
 use Rattle.model.specs.Job.{Job, Track, track, call}
@@ -29,9 +31,9 @@ pub record Added (j j′ : Job) : Type 0 where
   pub new : isNew j kind a b ≡ true
   pub so : add j kind a b ≡ j′
 
-cond-right : (t : Bool) (x : Said) (n : ℕ) (j : Job) → cond t x (wrong n) ≡ right j → (t ≡ true) × (x ≡ right j)
-cond-right true x n j e = (refl, e)
-cond-right false x n j e = nope (cc)
+cond-right : (t : Bool) (x : Said) (a : Answer) (j : Job) → cond t x (wrong a) ≡ right j → (t ≡ true) × (x ≡ right j)
+cond-right true x a j e = (refl, e)
+cond-right false x a j e = nope (cc)
 
 right-same : (j k : Job) → right j ≡ right k → j ≡ k
 right-same j k e = cc
@@ -41,21 +43,21 @@ numbers-added j j′ k none f e = nope (cc)
 numbers-added j j′ k (some ns) f e =
     let a = getD ns 0 0 in
     let b = getD ns 1 0 in
-    let (h₁, e₁) = cond-right (inRange j k a b) (cond (hasRoom j k) (cond (isNew j k a b) (right (add j k a b)) (wrong 7)) (wrong 6)) 5 j′ e in
-    let (h₂, e₂) = cond-right (hasRoom j k) (cond (isNew j k a b) (right (add j k a b)) (wrong 7)) 6 j′ e₁ in
-    let (h₃, e₃) = cond-right (isNew j k a b) (right (add j k a b)) 7 j′ e₂ in
+    let (h₁, e₁) = cond-right (inRange j k a b) _ _ j′ e in
+    let (h₂, e₂) = cond-right (hasRoom j k) _ _ j′ e₁ in
+    let (h₃, e₃) = cond-right (isNew j k a b) _ _ j′ e₂ in
     record { kind = k; a = a; b = b; follows = f; ranged = h₁; room = h₂; new = h₃; so = right-same (add j k a b) j′ e₃ }
 
 fields-added : (j j′ : Job) (k : Kind) (fs : List (List ℕ)) → fieldsSay j k fs ≡ right j′ → Added j j′
 fields-added j j′ k fs e =
-    let h = cond-right (mayFollow j k && eqb (length fs) (fieldCount k)) (numbersSay j k (numbersOf fs)) 3 j′ e in
+    let h = cond-right (mayFollow j k && eqb (length fs) (fieldCount k)) (numbersSay j k (numbersOf fs)) _ j′ e in
     numbers-added j j′ k (numbersOf fs) (and-left (mayFollow j k) (eqb (length fs) (fieldCount k)) (h .0)) (h .1)
 
 line-added : (j j′ : Job) (l : List ℕ) → lineSays j l ≡ right j′ → Added j j′
 line-added j j′ l e = go (opens floorWord l) (opens trackWord l) (opens cartWord l) (opens callWord l) e
   where
     go : (t u v w : Bool) → cond t (fieldsSay j floorLine (after floorWord l)) (cond u (fieldsSay j trackLine (after trackWord l))
-        (cond v (fieldsSay j cartLine (after cartWord l)) (cond w (fieldsSay j callLine (after callWord l)) (wrong 3)))) ≡ right j′ → Added j j′
+        (cond v (fieldsSay j cartLine (after cartWord l)) (cond w (fieldsSay j callLine (after callWord l)) (wrong BadLine)))) ≡ right j′ → Added j j′
     go true u v w e = fields-added j j′ floorLine (after floorWord l) e
     go false true v w e = fields-added j j′ trackLine (after trackWord l) e
     go false false true w e = fields-added j j′ cartLine (after cartWord l) e
@@ -247,7 +249,7 @@ lines-ready j j′ n done f e = go (eqb (j .cells) 0) refl (eqb (length (j .cart
     same e = cc
 
     go : (t : Bool) → eqb (j .cells) 0 ≡ t → (u : Bool) → eqb (length (j .carts)) (length (j .calls)) ≡ u
-        → cond t (refused 3 n) (cond u (accepted j) (refused 8 0)) ≡ accepted j′ → Ready j′
+        → cond t (refused BadLine n) (cond u (accepted j) (refused Uneven 0)) ≡ accepted j′ → Ready j′
     go true p u q e = nope (cc)
     go false p true q e = subst Ready (same e) (record { fit = f; has-cells = some-cells (j .cells) p; even = eqb-true (length (j .carts)) (length (j .calls)) q })
     go false p false q e = nope (cc)
@@ -265,6 +267,6 @@ pub read-ready : (s : List ℕ) (j : Job) → readJob s ≡ accepted j → Ready
 unfolding readJob
 read-ready s j e = go (ltb maxText (length s)) e
   where
-    go : (t : Bool) → cond t (refused 2 0) (linesSay noJob 1 (linesOf s)) ≡ accepted j → Ready j
+    go : (t : Bool) → cond t (refused TextTooLong 0) (linesSay noJob 1 (linesOf s)) ≡ accepted j → Ready j
     go true e = nope (cc)
     go false e = lines-ready noJob j 1 (linesOf s) no-fit e
