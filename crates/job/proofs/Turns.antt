@@ -14,7 +14,7 @@ use Rattle.model.specs.Job as model
 use Rattle.model.specs.Text.{linesOf}
 use Rattle.model.specs.ReadJob.{Said, refused, accepted, add, goOn, lineSays, linesSay, wholeJob, readJob}
 use Rattle.text.specs.Scan.{lineOf}
-use Rattle.text.proofs.LineLaws.{lines-done, lines-cut, lines-more}
+use Rattle.text.proofs.LineLaws.{lines-done, next-cut, next-more}
 use Rattle.job.specs.declared.state.Kind.{Kind}
 use Rattle.job.specs.declared.state.Kind.the-variants.{Floor, Track, Cart, Call}
 use Rattle.job.specs.declared.state.Job.{Job}
@@ -29,20 +29,6 @@ use Rattle.job.specs.Reading.{Read}
 use Rattle.job.specs.Lines.{kindOf, answerTo, saidBy, SameCounts, Small, Taken, tableSize, marked, Marked}
 use Rattle.job.proofs.Arrays.{whole, tracks-count, carts-count, calls-count}
 use Rattle.job.proofs.Marks.{marked-zeros, marked-add, marked-length}
-
-module _ (s : List ℕ) (at n : ℕ) (j : model.Job) where
-  turn-done : length s ≤ at → linesSay j n (linesOf (drop at s)) ≡ wholeJob j n
-  turn-done h = ap (linesSay j n) (lines-done s at h)
-
-  module _ (e : ℕ) (inside : at < length s) (end : e ≡ at + length (lineOf (drop at s))) where
-    turn-cut : length s ≤ e → linesSay j n (linesOf (drop at s)) ≡ refused BadLine n
-    turn-cut h = ap (linesSay j n) (lines-cut s at e inside end h)
-
-    turn : (entry : Entry) → e < length s → saidBy j entry ≡ lineSays j (take (e - at) (drop at s))
-        → linesSay j n (linesOf (drop at s)) ≡ goOn (saidBy j entry) n (λ j′. linesSay j′ (n + 1) (linesOf (drop (e + 1) s)))
-    turn entry h said =
-        ap (linesSay j n) (lines-more s at e inside end h)
-        ∙ ap (λ (x : Said). goOn x n (λ j′. linesSay j′ (n + 1) (linesOf (drop (e + 1) s)))) (sym said)
 
 -- The counts beside the arrays are those of the job in them.
 abbrev pub countsOf : Job → Counts
@@ -114,26 +100,27 @@ cells-small j Cart a b h s = h
 cells-small j Call a b h s = h
 
 module _ {s : List ℕ} {job : Job} {seen : List ℕ} {at line : ℕ} (k : Kept s job seen at line) where
-  module _ (e : ℕ) (inside : at < length s) (end : e ≡ at + length (lineOf (drop at s))) where
-    pub ends-cut : length s ≤ e → refused BadLine line ≡ readJob s
-    ends-cut h = sym (turn-cut s at line (jobOf job) e inside end h) ∙ k .rest
+  -- l is the line at `at`, and q the place behind it
+  module _ (l : List ℕ) (q : ℕ) (taken : (l ≡ lineOf (drop at s)) × (q ≡ at + length (lineOf (drop at s)) + 1)) where
+    pub ends-cut : at < length s → length s < q → refused BadLine line ≡ readJob s
+    ends-cut inside h = sym (ap (linesSay (jobOf job) line) (next-cut s at l q taken inside h)) ∙ k .rest
 
-    module _ (h : e < length s) (entry : Entry) (said : saidBy (jobOf job) entry ≡ lineSays (jobOf job) (take (e - at) (drop at s))) where
-      turned : goOn (saidBy (jobOf job) entry) line (λ j′. linesSay j′ (line + 1) (linesOf (drop (e + 1) s))) ≡ readJob s
-      turned = sym (turn s at line (jobOf job) e inside end entry h said) ∙ k .rest
+    module _ (h : q ≤ length s) (entry : Entry) (said : saidBy (jobOf job) entry ≡ lineSays (jobOf job) l) where
+      turned : goOn (saidBy (jobOf job) entry) line (λ j. linesSay j (line + 1) (linesOf (drop q s))) ≡ readJob s
+      turned = rw said (sym (ap (linesSay (jobOf job) line) (next-more s at l q taken h)) ∙ k .rest)
 
       pub ends-wrong : (f : Fault) → entry ≡ Wrong f → refused (answerTo f) line ≡ readJob s
       ends-wrong f w = rw w at turned
 
       pub kept-next : (kind : Kind) (a b : ℕ) (r : Job) (seen′ : List ℕ) → entry ≡ Right kind a b → Small kind a b → Taken job kind a b r
-          → seen′ ≡ marked seen kind a b → Kept s r seen′ (e + 1) (line + 1)
+          → seen′ ≡ marked seen kind a b → Kept s r seen′ q (line + 1)
       kept-next kind a b r seen′ w small t m =
           let g = t .adds in
           let c : r .cells ≡ add (jobOf job) (kindOf kind) a b .cells = ap (λ j. j .cells) g in
           record {
             within = omega arith;
             short = k .short;
-            lines = omega (arith, k .lines);
+            lines = omega (arith, k .lines, taken .1);
             sized = t .sized;
             long = t .long;
             cells = omega (arith, cells-small (jobOf job) kind a b (k .cells) small);
@@ -144,7 +131,7 @@ module _ {s : List ℕ} {job : Job} {seen : List ℕ} {at line : ℕ} (k : Kept 
 
   module _ (over : length s ≤ at) where
     ended : wholeJob (jobOf job) line ≡ readJob s
-    ended = sym (turn-done s at line (jobOf job) over) ∙ k .rest
+    ended = sym (ap (linesSay (jobOf job) line) (lines-done s at over)) ∙ k .rest
 
     pub ends-none : job .cells ≡ 0 → refused BadLine line ≡ readJob s
     ends-none z = simp (eq-eqb _ _ z) at ended

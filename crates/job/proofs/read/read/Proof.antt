@@ -38,10 +38,6 @@ textOf h = now (loop→start h .args .text)
 abbrev jobAt : tie.At-loop Inv-loop μ-loop → Job
 jobAt h = held (h .loop .counts) (h .loop .from) (h .loop .to) (h .loop .starts) (h .loop .lifts) (h .loop .deadlines)
 
--- Where the line that is read ends, before its line feed.
-abbrev endOf : tie.At-loop Inv-loop μ-loop → ℕ
-endOf h = h .loop .at + length (lineOf (drop (h .loop .at) (textOf h)))
-
 returns : tie.Need-returns Inv-loop μ-loop
 returns c = turned-back (c .refused .ensures) (too-long (now (refused→start c .args .text)) (refused→then1 c .if1 .taken)) (omega arith) (omega arith)
 
@@ -51,7 +47,7 @@ loop-holds c = kept-first (now (else1→start c .args .text)) (c .if1 .left)
 returns-2 : tie.Need-returns-2 Inv-loop μ-loop
 returns-2 c =
     let h = refused2→loop c in
-    let says = ends-cut (h .loop .inv) (endOf h) (refused2→in-loop c .loop-test .taken) refl (omega (arith, refused2→next c .next .ensures .1)) in
+    let says = ends-cut (h .loop .inv) _ _ (refused2→next c .next .ensures) (refused2→in-loop c .loop-test .taken) (refused2→then2 c .if2 .taken) in
     turned-back (c .refused2 .ensures) says (omega arith) (omega arith)
 
 entry-of-requires : tie.Need-entry-of-requires Inv-loop μ-loop
@@ -61,14 +57,10 @@ entry-of-requires c κs = let k = seen→loop c .loop .inv in (k .cells, k .tabl
 abbrev head : tie.After-entry-of Inv-loop μ-loop → tie.At-loop Inv-loop μ-loop
 head m = entry-of→loop m
 
--- What the entry says is what the line says, as the part of the text that the laws name.
+-- What the entry says is what the line says.
 line-said : (m : tie.After-entry-of Inv-loop μ-loop)
-    → saidBy (jobOf (jobAt (head m))) (m .entry-of .result)
-    ≡ lineSays (jobOf (jobAt (head m))) (take (endOf (head m) - head m .loop .at) (drop (head m .loop .at) (textOf (head m))))
-line-said m =
-    let h = head m in
-    m .entry-of .ensures .1 (jobOf (jobAt h)) (kept-counts (h .loop .inv)) (h .loop .inv .marks)
-    ∙ ap (lineSays (jobOf (jobAt h))) (line-taken (textOf h) (h .loop .at) _ (entry-of→next m .next .ensures .0))
+    → saidBy (jobOf (jobAt (head m))) (m .entry-of .result) ≡ lineSays (jobOf (jobAt (head m))) (now (entry-of→next m .next .result))
+line-said m = let k = head m .loop .inv in m .entry-of .ensures .1 (jobOf (jobAt (head m))) (kept-counts k) (k .marks)
 
 returns-3 : tie.Need-returns-3 Inv-loop μ-loop
 returns-3 c =
@@ -79,7 +71,7 @@ returns-3 c =
     let (f, w) = refused3→enum-told c .enum-told .given in
     let (v, sized) = c .refused3 .ensures in
     let on : c .refused3 .result .verdict ≡ Refused (answerTo (f .0)) (l .line) = v ∙ refused3→verdict-on c .verdict-on .ensures ∙ ap (λ x. verdictOn x (l .line)) w in
-    let says = ends-wrong (l .inv) (endOf h) (next→in-loop e .loop-test .taken) refl (omega (arith, e .next .ensures .1)) (m .entry-of .result) (line-said m) (f .0) w in
+    let says = ends-wrong (l .inv) _ _ (e .next .ensures) (omega (arith, entry-of→else2 m .if2 .left)) (m .entry-of .result) (line-said m) (f .0) w in
     turned-back (on, sized) says (fault-late (f .0)) (omega arith)
 
 -- The entry is small, and there is room for it.
@@ -118,11 +110,10 @@ loop-again c =
     let l = h .loop in
     let v = known-told→entry k .entry .given in
     let r = p .put-line in
-    rw (e .next .ensures .1)
-    (kept-next (l .inv) (endOf h) (next→in-loop e .loop-test .taken) refl (omega (arith, e .next .ensures .1)) (m .entry-of .result) (line-said m)
+    kept-next (l .inv) _ _ (e .next .ensures) (omega (arith, entry-of→else2 m .if2 .left)) (m .entry-of .result) (line-said m)
     (v .0 .0) (v .0 .1 .0) (v .0 .1 .1 .0)
     (held (r .result) (r .last .0) (r .last .1 .0) (r .last .1 .1 .0) (r .last .1 .1 .1 .0) (r .last .1 .1 .1 .1 .0))
-    (seen3→mark c .mark .last .0) (v .1) (sound k .0) (r .ensures) (seen3→mark c .mark .ensures))
+    (seen3→mark c .mark .last .0) (v .1) (sound k .0) (r .ensures) (seen3→mark c .mark .ensures)
 
 returns-4 : tie.Need-returns-4 Inv-loop μ-loop
 returns-4 c =

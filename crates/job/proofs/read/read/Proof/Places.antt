@@ -25,14 +25,14 @@ module _ {Inv : tie.InvT-loop} {μ : tie.MeasureT-loop} where
   abbrev pub loop→start : tie.At-loop Inv μ → tie.Start Inv μ
   loop→start c = else1→start (c .before)
 
-  abbrev pub next→in-loop : tie.After-next Inv μ → tie.In-loop Inv μ
-  next→in-loop c = c .before .before
+  abbrev pub refused2→then2 : tie.After-refused2 Inv μ → tie.Then2 Inv μ
+  refused2→then2 c = c .before
 
   abbrev pub refused2→next : tie.After-refused2 Inv μ → tie.After-next Inv μ
-  refused2→next c = c .before .before
+  refused2→next c = refused2→then2 c .before
 
   abbrev pub refused2→in-loop : tie.After-refused2 Inv μ → tie.In-loop Inv μ
-  refused2→in-loop c = next→in-loop (refused2→next c)
+  refused2→in-loop c = refused2→next c .before .before
 
   abbrev pub refused2→loop : tie.After-refused2 Inv μ → tie.At-loop Inv μ
   refused2→loop c = refused2→in-loop c .before
@@ -40,8 +40,11 @@ module _ {Inv : tie.InvT-loop} {μ : tie.MeasureT-loop} where
   abbrev pub seen→loop : tie.After-seen Inv μ → tie.At-loop Inv μ
   seen→loop c = c .before .before .before .before .before
 
+  abbrev pub entry-of→else2 : tie.After-entry-of Inv μ → tie.Else2 Inv μ
+  entry-of→else2 c = c .before .before
+
   abbrev pub entry-of→next : tie.After-entry-of Inv μ → tie.After-next Inv μ
-  entry-of→next c = c .before .before .before
+  entry-of→next c = entry-of→else2 c .before
 
   abbrev pub entry-of→loop : tie.After-entry-of Inv μ → tie.At-loop Inv μ
   entry-of→loop c = seen→loop (c .before)
