@@ -13,12 +13,13 @@ use Rattle.model.specs.Lists.{In}
 use Rattle.model.specs.Job.{Job}
 use Rattle.model.specs.Plan.{Path}
 use Rattle.model.specs.Choke.{Point}
+use Rattle.model.specs.Ready.{Fit}
 use Rattle.model.specs.Text.{Lines, done, cut, more, onFirst, linesOf, onField, fieldsOf, isDigit, numberFrom, numberOf, andNumber, numbersOf, numeral, fields, line, opens, after, planWord, pathWord, cannotWord, chokeWord}
 use Rattle.model.specs.SheetText.{linesText, pathNumbers, chokeNumbers, planText, cannotText}
 use Rattle.model.specs.ReadSheet.{Sheet, bad, plan, cannot, knownPath, knownPoint, orBad, numbersAfter, restSays, pathOf, pointOf, headSays, countSays, pathLine, chokeLine, readSheet}
 use Rattle.model.proofs.Decide.{decided, dec-imp, dec-list, dec-lt, dec-eq, all-below}
 use Rattle.model.proofs.Basics.{nope, and-left, and-right}
-use Rattle.model.proofs.Written.{Within, plan-read, cannot-read}
+use Rattle.model.proofs.Written.{plan-read, cannot-read}
 
 -- Lines.
 lines-done : (b : List ℕ) → linesOf b ≡ done → b ≡ []
@@ -72,7 +73,7 @@ tabbed-numerals [] = refl
 tabbed-numerals (n ∷ ns) = ap (λ y. 9 ∷ (numeral n ++ y)) (tabbed-numerals ns)
 
 -- Numbers: one, two or three digits, all tried.
-one-digit : (x : ℕ) → x < 10 → numeral x ≡ (48 + x) ∷ []
+pub one-digit : (x : ℕ) → x < 10 → numeral x ≡ (48 + x) ∷ []
 one-digit = decided (all-below (λ x. dec-list dec-eq (numeral x) ((48 + x) ∷ [])) 10) tt
 
 two-digits : (x : ℕ) → x < 10 → (y : ℕ) → y < 10 → 0 < x → numeral (x * 10 + y) ≡ (48 + x) ∷ (48 + y) ∷ []
@@ -347,11 +348,11 @@ module _ (j : Job) where
               never (inr (m, i)) h = absurd (cannot-not-bad m xs (sym i ∙ h))
 
 -- Two texts are equal only if what they write is.
-module _ (j : Job) (lim : Within j) where
+module _ (j : Job) (f : Fit j) where
   pub plan-once : (ps qs : List Path) → length ps ≡ length (j .calls) → ((p : Path) → In p ps → knownPath j p ≡ true)
       → length qs ≡ length (j .calls) → ((p : Path) → In p qs → knownPath j p ≡ true) → planText ps ≡ planText qs → ps ≡ qs
-  plan-once ps qs l g l′ g′ e = plan-same ps qs (sym (plan-read j lim ps l g) ∙ ap (readSheet j) e ∙ plan-read j lim qs l′ g′)
+  plan-once ps qs l g l′ g′ e = plan-same ps qs (sym (plan-read j f ps l g) ∙ ap (readSheet j) e ∙ plan-read j f qs l′ g′)
 
   pub cannot-once : (xs ys : List Point) → length xs < length (j .calls) → ((x : Point) → In x xs → knownPoint j x ≡ true)
       → length ys < length (j .calls) → ((x : Point) → In x ys → knownPoint j x ≡ true) → cannotText xs ≡ cannotText ys → xs ≡ ys
-  cannot-once xs ys l g l′ g′ e = cannot-same xs ys (sym (cannot-read j lim xs l g) ∙ ap (readSheet j) e ∙ cannot-read j lim ys l′ g′)
+  cannot-once xs ys l g l′ g′ e = cannot-same xs ys (sym (cannot-read j f xs l g) ∙ ap (readSheet j) e ∙ cannot-read j f ys l′ g′)

@@ -45,10 +45,7 @@ wrote-more {s} {at} {xs} {t} {p} {ys} {u} {r} w v =
 pub wrote-whole : {s bytes t : List ℕ} {r : ℕ} → Wrote s 0 bytes t r → t ≡ bytes ++ drop (length bytes) s
 wrote-whole w = simp zero-add at (w .text)
 
--- a numeral's digits, as the code computes them
-pub numeral-1 : (n : ℕ) → n < 10 → numeral n ≡ (48 + n) ∷ []
-numeral-1 n h = simp (lt-ltb _ _ h) (ap (λ (d : ℕ). (48 + d) ∷ []) (omega arith))
-
+-- a numeral's two or three digits, as the code computes them
 pub numeral-2 : (n : ℕ) → 10 ≤ n → n < 100 → numeral n ≡ (48 + n / 10) ∷ (48 + n % 10) ∷ []
 numeral-2 n l h = simp (le-ltb _ _ l, lt-ltb _ _ h) (ap (λ (d : ℕ). (48 + d) ∷ (48 + n % 10) ∷ []) (omega arith))
 
