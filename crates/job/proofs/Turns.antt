@@ -1,10 +1,10 @@
 -- A turn of the reader, in plain lists: what the lines from an index on say, by the end of the first and what it says; what the reader keeps
 -- from turn to turn; and what it answers at the end. Assumes nothing.
-use Prim.Native.Nat.{ℕ, _+_, _-_, _*_, _/_, _≤_, _<_}
+use Prim.Native.Nat.{ℕ, _+_, _*_, _/_, _≤_, _<_}
 use mathlib.Core.Path.{_≡_, refl, sym, ap, _∙_}
 use mathlib.Core.List.{List}
 use native.Mathlib.Omega.{arith}
-use lib.ListN.{length, take, drop, replicate, length-replicate}
+use lib.ListN.{length, drop, replicate, length-replicate}
 use borrow.Author.Tests.{lt-ltb, le-ltb, eq-eqb, ne-eqb}
 use Rattle.model.specs.declared.answer.Answer.{Answer}
 use Rattle.model.specs.declared.answer.Answer.the-variants.{Cannot, TextTooLong, BadLine, Uneven}
@@ -12,7 +12,7 @@ use Rattle.model.specs.Answers.{number}
 use Rattle.model.specs.Limits.{maxCells, maxTracks, maxCarts, maxCalls, maxText}
 use Rattle.model.specs.Job as model
 use Rattle.model.specs.Text.{linesOf}
-use Rattle.model.specs.ReadJob.{Said, refused, accepted, add, goOn, lineSays, linesSay, wholeJob, readJob}
+use Rattle.model.specs.ReadJob.{refused, accepted, add, goOn, lineSays, linesSay, wholeJob, readJob}
 use Rattle.text.specs.Scan.{lineOf}
 use Rattle.text.proofs.LineLaws.{lines-done, next-cut, next-more}
 use Rattle.job.specs.declared.state.Kind.{Kind}

@@ -16,7 +16,8 @@ use Rattle.model.specs.Lists.{In, NoDup}
 use Rattle.model.specs.Job.{Job, Track, track, call}
 use Rattle.model.specs.Ready.{SameEnds, Fit, Ready}
 use Rattle.model.specs.Text.{Lines, done, cut, more, linesOf, numbersOf, opens, after, floorWord, trackWord, cartWord, callWord}
-use Rattle.model.specs.ReadJob.{refused, accepted, Kind, floorLine, trackLine, cartLine, callLine, noJob, member, leads, inRange, hasRoom, isNew, add, mayFollow, fieldCount, Said, wrong, right, numbersSay, fieldsSay, lineSays, goOn, linesSay, readJob}
+use Rattle.model.specs.ReadJob.{refused, accepted, Kind, floorLine, trackLine, cartLine, callLine, noJob, member, leads, inRange, hasRoom}
+use Rattle.model.specs.ReadJob.{isNew, add, mayFollow, fieldCount, Said, wrong, right, numbersSay, fieldsSay, lineSays, goOn, linesSay, readJob}
 use Rattle.model.proofs.Basics.{nope, and-left, and-right}
 use Rattle.model.proofs.Lists.{in-getD}
 

@@ -35,7 +35,8 @@ wrote-more {s} {at} {xs} {t} {p} {ys} {u} {r} w v =
     let f : take p t ≡ take at s ++ xs = ap (take p) (w .text) ∙ take-at (take at s ++ xs) (drop (at + length xs) s) p lf in
     let g : drop p t ≡ drop (at + length xs) s = ap (drop p) (w .text) ∙ drop-at (take at s ++ xs) (drop (at + length xs) s) p lf in
     let k : at + length xs + length ys ≡ at + length (xs ++ ys) = simp length-append (omega arith) in
-    let e : drop (p + length ys) t ≡ drop (at + length (xs ++ ys)) s = sym (drop-drop (length ys) p t) ∙ ap (drop (length ys)) g ∙ drop-drop (length ys) (at + length xs) s ∙ ap (λ (m : ℕ). drop m s) k in
+    let e : drop (p + length ys) t ≡ drop (at + length (xs ++ ys)) s =
+    sym (drop-drop (length ys) p t) ∙ ap (drop (length ys)) g ∙ drop-drop (length ys) (at + length xs) s ∙ ap (λ (m : ℕ). drop m s) k in
     record {
       fits = simp length-append (omega (arith, wrote-long w, w .next, v .fits));
       next = simp length-append (omega (arith, w .next, v .next));

@@ -1,8 +1,8 @@
 -- `read` answers what the text says. The invariant, `Kept`: the job that the arrays hold so far, read on from `at`, says what the whole text
 -- says; its counts, its cells and its table keep within their sizes; and no more lines than bytes were read. The measure is what is left of
 -- the text. Assumes nothing.
-use Prim.Native.Nat.{ℕ, _+_, _-_}
-use mathlib.Core.Path.{_≡_, refl, ap, _∙_}
+use Prim.Native.Nat.{ℕ, _-_}
+use mathlib.Core.Path.{_≡_, ap, _∙_}
 use mathlib.Core.List.{List}
 use mathlib.Core.Bool.{true}
 use Rattle.model.specs.ReadJob.{hasRoom, lineSays}
@@ -13,9 +13,7 @@ use Rattle.job.specs.Reading.{verdictOn}
 use Rattle.job.specs.Lines.{kindOf, answerTo, saidBy, Small}
 use native.Mathlib.Omega.{arith}
 use denote.Ref.{now}
-use lib.ListN.{length, take, drop}
-use Rattle.text.specs.Scan.{lineOf}
-use Rattle.text.proofs.LineLaws.{line-taken}
+use lib.ListN.{length}
 use Rattle.job.proofs.Tests.{fault-late}
 use Rattle.job.proofs.Turns.{Kept, kept-counts, turned-back, too-long, kept-first, ends-cut, ends-wrong, kept-next, ends-none, ends-uneven, ends-job}
 use borrow.Author.Needs.{needs}
