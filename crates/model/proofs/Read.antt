@@ -326,7 +326,10 @@ module _ (j : Job) where
               let (x, y, z) = all-back (pathLine j) plan pathWord pathNumbers (λ p. knownPath j p ≡ true) path-back plan-same plan-not-bad planWord b l ls
               (λ n. eqb n (length (j .calls))) ps q e in
               (x, eqb-true (length ps) (length (j .calls)) y, z)
-          by false e = absurd (no-other (chokeLine j) cannot ls (λ n. ltb n (length (j .calls))) (numbersAfter cannotWord l) (plan ps) (λ m. plan-not-bad m ps) (λ xs f. plan-not-cannot ps xs (sym f)) e)
+          by false e =
+              absurd
+              (no-other (chokeLine j) cannot ls (λ n. ltb n (length (j .calls))) (numbersAfter cannotWord l) (plan ps) (λ m. plan-not-bad m ps)
+              (λ xs f. plan-not-cannot ps xs (sym f)) e)
 
   pub cannot-back : (b : List ℕ) (xs : List Point) → readSheet j b ≡ cannot xs
       → (b ≡ cannotText xs) × (length xs < length (j .calls)) × ((x : Point) → In x xs → knownPoint j x ≡ true)
