@@ -85,6 +85,19 @@ fn every_number_as_a_compiler_sees_it() {
 /// The lines of the definitions that give these numbers. Here they stand once more as they are there, so that a changed
 /// one is looked at together with the header.
 const LINES: &[(&str, &str)] = &[
+    ("Answers", "number Plan = 0"),
+    ("Answers", "number Cannot = 1"),
+    ("Answers", "number TextTooLong = 2"),
+    ("Answers", "number BadLine = 3"),
+    ("Answers", "number NoNumber = 4"),
+    ("Answers", "number OutOfRange = 5"),
+    ("Answers", "number TooMany = 6"),
+    ("Answers", "number Doubled = 7"),
+    ("Answers", "number Uneven = 8"),
+    ("Answers", "number StoreTooShort = 9"),
+    ("Answers", "number SheetTooShort = 10"),
+    ("Answers", "number BadSheet = 11"),
+    ("Answers", "number WrongSheet = 12"),
     ("Limits", "maxCells = 256"),
     ("Limits", "maxTracks = 512"),
     ("Limits", "maxCarts = 64"),
@@ -94,32 +107,38 @@ const LINES: &[(&str, &str)] = &[
     ("Limits", "maxText = 16384"),
     ("Job", "storeLeast j = (horizon j + 1) * 32 * (j .cells + 2 * length (j .tracks)) + 4096"),
     ("Job", "sheetLeast j = length (j .carts) * (4 * (horizon j + 1) + 16) + 64"),
-    ("ReadJob", "readJob s = cond (ltb maxText (length s)) (refused 2 0) (linesSay noJob 1 (linesOf s))"),
+    ("ReadJob", "readJob s = cond (ltb maxText (length s)) (refused TextTooLong 0) (linesSay noJob 1 (linesOf s))"),
     ("ReadJob", FIELDS_SAY),
-    ("ReadJob", "(wrong 3))))"),
-    ("ReadJob", "linesSay j n cut = refused 3 n"),
-    ("ReadJob", "numbersSay j k none = wrong 4"),
+    ("ReadJob", "(wrong BadLine))))"),
+    ("ReadJob", "linesSay j n cut = refused BadLine n"),
+    ("ReadJob", "numbersSay j k none = wrong NoNumber"),
     ("ReadJob", NUMBERS_SAY),
     ("ReadJob", WHOLE_JOB),
-    ("Contracts", "withStore n (accepted j) = cond (ltb n (storeLeast j)) (refused 9 0) (accepted j)"),
-    ("Contracts", "withRoom n (accepted j) = cond (ltb n (sheetLeast j)) (refused 10 0) (accepted j)"),
-    ("Contracts", "((ps : List Path) × RightPlan j ps × (b ≡ planText ps) × (r ≡ 0 + 256 * length b))"),
+    ("Contracts", "withStore n (accepted j) = cond (ltb n (storeLeast j)) (refused answer.StoreTooShort 0) (accepted j)"),
+    ("Contracts", "withRoom n (accepted j) = cond (ltb n (sheetLeast j)) (refused answer.SheetTooShort 0) (accepted j)"),
+    ("Contracts", WRITTEN_PLAN),
     ("Contracts", WRITTEN_CANNOT),
-    ("Contracts", "Told (refused k l) r b = (r ≡ k + 256 * l) × (b ≡ [])"),
-    ("Contracts", "Decided (refused k l) sheet r = r ≡ k + 256 * l"),
-    ("Contracts", "Judged j (bad l) r = r ≡ 11 + 256 * l"),
-    ("Contracts", "Judged j (plan ps) r = (RightPlan j ps × (r ≡ 0)) ⊎ ((RightPlan j ps → ⊥) × (r ≡ 12))"),
-    ("Contracts", "Judged j (cannot xs) r = (RightChokes j xs × (r ≡ 1)) ⊎ ((RightChokes j xs → ⊥) × (r ≡ 12))"),
+    ("Contracts", "Told (refused a l) r b = (r ≡ number a + 256 * l) × (b ≡ [])"),
+    ("Contracts", "Decided (refused a l) sheet r = r ≡ number a + 256 * l"),
+    ("Contracts", "Judged j (bad l) r = r ≡ number answer.BadSheet + 256 * l"),
+    ("Contracts", JUDGED_PLAN),
+    ("Contracts", JUDGED_CANNOT),
 ];
 
 const FIELDS_SAY: &str = "fieldsSay j k fs = \
-    cond (mayFollow j k && eqb (length fs) (fieldCount k)) (numbersSay j k (numbersOf fs)) (wrong 3)";
+    cond (mayFollow j k && eqb (length fs) (fieldCount k)) (numbersSay j k (numbersOf fs)) (wrong BadLine)";
 const NUMBERS_SAY: &str = "cond (inRange j k a b) \
-    (cond (hasRoom j k) (cond (isNew j k a b) (right (add j k a b)) (wrong 7)) (wrong 6)) (wrong 5)";
-const WHOLE_JOB: &str = "wholeJob j n = cond (eqb (j .cells) 0) (refused 3 n) \
-    (cond (eqb (length (j .carts)) (length (j .calls))) (accepted j) (refused 8 0))";
+    (cond (hasRoom j k) (cond (isNew j k a b) (right (add j k a b)) (wrong Doubled)) (wrong TooMany)) (wrong OutOfRange)";
+const WHOLE_JOB: &str = "wholeJob j n = cond (eqb (j .cells) 0) (refused BadLine n) \
+    (cond (eqb (length (j .carts)) (length (j .calls))) (accepted j) (refused Uneven 0))";
+const WRITTEN_PLAN: &str = "((ps : List Path) × RightPlan j ps × (b ≡ planText ps) × \
+    (r ≡ number answer.Plan + 256 * length b))";
 const WRITTEN_CANNOT: &str = "⊎ ((xs : List Point) × RightChokes j xs × (b ≡ cannotText xs) × \
-    (r ≡ 1 + 256 * length b) × ((ps : List Path) → Plan j ps → ⊥))";
+    (r ≡ number answer.Cannot + 256 * length b) × ((ps : List Path) → Plan j ps → ⊥))";
+const JUDGED_PLAN: &str = "Judged j (plan ps) r = (RightPlan j ps × (r ≡ number answer.Plan)) \
+    ⊎ ((RightPlan j ps → ⊥) × (r ≡ number answer.WrongSheet))";
+const JUDGED_CANNOT: &str = "Judged j (cannot xs) r = (RightChokes j xs × (r ≡ number answer.Cannot)) \
+    ⊎ ((RightChokes j xs → ⊥) × (r ≡ number answer.WrongSheet))";
 
 #[test]
 fn the_definitions_have_these_numbers() {

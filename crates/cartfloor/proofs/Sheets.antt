@@ -10,6 +10,9 @@ use lib.Dec.{ltb}
 use lib.ListN.{length, take, length-append}
 use lib.Seq.{take-all}
 use borrow.Author.Tests.{ltb-true, ltb-false}
+use Rattle.model.specs.declared.answer.Answer.the-variants as answer
+use Rattle.model.specs.Answers.{number}
+use Rattle.model.specs.Limits.{maxCalls, maxSteps}
 use Rattle.model.specs.Text.{line, planWord, pathWord, cannotWord, chokeWord}
 use Rattle.model.specs.Job.{Job, callOf}
 use Rattle.model.specs.Ready.{Fit}
@@ -26,44 +29,44 @@ use Rattle.text.proofs.Wrote.{wrote-whole, line-room, lines-room}
 use Rattle.cartfloor.specs.Written.{Written}
 
 module _ (j : Job) (f : Fit j) where
-  path-short : (p : Path) → Leads j p → length (line pathWord (pathNumbers p)) ≤ 1037
+  path-short : (p : Path) → Leads j p → length (line pathWord (pathNumbers p)) ≤ length pathWord + 4 * (maxSteps + 2) + 1
   path-short p l =
       let d = f .known-calls (callOf j (p .call)) (in-getD (j .calls) (p .call) _ (l .known-call)) .1 in
       omega (arith, line-room pathWord (pathNumbers p), l .serves .size, d)
 
-  pub plan-short : (ps : List Path) → Plan j ps → length (planText ps) ≤ 70000
+  pub plan-short : (ps : List Path) → Plan j ps → length (planText ps) ≤ length planWord + 5 + (length pathWord + 4 * (maxSteps + 2) + 1) * maxCalls
   plan-short ps h =
-      let lines = lines-room pathWord pathNumbers 1037 ps (λ p m. path-short p (h .leads p m)) in
+      let lines = lines-room pathWord pathNumbers (length pathWord + 4 * (maxSteps + 2) + 1) ps (λ p m. path-short p (h .leads p m)) in
       rw (length-append (line planWord (length ps ∷ [])) (linesText pathWord pathNumbers ps)) (omega (arith, line-room planWord (length ps ∷ []), lines, h .size, f .few-calls))
 
-  pub chokes-short : (xs : List Point) → TrueChokes j xs → length (cannotText xs) ≤ 1000
+  pub chokes-short : (xs : List Point) → TrueChokes j xs → length (cannotText xs) ≤ length cannotWord + 5 + (length chokeWord + 9) * maxCalls
   chokes-short xs h =
-      let lines = lines-room chokeWord chokeNumbers 14 xs (λ x m. omega (arith, line-room chokeWord (chokeNumbers x))) in
+      let lines = lines-room chokeWord chokeNumbers (length chokeWord + 9) xs (λ x m. line-room chokeWord (chokeNumbers x)) in
       rw (length-append (line cannotWord (length xs ∷ [])) (linesText chokeWord chokeNumbers xs)) (omega (arith, line-room cannotWord (length xs ∷ []), lines, h .few, f .few-calls))
 
--- More points than the lists hold would be 64, as many as there can be calls.
-pub points-few : (first second : List ℕ) (n calls : ℕ) → length first ≡ 64 → length second ≡ 64 → calls ≤ 64 → length (pointsOf first second n) < calls → n < calls
-points-few first second n calls e f h l = go (ltb n 64) refl
+-- More points than the lists hold would be as many as there can be calls.
+pub points-few : (first second : List ℕ) (n calls : ℕ) → length first ≡ maxCalls → length second ≡ maxCalls → calls ≤ maxCalls → length (pointsOf first second n) < calls → n < calls
+points-few first second n calls e f h l = go (ltb n maxCalls) refl
   where
-    go : (t : Bool) → ltb n 64 ≡ t → n < calls
+    go : (t : Bool) → ltb n maxCalls ≡ t → n < calls
     go true q =
-        let b = ltb-true n 64 q in
+        let b = ltb-true n maxCalls q in
         let k = pairs-count point first second n (omega arith) (omega arith) in
         omega (arith, k)
     go false q =
-        let b = ltb-false n 64 q in
-        let s : take n first ≡ take 64 first = take-all n first (omega arith) ∙ sym (take-all 64 first (omega arith)) in
-        let t : take n second ≡ take 64 second = take-all n second (omega arith) ∙ sym (take-all 64 second (omega arith)) in
-        let m : length (pointsOf first second 64) < calls = rw (s, t) at l in
-        absurd (omega (arith, m, pairs-count point first second 64 (omega arith) (omega arith)))
+        let b = ltb-false n maxCalls q in
+        let s : take n first ≡ take maxCalls first = take-all n first (omega arith) ∙ sym (take-all maxCalls first (omega arith)) in
+        let t : take n second ≡ take maxCalls second = take-all n second (omega arith) ∙ sym (take-all maxCalls second (omega arith)) in
+        let m : length (pointsOf first second maxCalls) < calls = rw (s, t) at l in
+        absurd (omega (arith, m, pairs-count point first second maxCalls (omega arith) (omega arith)))
 
-module _ (j : Job) (sheet sheet′ : List ℕ) (n : ℕ) where
-  pub plan-written : (ps : List Path) → RightPlan j ps → Wrote sheet 0 (planText ps) sheet′ n → Written j sheet sheet′ (256 * n)
-  plan-written ps h w = record { bytes = planText ps; answers = inl (ps, h, refl, omega (arith, w .next)); text = wrote-whole w }
+module _ (j : Job) (sheet sheet′ : List ℕ) (n r : ℕ) where
+  pub plan-written : r ≡ number answer.Plan + 256 * n → (ps : List Path) → RightPlan j ps → Wrote sheet 0 (planText ps) sheet′ n → Written j sheet sheet′ r
+  plan-written e ps h w = record { bytes = planText ps; answers = inl (ps, h, refl, omega (arith, e, w .next)); text = wrote-whole w }
 
-  pub chokes-written : (xs : List Point) → RightChokes j xs → Wrote sheet 0 (cannotText xs) sheet′ n → Written j sheet sheet′ (1 + 256 * n)
-  chokes-written xs h w = record {
+  pub chokes-written : r ≡ number answer.Cannot + 256 * n → (xs : List Point) → RightChokes j xs → Wrote sheet 0 (cannotText xs) sheet′ n → Written j sheet sheet′ r
+  chokes-written e xs h w = record {
     bytes = cannotText xs;
-    answers = inr (xs, h, refl, omega (arith, w .next), λ ps p. weak j xs ps (h .0) p);
+    answers = inr (xs, h, refl, omega (arith, e, w .next), λ ps p. weak j xs ps (h .0) p);
     text = wrote-whole w;
   }

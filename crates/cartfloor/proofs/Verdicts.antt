@@ -1,133 +1,116 @@
 -- What the two calls answer, from what the functions below them promise: a text turned back, a buffer too short, a sheet judged or written.
--- By cases on the reader's answer and on the two tests of lengths. Assumes nothing.
+-- By cases on the reader's verdict and on the two tests of lengths. Assumes nothing.
 use Prim.Native.Nat.{ℕ, _+_, _*_, _≤_, _<_}
 use mathlib.Core.Path.{_≡_, refl, sym, ap, subst, _∙_}
 use mathlib.Core.List.{List, [], _++_, append-nil}
-use mathlib.Core.Bool.{cond}
+use mathlib.Core.Bool.{Bool, true, false, cond}
 use native.Mathlib.Omega.{arith}
 use lib.Dec.{ltb}
 use lib.ListN.{length, drop, replicate}
 use lib.Seq.{drop-length}
-use borrow.Author.Tests.{lt-ltb, le-ltb}
+use borrow.Author.Tests.{lt-ltb, le-ltb, ltb-false}
+use Rattle.model.specs.declared.answer.Answer.{Answer}
+use Rattle.model.specs.declared.answer.Answer.the-variants.{Cannot, StoreTooShort, SheetTooShort}
+use Rattle.model.specs.Answers.{number}
 use Rattle.model.specs.Job.{Job, storeLeast, sheetLeast}
 use Rattle.model.specs.ReadJob.{Verdict, refused, accepted, readJob}
 use Rattle.model.specs.ReadSheet.{readSheet}
 use Rattle.model.specs.Ready.{Ready}
 use Rattle.model.specs.Contracts.{Told, Judged, Decided, withStore, withRoom, checkVerdict, planVerdict, zeros, storeAfter, Checked, Planned}
+use Rattle.model.proofs.Basics.{nope}
 use Rattle.model.proofs.Ready.{read-ready}
-use Rattle.job.specs.declared.line.Fault.{Fault}
-use Rattle.job.specs.declared.line.Fault.the-variants.{Form, Number, Range, Room, Doubled}
-use Rattle.job.specs.declared.read.Answer.{Answer}
-use Rattle.job.specs.declared.read.Answer.the-variants.{Accepted, TooLong, BadLine, Uneven}
+use Rattle.job.specs.declared.read.Verdict.the-variants.{Accepted, Refused}
 use Rattle.job.specs.declared.read.Reading.{Reading}
 use Rattle.job.specs.Arrays.{jobOf}
-use Rattle.job.specs.Lines.{faultNumber}
-use Rattle.job.specs.Answers.{verdictOf, Read}
+use Rattle.job.specs.Reading.{verdictOf, Read}
 use Rattle.sheet.specs.declared.form.Form as form
 use Rattle.sheet.specs.Form.{formOf}
-use Rattle.cartfloor.specs.Packed.{turnedBack}
+use Rattle.cartfloor.specs.Admitted.{Admitted}
 use Rattle.cartfloor.specs.Written.{Written}
 
-pub fault-bound : (f : Fault) → (3 ≤ faultNumber f) × (faultNumber f ≤ 7)
-fault-bound Form = (omega arith, omega arith)
-fault-bound Number = (omega arith, omega arith)
-fault-bound Range = (omega arith, omega arith)
-fault-bound Room = (omega arith, omega arith)
-fault-bound Doubled = (omega arith, omega arith)
+-- The text, by the reader's verdict, and the store's length.
+module _ (text : List ℕ) (n : ℕ) (r : Reading) (read : Read text r) where
+  pub admit-refused : (a : Answer) (l : ℕ) → r .verdict ≡ Refused a l → Admitted text n r
+  admit-refused a l e =
+      let h : verdictOf (r .verdict) (jobOf (r .job)) ≡ refused a l = ap (λ v. verdictOf v (jobOf (r .job))) e in
+      record { says = h ∙ ap (withStore n) (sym h ∙ read .says); sized = read .sized; bounded = read .bounded }
 
--- The verdict v is a refusal, and r its packed answer.
-pub record Back (v : Verdict) (r : ℕ) : Type 0 where
-  pub code : ℕ
-  pub line : ℕ
-  pub so : v ≡ refused code line
-  pub packed : r ≡ code + 256 * line
-  pub large : 2 ≤ r
+  module _ (e : r .verdict ≡ Accepted) where
+    said : readJob text ≡ accepted (jobOf (r .job))
+    said = sym (read .says) ∙ ap (λ v. verdictOf v (jobOf (r .job))) e
 
-accepted-answer : (a : Answer) → turnedBack a ≡ 0 → a ≡ Accepted
-accepted-answer Accepted e = refl
-accepted-answer TooLong e = absurd (omega arith)
-accepted-answer (BadLine f l) e = absurd (omega (arith, fault-bound f .0))
-accepted-answer Uneven e = absurd (omega arith)
+    pub read-whole : Ready (jobOf (r .job))
+    read-whole = read-ready text (jobOf (r .job)) said
 
-refused-answer : (a : Answer) (j : Job) → (turnedBack a ≡ 0 → ⊥) → Back (verdictOf a j) (turnedBack a)
-refused-answer Accepted j n = absurd (n refl)
-refused-answer TooLong j n = record { code = 2; line = 0; so = refl; packed = refl; large = omega arith }
-refused-answer (BadLine f l) j n = record { code = faultNumber f; line = l; so = refl; packed = refl; large = omega (arith, fault-bound f .0) }
-refused-answer Uneven j n = record { code = 8; line = 0; so = refl; packed = refl; large = omega arith }
+    tested : (t : Bool) → ltb n (storeLeast (jobOf (r .job))) ≡ t → checkVerdict text n ≡ cond t (refused StoreTooShort 0) (accepted (jobOf (r .job)))
+    tested t q = ap (withStore n) said ∙ ap (λ t. cond t (refused StoreTooShort 0) (accepted (jobOf (r .job)))) q
 
--- The text, by the number that its reading is turned back with.
-module _ (text : List ℕ) (r : Reading) (read : Read text r) (n : ℕ) (e : n ≡ turnedBack (r .answer)) where
-  pub turned-back : (n ≡ 0 → ⊥) → Back (readJob text) n
-  turned-back h = subst (Back (readJob text)) (sym e) (subst (λ v. Back v (turnedBack (r .answer))) (read .says) (refused-answer (r .answer) (jobOf (r .job)) (λ z. h (e ∙ z))))
+    pub admit-short : n < storeLeast (jobOf (r .job)) → Admitted text n (record { verdict = Refused StoreTooShort 0; job = r .job })
+    admit-short h = record { says = sym (tested true (lt-ltb _ _ h)); sized = read .sized; bounded = (omega arith, omega arith) }
 
-  pub let-through : n ≡ 0 → readJob text ≡ accepted (jobOf (r .job))
-  let-through z = sym (read .says) ∙ ap (λ a. verdictOf a (jobOf (r .job))) (accepted-answer (r .answer) (sym e ∙ z))
-
-  pub ready : n ≡ 0 → Ready (jobOf (r .job))
-  ready z = read-ready text (jobOf (r .job)) (let-through z)
-
--- The lengths of the two buffers.
-module _ (text : List ℕ) (n : ℕ) where
-  pub back-store : (r : ℕ) → Back (readJob text) r → Back (checkVerdict text n) r
-  back-store r b = record { code = b .code; line = b .line; so = ap (withStore n) (b .so); packed = b .packed; large = b .large }
-
-  module _ (j : Job) (e : readJob text ≡ accepted j) where
-    pub short-store : n < storeLeast j → Back (checkVerdict text n) 9
-    short-store h = record {
-      code = 9;
-      line = 0;
-      so = ap (withStore n) e ∙ ap (λ t. cond t (refused 9 0) (accepted j)) (lt-ltb n (storeLeast j) h);
-      packed = refl;
-      large = omega arith;
+    pub admit-long : storeLeast (jobOf (r .job)) ≤ n → Admitted text n r
+    admit-long h = record {
+      says = ap (λ v. verdictOf v (jobOf (r .job))) e ∙ sym (tested false (le-ltb _ _ h));
+      sized = read .sized;
+      bounded = read .bounded;
     }
 
-    pub long-store : storeLeast j ≤ n → checkVerdict text n ≡ accepted j
-    long-store h = ap (withStore n) e ∙ ap (λ t. cond t (refused 9 0) (accepted j)) (le-ltb n (storeLeast j) h)
+passed : (n : ℕ) (v : Verdict) (j : Job) → withStore n v ≡ accepted j → (v ≡ accepted j) × (storeLeast j ≤ n)
+passed n (refused a l) j e = nope (cc)
+passed n (accepted i) j e = go (ltb n (storeLeast i)) refl e
+  where
+    go : (t : Bool) → ltb n (storeLeast i) ≡ t → cond t (refused StoreTooShort 0) (accepted i) ≡ accepted j → (accepted i ≡ accepted j) × (storeLeast j ≤ n)
+    go true q e = nope (cc)
+    go false q e = let same : i ≡ j = cc in (e, subst (λ i. storeLeast i ≤ n) same (ltb-false _ _ q))
 
-  module _ (m : ℕ) where
-    pub back-room : (r : ℕ) → Back (checkVerdict text n) r → Back (planVerdict text n m) r
-    back-room r b = record { code = b .code; line = b .line; so = ap (withRoom m) (b .so); packed = b .packed; large = b .large }
+-- What both calls know of a job that is let through, and of one that is not.
+module _ (text : List ℕ) (n : ℕ) (r : Reading) (h : Admitted text n r) where
+  pub turned : (a : Answer) (l : ℕ) → r .verdict ≡ Refused a l → checkVerdict text n ≡ refused a l
+  turned a l e = sym (h .says) ∙ ap (λ v. verdictOf v (jobOf (r .job))) e
 
-    module _ (j : Job) (e : checkVerdict text n ≡ accepted j) where
-      pub short-room : m < sheetLeast j → Back (planVerdict text n m) 10
-      short-room h = record {
-        code = 10;
-        line = 0;
-        so = ap (withRoom m) e ∙ ap (λ t. cond t (refused 10 0) (accepted j)) (lt-ltb m (sheetLeast j) h);
-        packed = refl;
-        large = omega arith;
-      }
+  module _ (e : r .verdict ≡ Accepted) where
+    pub let-through : checkVerdict text n ≡ accepted (jobOf (r .job))
+    let-through = sym (h .says) ∙ ap (λ v. verdictOf v (jobOf (r .job))) e
 
-      pub long-room : sheetLeast j ≤ m → planVerdict text n m ≡ accepted j
-      long-room h = ap (withRoom m) e ∙ ap (λ t. cond t (refused 10 0) (accepted j)) (le-ltb m (sheetLeast j) h)
+    pub stored : storeLeast (jobOf (r .job)) ≤ n
+    stored = passed n (readJob text) (jobOf (r .job)) let-through .1
+
+    pub ready : Ready (jobOf (r .job))
+    ready = read-ready text (jobOf (r .job)) (passed n (readJob text) (jobOf (r .job)) let-through .0)
+
+-- The sheet's buffer.
+module _ (text : List ℕ) (n m : ℕ) (j : Job) (e : checkVerdict text n ≡ accepted j) where
+  pub short-room : m < sheetLeast j → planVerdict text n m ≡ refused SheetTooShort 0
+  short-room h = ap (withRoom m) e ∙ ap (λ t. cond t (refused SheetTooShort 0) (accepted j)) (lt-ltb m (sheetLeast j) h)
+
+  pub long-room : sheetLeast j ≤ m → planVerdict text n m ≡ accepted j
+  long-room h = ap (withRoom m) e ∙ ap (λ t. cond t (refused SheetTooShort 0) (accepted j)) (le-ltb m (sheetLeast j) h)
 
 -- As many bytes cleared as were lent: all of them.
 pub cleared : (lent s : List ℕ) → length s ≡ length lent → replicate (length lent) 0 ++ drop (length lent) s ≡ zeros lent
 cleared lent s e = rw (sym e, drop-length, append-nil)
 
--- The check: only an answer below 2 wipes the store.
+-- The check: only an answer up to CANNOT wipes the store.
 module _ (text store sheet : List ℕ) (r : ℕ) where
-  kept : 2 ≤ r → store ≡ cond (ltb r 2) (zeros store) store
-  kept h = rw (le-ltb r 2 h)
-
-  pub back-checked : Back (checkVerdict text (length store)) r → Checked text store sheet store r
-  back-checked b = record { told = subst (λ v. Decided v sheet r) (sym (b .so)) (b .packed); store-after = kept (b .large) }
+  pub back-checked : (a : Answer) (l : ℕ) → checkVerdict text (length store) ≡ refused a l → number Cannot < number a → r ≡ number a + 256 * l
+      → Checked text store sheet store r
+  back-checked a l e late p = record { told = subst (λ v. Decided v sheet r) (sym e) p; store-after = rw (le-ltb r 2 (omega arith)) }
 
   module _ (j : Job) (e : checkVerdict text (length store) ≡ accepted j) (g : Judged j (readSheet j sheet) r) where
-    pub passed-checked : (store′ : List ℕ) → r < 2 → store′ ≡ zeros store → Checked text store sheet store′ r
-    passed-checked store′ h w = record { told = subst (λ v. Decided v sheet r) (sym e) g; store-after = rw (lt-ltb r 2 h) w }
+    pub passed-checked : (store′ : List ℕ) → r ≤ number Cannot → store′ ≡ zeros store → Checked text store sheet store′ r
+    passed-checked store′ h w = record { told = subst (λ v. Decided v sheet r) (sym e) g; store-after = rw (lt-ltb r 2 (omega arith)) w }
 
-    pub failed-checked : 2 ≤ r → Checked text store sheet store r
-    failed-checked h = record { told = subst (λ v. Decided v sheet r) (sym e) g; store-after = kept h }
+    pub failed-checked : number Cannot < r → Checked text store sheet store r
+    failed-checked h = record { told = subst (λ v. Decided v sheet r) (sym e) g; store-after = rw (le-ltb r 2 h) }
 
 -- The planner: only a job that is answered wipes the store.
 module _ (text store sheet : List ℕ) (r : ℕ) where
-  pub back-planned : Back (planVerdict text (length store) (length sheet)) r → Planned text store sheet store sheet r
-  back-planned b = record {
+  pub back-planned : (a : Answer) (l : ℕ) → planVerdict text (length store) (length sheet) ≡ refused a l → r ≡ number a + 256 * l → Planned text store sheet store sheet r
+  back-planned a l e p = record {
     bytes = [];
-    told = subst (λ v. Told v r []) (sym (b .so)) (b .packed, refl);
+    told = subst (λ v. Told v r []) (sym e) (p, refl);
     sheet-after = refl;
-    store-after = ap (λ v. storeAfter v store) (sym (b .so));
+    store-after = ap (λ v. storeAfter v store) (sym e);
   }
 
   pub written-planned : (j : Job) → planVerdict text (length store) (length sheet) ≡ accepted j → (store′ sheet′ : List ℕ) → store′ ≡ zeros store → Written j sheet sheet′ r

@@ -1,7 +1,11 @@
 // The planner: every refusal is decided before a byte is written.
 use crate::refuse;
+use job::read::Verdict;
+use job::size::sheet_least;
 use job::state::Job;
 use model::Limits;
+use model::answer::Answer;
+use model::answer::packed;
 use model::bytes::clear;
 use planner::solve;
 use planner::solve::Outcome;
@@ -14,7 +18,7 @@ ghost use Rattle.model.specs.Contracts.{Planned};
 ghost use Rattle.job.specs.Arrays.{jobOf, Sized};
 ghost use Rattle.cartfloor.specs.Written.{Written};
 
-// 0 for a plan or 1 for a choke list, and 256 for each byte of the sheet.
+// The answer, packed with the bytes of the sheet.
 fn plan_job(job: Job, store: &mut [u8], sheet: &mut [u8]) -> u64
     requires { ⌜ Ready (jobOf job) × Sized job × (storeLeast (jobOf job) ≤ length (now store)) × (sheetLeast (jobOf job) ≤ length (now sheet)) ⌝ }
     ensures { λ r. ⌜ (length (now (store .exit)) ≡ length (now (store .entry))) × Written (jobOf job) (now (sheet .entry)) (now (sheet .exit)) r ⌝ }
@@ -26,11 +30,11 @@ fn plan_job(job: Job, store: &mut [u8], sheet: &mut [u8]) -> u64
     match outcome {
         Outcome::Plan => {
             let n = sheetwriter::put_plan(job, &first, &second, &rows, sheet);
-            return 256 * n as u64;
+            return packed(Answer::Plan, n as u64);
         }
         Outcome::Cannot { points } => {
             let n = sheetwriter::put_cannot(job, &first, &second, points, sheet);
-            return 1 + 256 * n as u64;
+            return packed(Answer::Cannot, n as u64);
         }
     }
 }
@@ -39,22 +43,17 @@ fn plan_job(job: Job, store: &mut [u8], sheet: &mut [u8]) -> u64
 pub extern "C" fn cartfloor_plan(text: &[u8], store: &mut [u8], sheet: &mut [u8]) -> u64
     ensures { λ r. ⌜ Planned (now (text .entry)) (now (store .entry)) (now (sheet .entry)) (now (store .exit)) (now (sheet .exit)) r ⌝ }
 {
-    let reading = job::read::read(text);
-    let answer = reading.answer;
-    let held = reading.job;
-    let back = refuse::turned_back(answer);
-    if back != 0 {
-        return back;
-    }
-    let least = job::size::store_least(held);
     let lent = store.len();
-    if lent < least {
-        return 9;
+    let reading = refuse::admit(text, lent);
+    let job = reading.job;
+    let verdict = reading.verdict;
+    if let Verdict::Refused { answer, line } = verdict {
+        return packed(answer, line as u64);
     }
-    if sheet.len() < job::size::sheet_least(held) {
-        return 10;
+    if sheet.len() < sheet_least(job) {
+        return packed(Answer::SheetTooShort, 0);
     }
-    let r = plan_job(held, store, sheet);
+    let r = plan_job(job, store, sheet);
     clear(store, lent);
     r
 }

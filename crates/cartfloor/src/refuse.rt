@@ -1,32 +1,27 @@
-// The packed answer to a text that the reader turns back.
-use job::line::Fault;
-use job::read::Answer;
+// What both calls refuse: a text that the reader turns back, then a store that is too short for its job.
+use job::read::Reading;
+use job::read::Verdict;
+use job::size::store_least;
+use model::answer::Answer;
 ghost use mathlib.Core.Path.{_≡_};
-ghost use Rattle.job.specs.Answers.{LineFits};
-ghost use Rattle.job.specs.Lines.{faultNumber};
-ghost use Rattle.cartfloor.specs.Packed.{turnedBack};
+ghost use Rattle.cartfloor.specs.Admitted.{Admitted};
 
-fn number_of(fault: Fault) -> u64
-    ensures { λ r. ⌜ r ≡ faultNumber fault ⌝ }
+// The job that the text says, if a store of so many bytes is long enough for it.
+pub fn admit(text: &[u8], lent: usize) -> Reading
+    ensures { λ r. ⌜ Admitted (now (text .entry)) lent r ⌝ }
 {
-    match fault {
-        Fault::Form => 3,
-        Fault::Number => 4,
-        Fault::Range => 5,
-        Fault::Room => 6,
-        Fault::Doubled => 7,
+    let reading = job::read::read(text);
+    let job = reading.job;
+    let verdict = reading.verdict;
+    if let Verdict::Refused { answer: _, line: _ } = verdict {
+        return Reading { verdict, job };
     }
-}
-
-// 0 where the text is accepted.
-pub fn turned_back(answer: Answer) -> u64
-    requires { ⌜ LineFits answer ⌝ }
-    ensures { λ r. ⌜ r ≡ turnedBack answer ⌝ }
-{
-    match answer {
-        Answer::Accepted => 0,
-        Answer::TooLong => 2,
-        Answer::BadLine { fault, line } => number_of(fault) + 256 * line as u64,
-        Answer::Uneven => 8,
+    if lent < store_least(job) {
+        let verdict = Verdict::Refused {
+            answer: Answer::StoreTooShort,
+            line: 0,
+        };
+        return Reading { verdict, job };
     }
+    Reading { verdict, job }
 }

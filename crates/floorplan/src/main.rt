@@ -2,6 +2,8 @@
 use libc::STDIN_FILENO;
 use libc::STDOUT_FILENO;
 use model::Limits;
+use model::answer::Answer;
+use model::answer::number;
 
 // The length of the store and of the sheet's buffer.
 const LENT: usize = 65536;
@@ -19,7 +21,7 @@ fn plan(text: &[u8]) {
     let mut sheet = [0u8; LENT];
     let r = cartfloor::plan::cartfloor_plan(text, &mut store, &mut sheet);
     let value = r / 256;
-    if 1 < r % 256 {
+    if number(Answer::Cannot) < r % 256 {
         refuse(r % 256, value);
         return;
     }

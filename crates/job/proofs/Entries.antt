@@ -11,6 +11,7 @@ use lib.Dec.{ltb, eqb}
 use lib.ListN.{length, take, drop, replicate, length-drop, length-replicate}
 use lib.Seq.{take-all}
 use borrow.Author.Tests.{ltb-true, ltb-false, eq-eqb, ne-eqb}
+use Rattle.model.specs.declared.answer.Answer.the-variants.{BadLine}
 use Rattle.model.specs.Job as model
 use Rattle.model.specs.Job.{track, call}
 use Rattle.model.specs.Text.{startsWith, fieldsOf, andNumber, numbersOf, opens, floorWord, trackWord, cartWord, callWord}
@@ -25,7 +26,7 @@ use Rattle.job.specs.declared.line.Fault.the-variants.{Form, Number}
 use Rattle.job.specs.declared.line.Numbers.{Numbers}
 use Rattle.job.specs.declared.line.Numbers.the-variants.{Bad, Good}
 use Rattle.job.specs.declared.state.Counts.{Counts}
-use Rattle.job.specs.Lines.{faultNumber, numbersBy, numbersGiven, Counted}
+use Rattle.job.specs.Lines.{answerTo, numbersBy, numbersGiven, SameCounts}
 
 -- Numbers. The field after the number at 0 starts at next + 1, if there is one.
 module _ (s : List ℕ) where
@@ -76,18 +77,18 @@ module _ (s : List ℕ) where
 
 -- Fields. What they say by the numbers that they give.
 unfoldable pub givenSay : model.Job → read.Kind → Numbers → Said
-givenSay j k (Bad f) = wrong (faultNumber f)
+givenSay j k (Bad f) = wrong (answerTo f)
 givenSay j k (Good a b) = numbersSay j k (some (a ∷ b ∷ []))
 
 module _ (j : model.Job) (k : read.Kind) (fs : List (List ℕ)) where
-  pub fields-out : mayFollow j k ≡ false → fieldsSay j k fs ≡ wrong 3
+  pub fields-out : mayFollow j k ≡ false → fieldsSay j k fs ≡ wrong BadLine
   fields-out m = simp m
 
   pub fields-by : mayFollow j k ≡ true → fieldsSay j k fs ≡ givenSay j k (numbersGiven (fieldCount k) fs)
   unfolding givenSay
   fields-by m = simp m (go (eqb (length fs) (fieldCount k)) (numbersOf fs))
     where
-      go : (t : Bool) (o : Option (List ℕ)) → cond t (numbersSay j k o) (wrong 3) ≡ givenSay j k (cond t (numbersBy o) (Bad Form))
+      go : (t : Bool) (o : Option (List ℕ)) → cond t (numbersSay j k o) (wrong BadLine) ≡ givenSay j k (cond t (numbersBy o) (Bad Form))
       go false o = refl
       go true none = refl
       go true (some ns) = refl
@@ -99,7 +100,7 @@ count-few cartLine = inl refl
 count-few callLine = inr refl
 
 -- The tests are asked of any job with these counts: here is one.
-pub some-job : (c : Counts) → (j : model.Job) × Counted c j
+pub some-job : (c : Counts) → (j : model.Job) × SameCounts c j
 some-job c = (
   record { cells = c .cells; tracks = replicate (c .tracks) (track 0 0); carts = replicate (c .carts) 0; calls = replicate (c .calls) (call 0 0) },
   record {
@@ -131,5 +132,5 @@ module _ (j : model.Job) (l : List ℕ) where
         pub line-call : opens callWord l ≡ true → fieldsSay j callLine (fieldsOf (take (length l - 5) (drop 5 l))) ≡ lineSays j l
         line-call d = part callLine 5 ∙ simp (f, t, c, d)
 
-        pub line-none : opens callWord l ≡ false → wrong 3 ≡ lineSays j l
+        pub line-none : opens callWord l ≡ false → wrong BadLine ≡ lineSays j l
         line-none d = simp (f, t, c, d)

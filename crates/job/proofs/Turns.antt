@@ -1,17 +1,20 @@
 -- A turn of the reader, in plain lists: what the lines from an index on say, by the end of the first and what it says; what the reader keeps
 -- from turn to turn; and what it answers at the end. Assumes nothing.
-use Prim.Native.Nat.{ℕ, _+_, _-_, _*_, _/_, _≤_, _<_}
+use Prim.Native.Nat.{ℕ, _+_, _*_, _/_, _≤_, _<_}
 use mathlib.Core.Path.{_≡_, refl, sym, ap, _∙_}
 use mathlib.Core.List.{List}
 use native.Mathlib.Omega.{arith}
-use lib.ListN.{length, take, drop, replicate, length-replicate}
+use lib.ListN.{length, drop, replicate, length-replicate}
 use borrow.Author.Tests.{lt-ltb, le-ltb, eq-eqb, ne-eqb}
+use Rattle.model.specs.declared.answer.Answer.{Answer}
+use Rattle.model.specs.declared.answer.Answer.the-variants.{Cannot, TextTooLong, BadLine, Uneven}
+use Rattle.model.specs.Answers.{number}
 use Rattle.model.specs.Limits.{maxCells, maxTracks, maxCarts, maxCalls, maxText}
 use Rattle.model.specs.Job as model
 use Rattle.model.specs.Text.{linesOf}
-use Rattle.model.specs.ReadJob.{Said, refused, accepted, add, goOn, lineSays, linesSay, wholeJob, readJob}
+use Rattle.model.specs.ReadJob.{refused, accepted, add, goOn, lineSays, linesSay, wholeJob, readJob}
 use Rattle.text.specs.Scan.{lineOf}
-use Rattle.text.proofs.LineLaws.{lines-done, lines-cut, lines-more}
+use Rattle.text.proofs.LineLaws.{lines-done, next-cut, next-more}
 use Rattle.job.specs.declared.state.Kind.{Kind}
 use Rattle.job.specs.declared.state.Kind.the-variants.{Floor, Track, Cart, Call}
 use Rattle.job.specs.declared.state.Job.{Job}
@@ -19,30 +22,19 @@ use Rattle.job.specs.declared.state.Counts.{Counts}
 use Rattle.job.specs.declared.line.Fault.{Fault}
 use Rattle.job.specs.declared.line.Entry.{Entry}
 use Rattle.job.specs.declared.line.Entry.the-variants.{Wrong, Right}
+use Rattle.job.specs.declared.read.Reading.{Reading}
+use Rattle.job.specs.declared.read.Verdict.the-variants.{Refused}
 use Rattle.job.specs.Arrays.{jobOf, held, Sized, Long}
-use Rattle.job.specs.Lines.{kindOf, faultNumber, saidBy, Counted, Small, Taken, tableSize, marked, Marked}
+use Rattle.job.specs.Reading.{Read}
+use Rattle.job.specs.Lines.{kindOf, answerTo, saidBy, SameCounts, Small, Taken, tableSize, marked, Marked}
 use Rattle.job.proofs.Arrays.{whole, tracks-count, carts-count, calls-count}
 use Rattle.job.proofs.Marks.{marked-zeros, marked-add, marked-length}
-
-module _ (s : List ℕ) (at n : ℕ) (j : model.Job) where
-  turn-done : length s ≤ at → linesSay j n (linesOf (drop at s)) ≡ wholeJob j n
-  turn-done h = ap (linesSay j n) (lines-done s at h)
-
-  module _ (e : ℕ) (inside : at < length s) (end : e ≡ at + length (lineOf (drop at s))) where
-    turn-cut : length s ≤ e → linesSay j n (linesOf (drop at s)) ≡ refused 3 n
-    turn-cut h = ap (linesSay j n) (lines-cut s at e inside end h)
-
-    turn : (entry : Entry) → e < length s → saidBy j entry ≡ lineSays j (take (e - at) (drop at s))
-        → linesSay j n (linesOf (drop at s)) ≡ goOn (saidBy j entry) n (λ j′. linesSay j′ (n + 1) (linesOf (drop (e + 1) s)))
-    turn entry h said =
-        ap (linesSay j n) (lines-more s at e inside end h)
-        ∙ ap (λ (x : Said). goOn x n (λ j′. linesSay j′ (n + 1) (linesOf (drop (e + 1) s)))) (sym said)
 
 -- The counts beside the arrays are those of the job in them.
 abbrev pub countsOf : Job → Counts
 countsOf s = record { cells = s .cells; tracks = s .tracks; carts = s .carts; calls = s .calls }
 
-pub counted : (s : Job) → Sized s → Long s → Counted (countsOf s) (jobOf s)
+pub counted : (s : Job) → Sized s → Long s → SameCounts (countsOf s) (jobOf s)
 counted s z g =
     let w = whole s z g in
     record { cells = refl; tracks = sym (tracks-count s w); carts = sym (carts-count s w); calls = sym (calls-count s w) }
@@ -59,11 +51,16 @@ pub record Kept (s : List ℕ) (job : Job) (seen : List ℕ) (at line : ℕ) : T
   pub marks : Marked seen (jobOf job)
   pub rest : linesSay (jobOf job) line (linesOf (drop at s)) ≡ readJob s
 
-pub too-long : (s : List ℕ) → maxText < length s → refused 2 0 ≡ readJob s
+-- A refusal says that of the text.
+pub turned-back : {s : List ℕ} {r : Reading} {a : Answer} {l : ℕ} → (r .verdict ≡ Refused a l) × Sized (r .job) → refused a l ≡ readJob s
+    → number Cannot < number a → l ≤ maxText + 1 → Read s r
+turned-back (e, sized) says late low = record { says = rw e says; sized = sized; bounded = rw e (late, low) }
+
+pub too-long : (s : List ℕ) → maxText < length s → refused TextTooLong 0 ≡ readJob s
 unfolding readJob
 too-long s h = simp (lt-ltb _ _ h)
 
-pub kept-counts : {s : List ℕ} {job : Job} {seen : List ℕ} {at line : ℕ} → Kept s job seen at line → Counted (countsOf job) (jobOf job)
+pub kept-counts : {s : List ℕ} {job : Job} {seen : List ℕ} {at line : ℕ} → Kept s job seen at line → SameCounts (countsOf job) (jobOf job)
 kept-counts {s} {job} k = counted job (k .sized) (k .long)
 
 -- The arrays before the first line.
@@ -102,27 +99,28 @@ cells-small j Track a b h s = h
 cells-small j Cart a b h s = h
 cells-small j Call a b h s = h
 
-module _ (s : List ℕ) (job : Job) (seen : List ℕ) (at line : ℕ) (k : Kept s job seen at line) where
-  module _ (e : ℕ) (inside : at < length s) (end : e ≡ at + length (lineOf (drop at s))) where
-    pub ends-cut : length s ≤ e → refused 3 line ≡ readJob s
-    ends-cut h = sym (turn-cut s at line (jobOf job) e inside end h) ∙ k .rest
+module _ {s : List ℕ} {job : Job} {seen : List ℕ} {at line : ℕ} (k : Kept s job seen at line) where
+  -- l is the line at `at`, and q the place behind it
+  module _ (l : List ℕ) (q : ℕ) (taken : (l ≡ lineOf (drop at s)) × (q ≡ at + length (lineOf (drop at s)) + 1)) where
+    pub ends-cut : at < length s → length s < q → refused BadLine line ≡ readJob s
+    ends-cut inside h = sym (ap (linesSay (jobOf job) line) (next-cut s at l q taken inside h)) ∙ k .rest
 
-    module _ (h : e < length s) (entry : Entry) (said : saidBy (jobOf job) entry ≡ lineSays (jobOf job) (take (e - at) (drop at s))) where
-      turned : goOn (saidBy (jobOf job) entry) line (λ j′. linesSay j′ (line + 1) (linesOf (drop (e + 1) s))) ≡ readJob s
-      turned = sym (turn s at line (jobOf job) e inside end entry h said) ∙ k .rest
+    module _ (h : q ≤ length s) (entry : Entry) (said : saidBy (jobOf job) entry ≡ lineSays (jobOf job) l) where
+      turned : goOn (saidBy (jobOf job) entry) line (λ j. linesSay j (line + 1) (linesOf (drop q s))) ≡ readJob s
+      turned = rw said (sym (ap (linesSay (jobOf job) line) (next-more s at l q taken h)) ∙ k .rest)
 
-      pub ends-wrong : (f : Fault) → entry ≡ Wrong f → refused (faultNumber f) line ≡ readJob s
+      pub ends-wrong : (f : Fault) → entry ≡ Wrong f → refused (answerTo f) line ≡ readJob s
       ends-wrong f w = rw w at turned
 
       pub kept-next : (kind : Kind) (a b : ℕ) (r : Job) (seen′ : List ℕ) → entry ≡ Right kind a b → Small kind a b → Taken job kind a b r
-          → seen′ ≡ marked seen kind a b → Kept s r seen′ (e + 1) (line + 1)
+          → seen′ ≡ marked seen kind a b → Kept s r seen′ q (line + 1)
       kept-next kind a b r seen′ w small t m =
           let g = t .adds in
           let c : r .cells ≡ add (jobOf job) (kindOf kind) a b .cells = ap (λ j. j .cells) g in
           record {
             within = omega arith;
             short = k .short;
-            lines = omega (arith, k .lines);
+            lines = omega (arith, k .lines, taken .1);
             sized = t .sized;
             long = t .long;
             cells = omega (arith, cells-small (jobOf job) kind a b (k .cells) small);
@@ -133,13 +131,13 @@ module _ (s : List ℕ) (job : Job) (seen : List ℕ) (at line : ℕ) (k : Kept 
 
   module _ (over : length s ≤ at) where
     ended : wholeJob (jobOf job) line ≡ readJob s
-    ended = sym (turn-done s at line (jobOf job) over) ∙ k .rest
+    ended = sym (ap (linesSay (jobOf job) line) (lines-done s at over)) ∙ k .rest
 
-    pub ends-none : job .cells ≡ 0 → refused 3 line ≡ readJob s
+    pub ends-none : job .cells ≡ 0 → refused BadLine line ≡ readJob s
     ends-none z = simp (eq-eqb _ _ z) at ended
 
     module _ (some : job .cells ≡ 0 → ⊥) where
-      pub ends-uneven : (job .carts ≡ job .calls → ⊥) → refused 8 0 ≡ readJob s
+      pub ends-uneven : (job .carts ≡ job .calls → ⊥) → refused Uneven 0 ≡ readJob s
       ends-uneven d =
           let n : length (jobOf job .carts) ≡ length (jobOf job .calls) → ⊥ = λ e. d (kept-counts k .carts ∙ e ∙ sym (kept-counts k .calls)) in
           simp (ne-eqb _ _ some, ne-eqb _ _ n) at ended

@@ -1,5 +1,5 @@
 pub mod Bits
 pub mod Arrays
 pub mod Lines
-pub mod Answers
+pub mod Reading
 pub mod Held

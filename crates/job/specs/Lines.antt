@@ -6,6 +6,8 @@ use mathlib.Core.Option.{Option, none, some}
 use mathlib.Core.Bool.{Bool, true, cond, _||_}
 use lib.Dec.{ltb, eqb}
 use lib.ListN.{length, getD}
+use Rattle.model.specs.declared.answer.Answer.{Answer}
+use Rattle.model.specs.declared.answer.Answer.the-variants as answer
 use Rattle.model.specs.Limits.{maxCells, maxSteps}
 use Rattle.model.specs.Job as model
 use Rattle.model.specs.Text.{numbersOf}
@@ -29,16 +31,16 @@ kindOf Track = read.trackLine
 kindOf Cart = read.cartLine
 kindOf Call = read.callLine
 
--- the numbers of the five tests
-abbrev pub faultNumber : Fault → ℕ
-faultNumber Form = 3
-faultNumber Number = 4
-faultNumber Range = 5
-faultNumber Room = 6
-faultNumber Doubled = 7
+-- the answers of the five tests
+abbrev pub answerTo : Fault → Answer
+answerTo Form = answer.BadLine
+answerTo Number = answer.NoNumber
+answerTo Range = answer.OutOfRange
+answerTo Room = answer.TooMany
+answerTo Doubled = answer.Doubled
 
 abbrev pub saidBy : model.Job → Entry → read.Said
-saidBy j (Wrong f) = read.wrong (faultNumber f)
+saidBy j (Wrong f) = read.wrong (answerTo f)
 saidBy j (Right k a b) = read.right (read.add j (kindOf k) a b)
 
 -- n fields, and each a number
@@ -50,7 +52,7 @@ abbrev pub numbersGiven : ℕ → List (List ℕ) → Numbers
 numbersGiven n fs = cond (eqb (length fs) n) (numbersBy (numbersOf fs)) (Bad Form)
 
 -- The counts are those of the job.
-pub record Counted (c : Counts) (j : model.Job) : Type 0 where
+pub record SameCounts (c : Counts) (j : model.Job) : Type 0 where
   pub cells : c .cells ≡ j .cells
   pub tracks : c .tracks ≡ length (j .tracks)
   pub carts : c .carts ≡ length (j .carts)
@@ -120,23 +122,23 @@ passing j Range k a b = read.inRange j k a b
 passing j Room k a b = read.hasRoom j k
 passing j Doubled k a b = read.isNew j k a b
 
--- What a test knows of the job: its counts, or its table.
-abbrev pub Known : Fault → Counts → List ℕ → model.Job → Type 0
-Known Form c seen j = Unit
-Known Number c seen j = Unit
-Known Range c seen j = Counted c j
-Known Room c seen j = Counted c j
-Known Doubled c seen j = Marked seen j
+-- What a test goes by: the counts of the job, or its table.
+abbrev pub GoesBy : Fault → Counts → List ℕ → model.Job → Type 0
+GoesBy Form c seen j = Unit
+GoesBy Number c seen j = Unit
+GoesBy Range c seen j = SameCounts c j
+GoesBy Room c seen j = SameCounts c j
+GoesBy Doubled c seen j = Marked seen j
 
 -- What a test asks of the numbers: the table is for small ones only.
-abbrev pub Ready : Fault → Kind → ℕ → ℕ → Type 0
-Ready Form k a b = Unit
-Ready Number k a b = Unit
-Ready Range k a b = Unit
-Ready Room k a b = Unit
-Ready Doubled k a b = Small k a b
+abbrev pub Asks : Fault → Kind → ℕ → ℕ → Type 0
+Asks Form k a b = Unit
+Asks Number k a b = Unit
+Asks Range k a b = Unit
+Asks Room k a b = Unit
+Asks Doubled k a b = Small k a b
 
 -- An entry that is right has small numbers, and there is room for it.
 abbrev pub Sound : Counts → Entry → Type 0
 Sound c (Wrong f) = Unit
-Sound c (Right k a b) = Small k a b × ((j : model.Job) → Counted c j → read.hasRoom j (kindOf k) ≡ true)
+Sound c (Right k a b) = Small k a b × ((j : model.Job) → SameCounts c j → read.hasRoom j (kindOf k) ≡ true)

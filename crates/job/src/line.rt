@@ -4,6 +4,7 @@ use crate::state;
 use crate::state::Counts;
 use crate::state::Kind;
 use model::Limits;
+use model::answer::Answer;
 use text::scan::Scan;
 ghost use mathlib.Core.Path.{_≡_};
 ghost use mathlib.Core.List.{[], _∷_};
@@ -15,7 +16,7 @@ ghost use Rattle.model.specs.Limits.{maxCells};
 ghost use Rattle.model.specs.Job as model;
 ghost use Rattle.model.specs.Text.{fieldsOf};
 ghost use Rattle.model.specs.ReadJob.{trackLine, mayFollow, inRange, hasRoom, isNew, fieldCount, numbersSay, fieldsSay, lineSays};
-ghost use Rattle.job.specs.Lines.{kindOf, saidBy, numbersGiven, Counted, Marked, Small, passing, Known, Ready, Sound, tableSize};
+ghost use Rattle.job.specs.Lines.{kindOf, answerTo, saidBy, numbersGiven, SameCounts, Marked, Small, passing, GoesBy, Asks, Sound, tableSize};
 
 // The first test that a line fails.
 pub enum Fault {
@@ -38,6 +39,18 @@ pub enum Numbers {
     Good { a: usize, b: usize },
 }
 
+pub fn answer_to(fault: Fault) -> Answer
+    ensures { λ r. ⌜ r ≡ answerTo fault ⌝ }
+{
+    match fault {
+        Fault::Form => Answer::BadLine,
+        Fault::Number => Answer::NoNumber,
+        Fault::Range => Answer::OutOfRange,
+        Fault::Room => Answer::TooMany,
+        Fault::Doubled => Answer::Doubled,
+    }
+}
+
 fn field_count(kind: Kind) -> usize
     ensures { λ r. ⌜ r ≡ fieldCount (kindOf kind) ⌝ }
 {
@@ -49,7 +62,7 @@ fn field_count(kind: Kind) -> usize
 
 // FLOOR, then TRACK, then CART, then CALL lines.
 fn may_follow(kind: Kind, counts: Counts) -> bool
-    ensures { λ r. ⌜ ((j : model.Job) → Counted counts j → r ≡ mayFollow j (kindOf kind)) ⌝ }
+    ensures { λ r. ⌜ ((j : model.Job) → SameCounts counts j → r ≡ mayFollow j (kindOf kind)) ⌝ }
 {
     match kind {
         Kind::Floor => counts.cells == 0,
@@ -81,7 +94,7 @@ fn numbers_of(fields: &[u8], count: usize) -> Numbers
 }
 
 fn in_range(kind: Kind, counts: Counts, a: usize, b: usize) -> bool
-    ensures { λ r. ⌜ ((j : model.Job) → Counted counts j → r ≡ inRange j (kindOf kind) a b) ⌝ }
+    ensures { λ r. ⌜ ((j : model.Job) → SameCounts counts j → r ≡ inRange j (kindOf kind) a b) ⌝ }
 {
     match kind {
         Kind::Floor => 0 < a && a <= Limits::CELLS,
@@ -92,7 +105,7 @@ fn in_range(kind: Kind, counts: Counts, a: usize, b: usize) -> bool
 }
 
 fn has_room(kind: Kind, counts: Counts) -> bool
-    ensures { λ r. ⌜ ((j : model.Job) → Counted counts j → r ≡ hasRoom j (kindOf kind)) ⌝ }
+    ensures { λ r. ⌜ ((j : model.Job) → SameCounts counts j → r ≡ hasRoom j (kindOf kind)) ⌝ }
 {
     match kind {
         Kind::Floor => true,
@@ -127,8 +140,8 @@ fn is_new(kind: Kind, seen: &[u8], a: usize, b: usize) -> bool
 
 // Whether the numbers of a line pass a test. A line that has numbers passed the first two.
 fn passes(test: Fault, kind: Kind, counts: Counts, seen: &[u8], a: usize, b: usize) -> bool
-    requires { ⌜ Ready test kind a b × (8 * length (now seen) ≡ tableSize) ⌝ }
-    ensures { λ r. ⌜ ((j : model.Job) → Known test counts (now (seen .entry)) j → r ≡ passing j test (kindOf kind) a b) ⌝ }
+    requires { ⌜ Asks test kind a b × (8 * length (now seen) ≡ tableSize) ⌝ }
+    ensures { λ r. ⌜ ((j : model.Job) → GoesBy test counts (now (seen .entry)) j → r ≡ passing j test (kindOf kind) a b) ⌝ }
 {
     match test {
         Fault::Form | Fault::Number => true,
@@ -141,7 +154,7 @@ fn passes(test: Fault, kind: Kind, counts: Counts, seen: &[u8], a: usize, b: usi
 // What the numbers of a line of this kind say: the first test that they fail, or the line.
 fn numbers_say(kind: Kind, counts: Counts, seen: &[u8], a: usize, b: usize) -> Entry
     requires { ⌜ (counts .cells ≤ maxCells) × (8 * length (now seen) ≡ tableSize) ⌝ }
-    ensures { λ r. ⌜ Sound counts r × ((j : model.Job) → Counted counts j → Marked (now (seen .entry)) j → saidBy j r ≡ numbersSay j (kindOf kind) (some (a ∷ b ∷ []))) ⌝ }
+    ensures { λ r. ⌜ Sound counts r × ((j : model.Job) → SameCounts counts j → Marked (now (seen .entry)) j → saidBy j r ≡ numbersSay j (kindOf kind) (some (a ∷ b ∷ []))) ⌝ }
 {
     if !passes(Fault::Range, kind, counts, seen, a, b) {
         return Entry::Wrong(Fault::Range);
@@ -158,7 +171,7 @@ fn numbers_say(kind: Kind, counts: Counts, seen: &[u8], a: usize, b: usize) -> E
 // What the fields of a line of this kind say.
 fn fields_say(kind: Kind, fields: &[u8], counts: Counts, seen: &[u8]) -> Entry
     requires { ⌜ (counts .cells ≤ maxCells) × (8 * length (now seen) ≡ tableSize) ⌝ }
-    ensures { λ r. ⌜ Sound counts r × ((j : model.Job) → Counted counts j → Marked (now (seen .entry)) j → saidBy j r ≡ fieldsSay j (kindOf kind) (fieldsOf (now (fields .entry)))) ⌝ }
+    ensures { λ r. ⌜ Sound counts r × ((j : model.Job) → SameCounts counts j → Marked (now (seen .entry)) j → saidBy j r ≡ fieldsSay j (kindOf kind) (fieldsOf (now (fields .entry)))) ⌝ }
 {
     if !may_follow(kind, counts) {
         return Entry::Wrong(Fault::Form);
@@ -173,7 +186,7 @@ fn fields_say(kind: Kind, fields: &[u8], counts: Counts, seen: &[u8]) -> Entry
 // What a line says. The word at its start decides, and what follows the word and its tab goes on as the fields.
 pub fn entry_of(line: &[u8], counts: Counts, seen: &[u8]) -> Entry
     requires { ⌜ (counts .cells ≤ maxCells) × (8 * length (now seen) ≡ tableSize) ⌝ }
-    ensures { λ r. ⌜ Sound counts r × ((j : model.Job) → Counted counts j → Marked (now (seen .entry)) j → saidBy j r ≡ lineSays j (now (line .entry))) ⌝ }
+    ensures { λ r. ⌜ Sound counts r × ((j : model.Job) → SameCounts counts j → Marked (now (seen .entry)) j → saidBy j r ≡ lineSays j (now (line .entry))) ⌝ }
 {
     if text::scan::opens_with(line, b"FLOOR\t") {
         return fields_say(Kind::Floor, &line[6..], counts, seen);

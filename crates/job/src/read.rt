@@ -1,48 +1,49 @@
 // The whole text: its lines one after the other, then the count of carts and calls.
 use crate::line;
 use crate::line::Entry;
-use crate::line::Fault;
 use crate::state;
 use crate::state::Counts;
 use crate::state::Job;
 use model::Limits;
+use model::answer::Answer;
 ghost use mathlib.Core.Path.{_≡_};
 ghost use Rattle.job.specs.Arrays.{Sized};
-ghost use Rattle.job.specs.Answers.{answerOf, Read};
+ghost use Rattle.job.specs.Reading.{verdictOn, Read};
 
 // Accepted, or the first place that turns the text back.
-pub enum Answer {
+pub enum Verdict {
     Accepted,
-    TooLong,
-    BadLine { fault: Fault, line: usize },
-    Uneven,
+    Refused { answer: Answer, line: usize },
 }
 
 pub struct Reading {
-    pub answer: Answer,
+    pub verdict: Verdict,
     pub job: Job,
 }
 
-// The answer to a line that is wrong.
-fn answer_of(entry: Entry, line: usize) -> Answer
-    ensures { λ r. ⌜ r ≡ answerOf entry line ⌝ }
+// The verdict on a line that is wrong.
+fn verdict_on(entry: Entry, line: usize) -> Verdict
+    ensures { λ r. ⌜ r ≡ verdictOn entry line ⌝ }
 {
     match entry {
-        Entry::Wrong(fault) => Answer::BadLine { fault, line },
+        Entry::Wrong(fault) => {
+            let answer = line::answer_to(fault);
+            Verdict::Refused { answer, line }
+        }
         Entry::Right {
             kind: _,
             a: _,
             b: _,
-        } => Answer::Accepted,
+        } => Verdict::Accepted,
     }
 }
 
 // Turned back: the job means nothing.
-fn refused(answer: Answer) -> Reading
-    ensures { λ r. ⌜ (r .answer ≡ answer) × Sized (r .job) ⌝ }
+fn refused(verdict: Verdict) -> Reading
+    ensures { λ r. ⌜ (r .verdict ≡ verdict) × Sized (r .job) ⌝ }
 {
     let job = state::empty();
-    Reading { answer, job }
+    Reading { verdict, job }
 }
 
 // The job that the text says, or why it says none. The arrays are filled where they stand and become a job at the end only, since a job is
@@ -51,7 +52,10 @@ pub fn read(text: &[u8]) -> Reading
     ensures { λ r. ⌜ Read (now (text .entry)) r ⌝ }
 {
     if Limits::TEXT < text.len() {
-        return refused(Answer::TooLong);
+        return refused(Verdict::Refused {
+            answer: Answer::TextTooLong,
+            line: 0,
+        });
     }
     let mut from = [0u8; Limits::TRACKS];
     let mut to = [0u8; Limits::TRACKS];
@@ -70,14 +74,14 @@ pub fn read(text: &[u8]) -> Reading
     while at < text.len() {
         let row = text::lines::next(text, &mut at);
         if text.len() < at {
-            return refused(Answer::BadLine {
-                fault: Fault::Form,
+            return refused(Verdict::Refused {
+                answer: Answer::BadLine,
                 line,
             });
         }
         let entry = line::entry_of(row, counts, &seen);
         let Entry::Right { kind, a, b } = entry else {
-            return refused(answer_of(entry, line));
+            return refused(verdict_on(entry, line));
         };
         counts = state::put_line(
             &mut from,
@@ -95,15 +99,18 @@ pub fn read(text: &[u8]) -> Reading
     }
     let cells = counts.cells;
     if cells == 0 {
-        return refused(Answer::BadLine {
-            fault: Fault::Form,
+        return refused(Verdict::Refused {
+            answer: Answer::BadLine,
             line,
         });
     }
     let carts = counts.carts;
     let calls = counts.calls;
     if carts != calls {
-        return refused(Answer::Uneven);
+        return refused(Verdict::Refused {
+            answer: Answer::Uneven,
+            line: 0,
+        });
     }
     let job = Job {
         cells,
@@ -116,6 +123,6 @@ pub fn read(text: &[u8]) -> Reading
         lifts,
         deadlines,
     };
-    let answer = Answer::Accepted;
-    Reading { answer, job }
+    let verdict = Verdict::Accepted;
+    Reading { verdict, job }
 }

@@ -8,7 +8,7 @@ use Rattle.model.specs.Lists.{In, NoDup, Rising}
 use Rattle.model.specs.Job.{Job, Track, Call, track, cartCell, callOf, horizon}
 use Rattle.model.specs.Walk.{At, Step, Walk, Serves}
 use Rattle.model.specs.Plan.{Path, Plan, Leads, OnFloor, Share, Trade, NoShare, NoTrade, Before}
-use Rattle.model.specs.Choke.{Point, Known, StandsOn, Chokes, TrueChokes, Rises}
+use Rattle.model.specs.Choke.{Point, Known, StandsOn, TrueChokes, Rises}
 use Rattle.model.specs.Contracts.{RightPlan, RightChokes}
 use Rattle.model.proofs.Decide.{dec-by, dec-and, dec-or, dec-imp, dec-not, dec-eq, dec-le, dec-lt, all-below, all-in, any-in, dec-in}
 use Rattle.model.proofs.Listed.{walks, walk-listed}
@@ -71,9 +71,6 @@ dec-nodup [] = yes tt
 dec-nodup (a ∷ l) = dec-and (dec-not (dec-in dec-eq a l)) (dec-nodup l)
 
 -- Conflicts: the cells that two walks share or trade are those that the first is on.
-abbrev pub dec-on : (w : List ℕ) (t v : ℕ) → Dec (OnFloor w t v)
-dec-on w t v = dec-and (dec-lt _ _) (dec-eq _ _)
-
 module _ (w x : List ℕ) (t : ℕ) where
   pub share-of : OnFloor w t (getD w t 0) × OnFloor x t (getD w t 0) → Share w x t
   share-of h = (getD w t 0, h .0, h .1)
@@ -82,7 +79,7 @@ module _ (w x : List ℕ) (t : ℕ) where
   share-parts (v, a, b) = ((a .0, refl), (b .0, b .1 ∙ sym (a .1)))
 
   abbrev pub dec-share : Dec (Share w x t)
-  dec-share = dec-by share-of share-parts (dec-and (dec-on w t (getD w t 0)) (dec-on x t (getD w t 0)))
+  dec-share = dec-by share-of share-parts (dec-and (dec-at w t (getD w t 0)) (dec-at x t (getD w t 0)))
 
   abbrev pub TradeParts : Type 0
   TradeParts = (OnFloor w t (getD w t 0) × OnFloor w (suc t) (getD w (suc t) 0)) × (OnFloor x t (getD w (suc t) 0) × OnFloor x (suc t) (getD w t 0))
@@ -95,7 +92,7 @@ module _ (w x : List ℕ) (t : ℕ) where
 
   abbrev pub dec-trade : Dec (Trade w x t)
   dec-trade = dec-by trade-of trade-parts
-      (dec-and (dec-and (dec-on w t (getD w t 0)) (dec-on w (suc t) (getD w (suc t) 0))) (dec-and (dec-on x t (getD w (suc t) 0)) (dec-on x (suc t) (getD w t 0))))
+      (dec-and (dec-and (dec-at w t (getD w t 0)) (dec-at w (suc t) (getD w (suc t) 0))) (dec-and (dec-at x t (getD w (suc t) 0)) (dec-at x (suc t) (getD w t 0))))
 
 -- A conflict at any step has a fact for its consequence: only the steps of the first walk matter.
 module _ {C : ℕ → Type 0} {Q : Type 0} (n : ℕ) (short : (t : ℕ) → C t → t < n) where

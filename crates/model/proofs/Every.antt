@@ -93,4 +93,6 @@ abbrev pub allChokes : Job → List (List Point)
 allChokes j = keep (dec-right-chokes j) (shorter (length (j .calls)) (allPoints j))
 
 pub chokes-listed : (j : Job) (xs : List Point) → RightChokes j xs → In xs (allChokes j)
-chokes-listed j xs h = in-keep (dec-right-chokes j) xs (shorter (length (j .calls)) (allPoints j)) (in-shorter (length (j .calls)) (allPoints j) xs (λ x m. point-listed j x (h .0 .known x m)) (h .0 .few)) h
+chokes-listed j xs h =
+    in-keep (dec-right-chokes j) xs (shorter (length (j .calls)) (allPoints j))
+    (in-shorter (length (j .calls)) (allPoints j) xs (λ x m. point-listed j x (h .0 .known x m)) (h .0 .few)) h

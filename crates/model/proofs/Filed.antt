@@ -3,9 +3,11 @@ use Prim.Native.Nat.{ℕ, _+_, _*_}
 use mathlib.Core.Path.{_≡_, refl, sym, _∙_, ap}
 use mathlib.Core.Bool.{cond}
 use lib.Dec.{ltb}
-use mathlib.Core.List.{List, [], _++_}
+use mathlib.Core.List.{List, _++_}
 use mathlib.Core.Logic.{_⊎_, inl, inr}
 use lib.ListN.{length, drop}
+use Rattle.model.specs.declared.answer.Answer.the-variants as answer
+use Rattle.model.specs.Answers.{number}
 use Rattle.model.specs.Lists.{In}
 use Rattle.model.specs.Job.{Job}
 use Rattle.model.specs.Plan.{Path}
@@ -15,7 +17,7 @@ use Rattle.model.specs.ReadJob.{Verdict, refused, accepted, readJob}
 use Rattle.model.specs.ReadSheet.{Sheet, bad, plan, cannot, readSheet}
 use Rattle.model.specs.Bytes.{bytes}
 use Rattle.model.specs.Contracts.{Told, Decided, Judged, Answers, RightPlan, RightChokes, planVerdict, checkVerdict, storeAfter, zeros, Planned, Checked}
-use Rattle.model.specs.Filed.{Row, Outcome, wrote, refuses, plans, checks, Holds, packed, written, leaves, filed}
+use Rattle.model.specs.Filed.{Row, Outcome, wrote, refuses, plans, checks, RowHolds, packed, written, leaves, filed}
 use Rattle.model.proofs.Contrary.{weak}
 use Rattle.model.proofs.Decide.{decided, dec-and, dec-or, dec-eq, dec-list, dec-not, all-in, any-in}
 use Rattle.model.proofs.Every.{allPlans, allChokes, plan-listed, chokes-listed}
@@ -24,10 +26,10 @@ use Rattle.model.proofs.Decisions.{dec-right-plan, dec-right-chokes}
 -- The planner, on an accepted job.
 module _ (j : Job) (r : ℕ) (b : List ℕ) where
   abbrev pub PlanFiled : List Path → Type 0
-  PlanFiled ps = (planText ps ≡ b) × (0 + 256 * length (planText ps) ≡ r)
+  PlanFiled ps = (planText ps ≡ b) × (number answer.Plan + 256 * length (planText ps) ≡ r)
 
   abbrev pub ChokesFiled : List Point → Type 0
-  ChokesFiled xs = (cannotText xs ≡ b) × (1 + 256 * length (cannotText xs) ≡ r)
+  ChokesFiled xs = (cannotText xs ≡ b) × (number answer.Cannot + 256 * length (cannotText xs) ≡ r)
 
   -- some right sheet is the filed one, and every right sheet is
   abbrev pub Shown : Type 0
@@ -35,10 +37,10 @@ module _ (j : Job) (r : ℕ) (b : List ℕ) where
       × (((ps : List Path) → In ps (allPlans j) → PlanFiled ps) × ((xs : List Point) → In xs (allChokes j) → ChokesFiled xs))
 
   abbrev pub dec-plan-filed : (ps : List Path) → Dec (PlanFiled ps)
-  dec-plan-filed ps = dec-and (dec-list dec-eq (planText ps) b) (dec-eq (0 + 256 * length (planText ps)) r)
+  dec-plan-filed ps = dec-and (dec-list dec-eq (planText ps) b) (dec-eq (number answer.Plan + 256 * length (planText ps)) r)
 
   abbrev pub dec-chokes-filed : (xs : List Point) → Dec (ChokesFiled xs)
-  dec-chokes-filed xs = dec-and (dec-list dec-eq (cannotText xs) b) (dec-eq (1 + 256 * length (cannotText xs)) r)
+  dec-chokes-filed xs = dec-and (dec-list dec-eq (cannotText xs) b) (dec-eq (number answer.Cannot + 256 * length (cannotText xs)) r)
 
   abbrev pub dec-shown : Dec Shown
   dec-shown = dec-and
@@ -47,124 +49,107 @@ module _ (j : Job) (r : ℕ) (b : List ℕ) where
       (dec-and (all-in dec-plan-filed (allPlans j)) (all-in dec-chokes-filed (allChokes j)))
 
   allowed : Shown → Answers j r b
-  allowed (inl (ps, m, (h, (e, f))), s) = inl (ps, h, sym e, sym f ∙ ap (λ x. 0 + 256 * length x) e)
-  allowed (inr (xs, m, (h, (e, f))), s) = inr (xs, h, sym e, sym f ∙ ap (λ x. 1 + 256 * length x) e, λ ps p. weak j xs ps (h .0) p)
+  allowed (inl (ps, m, (h, (e, f))), s) = inl (ps, h, sym e, sym f ∙ ap (λ x. number answer.Plan + 256 * length x) e)
+  allowed (inr (xs, m, (h, (e, f))), s) = inr (xs, h, sym e, sym f ∙ ap (λ x. number answer.Cannot + 256 * length x) e, λ ps p. weak j xs ps (h .0) p)
 
   no-other : Shown → (r′ : ℕ) (b′ : List ℕ) → Answers j r′ b′ → (r′ ≡ r) × (b′ ≡ b)
   no-other s r′ b′ (inl (ps, h, e, f)) =
-      let g = s .1 .0 ps (plan-listed j ps h) in (f ∙ ap (λ x. 0 + 256 * length x) e ∙ g .1, e ∙ g .0)
+      let g = s .1 .0 ps (plan-listed j ps h) in (f ∙ ap (λ x. number answer.Plan + 256 * length x) e ∙ g .1, e ∙ g .0)
   no-other s r′ b′ (inr (xs, h, e, f, n)) =
-      let g = s .1 .1 xs (chokes-listed j xs h) in (f ∙ ap (λ x. 1 + 256 * length x) e ∙ g .1, e ∙ g .0)
+      let g = s .1 .1 xs (chokes-listed j xs h) in (f ∙ ap (λ x. number answer.Cannot + 256 * length x) e ∙ g .1, e ∙ g .0)
 
 -- The planner, on any verdict.
 abbrev pub ToldShown : Verdict → Outcome → Type 0
-ToldShown (refused k l) (refuses n m) = (n ≡ k) × (m ≡ l)
-ToldShown (refused k l) (wrote a s) = ⊥
+ToldShown (refused a l) (refuses n m) = (n ≡ number a) × (m ≡ l)
+ToldShown (refused a l) (wrote k s) = ⊥
 ToldShown (accepted j) (refuses n m) = ⊥
 ToldShown (accepted j) (wrote a s) = Shown j (a + 256 * length (bytes s)) (bytes s)
 
 abbrev pub dec-told : (v : Verdict) (o : Outcome) → Dec (ToldShown v o)
-dec-told (refused k l) (refuses n m) = dec-and (dec-eq n k) (dec-eq m l)
-dec-told (refused k l) (wrote a s) = no (λ h. h)
+dec-told (refused a l) (refuses n m) = dec-and (dec-eq n (number a)) (dec-eq m l)
+dec-told (refused a l) (wrote k s) = no (λ h. h)
 dec-told (accepted j) (refuses n m) = no (λ h. h)
 dec-told (accepted j) (wrote a s) = dec-shown j (a + 256 * length (bytes s)) (bytes s)
 
 -- what is filed is told, nothing else is, and the store is left as filed
 told-holds : (v : Verdict) (o : Outcome) → ToldShown v o
     → Told v (packed o) (written o) × (((r : ℕ) (b : List ℕ) → Told v r b → (r ≡ packed o) × (b ≡ written o)) × ((store : List ℕ) → storeAfter v store ≡ leaves o store))
-told-holds (refused k l) (refuses n m) (e, f) =
-    let g : n + 256 * m ≡ k + 256 * l = rw (e, f) in ((g, refl), ((λ r b h. (h .0 ∙ sym g, h .1)), λ store. refl))
-told-holds (refused k l) (wrote a s) h = absurd h
+told-holds (refused a l) (refuses n m) (e, f) =
+    let g : n + 256 * m ≡ number a + 256 * l = rw (e, f) in ((g, refl), ((λ r b h. (h .0 ∙ sym g, h .1)), λ store. refl))
+told-holds (refused a l) (wrote k s) h = absurd h
 told-holds (accepted j) (refuses n m) h = absurd h
 told-holds (accepted j) (wrote a s) h =
     (allowed j (a + 256 * length (bytes s)) (bytes s) h, (no-other j (a + 256 * length (bytes s)) (bytes s) h, λ store. refl))
 
--- The check.
-abbrev pub JudgedShown : Job → Sheet → ℕ → Type 0
-JudgedShown j (bad l) r = 11 + 256 * l ≡ r
-JudgedShown j (plan ps) r = (RightPlan j ps × (0 ≡ r)) ⊎ ((RightPlan j ps → ⊥) × (12 ≡ r))
-JudgedShown j (cannot xs) r = (RightChokes j xs × (1 ≡ r)) ⊎ ((RightChokes j xs → ⊥) × (12 ≡ r))
+-- The check: of a fact and its contrary one holds, so the answer is one.
+abbrev pub dec-either : {P : Type 0} → Dec P → (m n r : ℕ) → Dec ((P × (r ≡ m)) ⊎ ((P → ⊥) × (r ≡ n)))
+dec-either d m n r = dec-or (dec-and d (dec-eq r m)) (dec-and (dec-not d) (dec-eq r n))
 
-abbrev pub dec-judged : (j : Job) (s : Sheet) (r : ℕ) → Dec (JudgedShown j s r)
-dec-judged j (bad l) r = dec-eq (11 + 256 * l) r
-dec-judged j (plan ps) r = dec-or (dec-and (dec-right-plan j ps) (dec-eq 0 r)) (dec-and (dec-not (dec-right-plan j ps)) (dec-eq 12 r))
-dec-judged j (cannot xs) r = dec-or (dec-and (dec-right-chokes j xs) (dec-eq 1 r)) (dec-and (dec-not (dec-right-chokes j xs)) (dec-eq 12 r))
+either-once : {P : Type 0} {m n : ℕ} (r r′ : ℕ) → (P × (r ≡ m)) ⊎ ((P → ⊥) × (r ≡ n)) → (P × (r′ ≡ m)) ⊎ ((P → ⊥) × (r′ ≡ n)) → r′ ≡ r
+either-once r r′ (inl (p, e)) (inl (q, f)) = f ∙ sym e
+either-once r r′ (inl (p, e)) (inr (n, f)) = absurd (n p)
+either-once r r′ (inr (n, e)) (inl (q, f)) = absurd (n q)
+either-once r r′ (inr (n, e)) (inr (k, f)) = f ∙ sym e
 
--- of a fact and its contrary one holds, so the answer is one
-one-of : {P : Type 0} (m r : ℕ) → (P × (m ≡ r)) ⊎ ((P → ⊥) × (12 ≡ r))
-    → ((P × (r ≡ m)) ⊎ ((P → ⊥) × (r ≡ 12))) × ((r′ : ℕ) → (P × (r′ ≡ m)) ⊎ ((P → ⊥) × (r′ ≡ 12)) → r′ ≡ r)
-one-of {P} m r (inl (p, e)) = (inl (p, sym e), only)
-  where
-    only : (r′ : ℕ) → (P × (r′ ≡ m)) ⊎ ((P → ⊥) × (r′ ≡ 12)) → r′ ≡ r
-    only r′ (inl (q, f)) = f ∙ e
-    only r′ (inr (n, f)) = absurd (n p)
-one-of {P} m r (inr (n, e)) = (inr (n, sym e), only)
-  where
-    only : (r′ : ℕ) → (P × (r′ ≡ m)) ⊎ ((P → ⊥) × (r′ ≡ 12)) → r′ ≡ r
-    only r′ (inl (q, f)) = absurd (n q)
-    only r′ (inr (k, f)) = f ∙ e
+abbrev pub dec-judged : (j : Job) (s : Sheet) (r : ℕ) → Dec (Judged j s r)
+dec-judged j (bad l) r = dec-eq r (number answer.BadSheet + 256 * l)
+dec-judged j (plan ps) r = dec-either (dec-right-plan j ps) (number answer.Plan) (number answer.WrongSheet) r
+dec-judged j (cannot xs) r = dec-either (dec-right-chokes j xs) (number answer.Cannot) (number answer.WrongSheet) r
 
-judged-holds : (j : Job) (s : Sheet) (r : ℕ) → JudgedShown j s r → Judged j s r × ((r′ : ℕ) → Judged j s r′ → r′ ≡ r)
-judged-holds j (bad l) r e = (sym e, λ r′ h. h ∙ e)
-judged-holds j (plan ps) r h = one-of 0 r h
-judged-holds j (cannot xs) r h = one-of 1 r h
+judged-once : (j : Job) (s : Sheet) (r r′ : ℕ) → Judged j s r → Judged j s r′ → r′ ≡ r
+judged-once j (bad l) r r′ e f = f ∙ sym e
+judged-once j (plan ps) r r′ h k = either-once r r′ h k
+judged-once j (cannot xs) r r′ h k = either-once r r′ h k
 
-abbrev pub DecidedShown : Verdict → List ℕ → ℕ → Type 0
-DecidedShown (refused k l) sheet r = k + 256 * l ≡ r
-DecidedShown (accepted j) sheet r = JudgedShown j (readSheet j sheet) r
-
-abbrev pub dec-decided : (v : Verdict) (sheet : List ℕ) (r : ℕ) → Dec (DecidedShown v sheet r)
-dec-decided (refused k l) sheet r = dec-eq (k + 256 * l) r
+abbrev pub dec-decided : (v : Verdict) (sheet : List ℕ) (r : ℕ) → Dec (Decided v sheet r)
+dec-decided (refused a l) sheet r = dec-eq r (number a + 256 * l)
 dec-decided (accepted j) sheet r = dec-judged j (readSheet j sheet) r
 
-decided-holds : (v : Verdict) (sheet : List ℕ) (r : ℕ) → DecidedShown v sheet r → Decided v sheet r × ((r′ : ℕ) → Decided v sheet r′ → r′ ≡ r)
-decided-holds (refused k l) sheet r e = (sym e, λ r′ h. h ∙ e)
-decided-holds (accepted j) sheet r h = judged-holds j (readSheet j sheet) r h
+decided-once : (v : Verdict) (sheet : List ℕ) (r r′ : ℕ) → Decided v sheet r → Decided v sheet r′ → r′ ≡ r
+decided-once (refused a l) sheet r r′ e f = f ∙ sym e
+decided-once (accepted j) sheet r r′ h k = judged-once j (readSheet j sheet) r r′ h k
 
 -- A row, by computation; and so the table.
 abbrev pub RowShown : Row → Type 0
 RowShown (plans job n m o) = ToldShown (planVerdict (bytes job) n m) o
-RowShown (checks job n sheet k) = DecidedShown (checkVerdict (bytes job) n) (bytes sheet) k
+RowShown (checks job n sheet k) = Decided (checkVerdict (bytes job) n) (bytes sheet) k
 
 abbrev pub dec-row : (x : Row) → Dec (RowShown x)
 dec-row (plans job n m o) = dec-told (planVerdict (bytes job) n m) o
 dec-row (checks job n sheet k) = dec-decided (checkVerdict (bytes job) n) (bytes sheet) k
 
-module _ (job store sheet store′ sheet′ : List ℕ) (r : ℕ) (o : Outcome) where
+module _ (job store sheet store′ sheet′ : List ℕ) (r : ℕ) (o : Outcome) (s : ToldShown (planVerdict job (length store) (length sheet)) o) where
   abbrev pub Kept : Type 0
   Kept = (r ≡ packed o) × (sheet′ ≡ written o ++ drop (length (written o)) sheet) × (store′ ≡ leaves o store)
 
-  planned-kept : ToldShown (planVerdict job (length store) (length sheet)) o → Planned job store sheet store′ sheet′ r → Kept
-  planned-kept s p =
+  planned-kept : Planned job store sheet store′ sheet′ r → Kept
+  planned-kept p =
       let (t, (only, left)) = told-holds (planVerdict job (length store) (length sheet)) o s in
       let (e, f) = only r (p .bytes) (p .told) in
       (e, p .sheet-after ∙ ap (λ b. b ++ drop (length b) sheet) f, p .store-after ∙ left store)
 
-  kept-planned : ToldShown (planVerdict job (length store) (length sheet)) o → Kept → Planned job store sheet store′ sheet′ r
-  kept-planned s (e, f, g) =
+  kept-planned : Kept → Planned job store sheet store′ sheet′ r
+  kept-planned (e, f, g) =
       let (t, (only, left)) = told-holds (planVerdict job (length store) (length sheet)) o s in
       record { bytes = written o; told = rw e t; sheet-after = f; store-after = g ∙ sym (left store) }
 
-module _ (job store sheet store′ : List ℕ) (r k : ℕ) where
-  checked-kept : DecidedShown (checkVerdict job (length store)) sheet k → Checked job store sheet store′ r → (r ≡ k) × (store′ ≡ cond (ltb k 2) (zeros store) store)
-  checked-kept s p =
-      let e = decided-holds (checkVerdict job (length store)) sheet k s .1 r (p .told) in
+module _ (job store sheet store′ : List ℕ) (r k : ℕ) (s : Decided (checkVerdict job (length store)) sheet k) where
+  checked-kept : Checked job store sheet store′ r → (r ≡ k) × (store′ ≡ cond (ltb k 2) (zeros store) store)
+  checked-kept p =
+      let e = decided-once (checkVerdict job (length store)) sheet k r s (p .told) in
       (e, p .store-after ∙ ap (λ x. cond (ltb x 2) (zeros store) store) e)
 
-  kept-checked : DecidedShown (checkVerdict job (length store)) sheet k → (r ≡ k) × (store′ ≡ cond (ltb k 2) (zeros store) store) → Checked job store sheet store′ r
-  kept-checked s (e, f) = record {
-    told = rw e (decided-holds (checkVerdict job (length store)) sheet k s .0);
-    store-after = f ∙ ap (λ x. cond (ltb x 2) (zeros store) store) (sym e);
-  }
+  kept-checked : (r ≡ k) × (store′ ≡ cond (ltb k 2) (zeros store) store) → Checked job store sheet store′ r
+  kept-checked (e, f) = record { told = rw e s; store-after = f ∙ ap (λ x. cond (ltb x 2) (zeros store) store) (sym e) }
 
-pub row-holds : (x : Row) → RowShown x → Holds x
+pub row-holds : (x : Row) → RowShown x → RowHolds x
 row-holds (plans job n m o) h = λ store sheet store′ sheet′ r e f.
     let s : ToldShown (planVerdict (bytes job) (length store) (length sheet)) o = rw (e, f) h in
     (planned-kept (bytes job) store sheet store′ sheet′ r o s, kept-planned (bytes job) store sheet store′ sheet′ r o s)
 row-holds (checks job n sheet k) h = λ store store′ r e.
-    let s : DecidedShown (checkVerdict (bytes job) (length store)) (bytes sheet) k = rw e h in
+    let s : Decided (checkVerdict (bytes job) (length store)) (bytes sheet) k = rw e h in
     (checked-kept (bytes job) store (bytes sheet) store′ r k s, kept-checked (bytes job) store (bytes sheet) store′ r k s)
 
-pub filed-hold : (x : Row) → In x filed → Holds x
+pub filed-hold : (x : Row) → In x filed → RowHolds x
 unfolding readJob readSheet
 filed-hold x m = row-holds x (decided (all-in dec-row filed) tt x m)

@@ -11,7 +11,7 @@ use Rattle.model.specs.Job.{Job, Call, call, callOf}
 use Rattle.model.specs.Plan.{Path, Plan, OnFloor}
 use Rattle.model.proofs.Lists.{remove, remove-length, remove-keeps, in-map, one-of}
 use Rattle.model.proofs.Decide.{dec-by, dec-and, dec-eq, dec-le, dec-lt, any-in}
-use Rattle.model.proofs.Decisions.{dec-on}
+use Rattle.model.proofs.Decisions.{dec-at}
 use Rattle.model.proofs.Listed.{below, length-below, in-below}
 
 -- The cart c is on the floor at the step t: a path of the plan has it on some cell then.
@@ -22,7 +22,7 @@ abbrev pub dec-on-floor : (ps : List Path) (t c : ℕ) → Dec (CartOnFloor ps t
 dec-on-floor ps t c = any-in (λ p. dec-and (dec-eq (p .cart) c) (somewhere (p .cells))) ps
   where
     somewhere : (w : List ℕ) → Dec ((v : ℕ) × OnFloor w t v)
-    somewhere w = dec-by (λ h. (getD w t 0, h)) (λ h. (h .1 .0, refl)) (dec-on w t (getD w t 0))
+    somewhere w = dec-by (λ h. (getD w t 0, h)) (λ h. (h .1 .0, refl)) (dec-at w t (getD w t 0))
 
 -- The call's deadline is the step t or a later one.
 abbrev pub dec-due : (t : ℕ) (q : Call) → Dec (t ≤ q .deadline)

@@ -4,7 +4,7 @@ use mathlib.Core.Path.{_≡_, refl, sym, ap, _∙_}
 use mathlib.Core.List.{List, [], _∷_, _++_, map, append-assoc, append-nil}
 use mathlib.Core.Option.{Option, none, some}
 use mathlib.Core.Bool.{Bool, true, false, cond, _&&_, false≢true}
-use mathlib.Core.Logic.{_⊎_, inl, inr}
+use mathlib.Core.Logic.{_⊎_, inl, inr, ⊎-elim}
 use native.Mathlib.Omega.{arith}
 use lib.Dec.{eqb, ltb, leb}
 use lib.ListN.{length, drop}
@@ -13,12 +13,14 @@ use Rattle.model.specs.Lists.{In}
 use Rattle.model.specs.Job.{Job}
 use Rattle.model.specs.Plan.{Path}
 use Rattle.model.specs.Choke.{Point}
-use Rattle.model.specs.Text.{Lines, done, cut, more, onFirst, linesOf, onField, fieldsOf, isDigit, numberFrom, numberOf, andNumber, numbersOf, numeral, fields, line, opens, after, planWord, pathWord, cannotWord, chokeWord}
+use Rattle.model.specs.Ready.{Fit}
+use Rattle.model.specs.Text.{Lines, done, cut, more, onFirst, linesOf, onField, fieldsOf, isDigit, numberFrom, numberOf}
+use Rattle.model.specs.Text.{andNumber, numbersOf, numeral, fields, line, opens, after, planWord, pathWord, cannotWord, chokeWord}
 use Rattle.model.specs.SheetText.{linesText, pathNumbers, chokeNumbers, planText, cannotText}
 use Rattle.model.specs.ReadSheet.{Sheet, bad, plan, cannot, knownPath, knownPoint, orBad, numbersAfter, restSays, pathOf, pointOf, headSays, countSays, pathLine, chokeLine, readSheet}
 use Rattle.model.proofs.Decide.{decided, dec-imp, dec-list, dec-lt, dec-eq, all-below}
 use Rattle.model.proofs.Basics.{nope, and-left, and-right}
-use Rattle.model.proofs.Written.{Within, plan-read, cannot-read}
+use Rattle.model.proofs.Written.{plan-read, cannot-read}
 
 -- Lines.
 lines-done : (b : List ℕ) → linesOf b ≡ done → b ≡ []
@@ -72,7 +74,7 @@ tabbed-numerals [] = refl
 tabbed-numerals (n ∷ ns) = ap (λ y. 9 ∷ (numeral n ++ y)) (tabbed-numerals ns)
 
 -- Numbers: one, two or three digits, all tried.
-one-digit : (x : ℕ) → x < 10 → numeral x ≡ (48 + x) ∷ []
+pub one-digit : (x : ℕ) → x < 10 → numeral x ≡ (48 + x) ∷ []
 one-digit = decided (all-below (λ x. dec-list dec-eq (numeral x) ((48 + x) ∷ [])) 10) tt
 
 two-digits : (x : ℕ) → x < 10 → (y : ℕ) → y < 10 → 0 < x → numeral (x * 10 + y) ≡ (48 + x) ∷ (48 + y) ∷ []
@@ -167,6 +169,22 @@ after-back w l ns e =
     let x = drop (suc (length w)) l in
     opens-back w l (h .0) ∙ ap (λ y. w ++ y) (sym (tabbed-fields x) ∙ ap tabbed (numbers-back (fieldsOf x) ns (h .1)) ∙ tabbed-numerals ns)
 
+-- The first line.
+count-back : (isRight : ℕ → Bool) (rest : ℕ → Sheet) (o : Option (List ℕ)) (out : Sheet) → (bad 1 ≡ out → ⊥) → countSays isRight rest o ≡ out
+    → (n : ℕ) × (o ≡ some (n ∷ [])) × (isRight n ≡ true) × (rest n ≡ out)
+count-back isRight rest none out h e = absurd (h e)
+count-back isRight rest (some []) out h e = absurd (h e)
+count-back isRight rest (some (n ∷ [])) out h e = go (isRight n) refl e
+  where
+    go : (t : Bool) → isRight n ≡ t → cond t (rest n) (bad 1) ≡ out → (m : ℕ) × (some (n ∷ []) ≡ some (m ∷ [])) × (isRight m ≡ true) × (rest m ≡ out)
+    go true q e = (n, refl, q, e)
+    go false q e = absurd (h e)
+count-back isRight rest (some (n ∷ m ∷ ns)) out h e = absurd (h e)
+
+-- a first line, LF and the rest
+head-joined : (word b l s t : List ℕ) (n : ℕ) → b ≡ l ++ (10 ∷ s) → l ≡ word ++ fields (n ∷ []) → s ≡ t → b ≡ line word (n ∷ []) ++ t
+head-joined word b l s t n e f g = e ∙ ap (λ x. x ++ (10 ∷ s)) f ∙ ap (λ x. (word ++ fields (n ∷ [])) ++ (10 ∷ x)) g ∙ simp append-assoc
+
 -- Lines of one kind.
 module _ {A : Type 0} (say : List ℕ → Option A) (all : List A → Sheet) (word : List ℕ) (numbers : A → List ℕ) (Good : A → Type 0)
     (back : (l : List ℕ) (a : A) → say l ≡ some a → (l ≡ word ++ fields (numbers a)) × Good a)
@@ -199,6 +217,20 @@ module _ {A : Type 0} (say : List ℕ → Option A) (all : List A → Sheet) (wo
           both m g t b (inl e) = rw e g
           both m g t b (inr h) = t b h
 
+  pub all-back : (head b l : List ℕ) (ls : Lines) (isRight : ℕ → Bool) (res : List A) → linesOf b ≡ more l ls
+      → countSays isRight (λ n. restSays say all [] n 2 ls) (numbersAfter head l) ≡ all res
+      → (b ≡ line head (length res ∷ []) ++ linesText word numbers res) × (isRight (length res) ≡ true) × ((a : A) → In a res → Good a)
+  all-back head b l ls isRight res q e =
+      let (n, f, g, h) = count-back isRight (λ n. restSays say all [] n 2 ls) (numbersAfter head l) (all res) (not-bad 1 res) e in
+      let (s, q₁, q₂) = lines-more b l ls q in
+      let (m, r, c, w, t) = rest-back [] res n 2 ls s q₂ h in
+      let k : length res ≡ n = ap length r ∙ c in (
+        head-joined head b l s (linesText word numbers res) n q₁ (after-back head l (n ∷ []) f) (w ∙ ap (linesText word numbers) (sym r))
+            ∙ ap (λ x. line head (x ∷ []) ++ linesText word numbers res) (sym k),
+        rw k g,
+        λ a i. t a (rw r at i),
+      )
+
 -- Whatever the lines are, what they say is all of a kind, or bad.
 module _ {A : Type 0} (say : List ℕ → Option A) (all : List A → Sheet) where
   rest-out : (got : List A) (k n : ℕ) (ls : Lines) → ((x : List A) × (restSays say all got k n ls ≡ all x)) ⊎ ((m : ℕ) × (restSays say all got k n ls ≡ bad m))
@@ -215,16 +247,11 @@ module _ {A : Type 0} (say : List ℕ → Option A) (all : List A → Sheet) whe
       go none ih = inr (n, refl)
       go (some a) ih = ih (got ++ (a ∷ []))
 
-count-back : (isRight : ℕ → Bool) (rest : ℕ → Sheet) (o : Option (List ℕ)) (out : Sheet) → (bad 1 ≡ out → ⊥) → countSays isRight rest o ≡ out
-    → (n : ℕ) × (o ≡ some (n ∷ [])) × (isRight n ≡ true) × (rest n ≡ out)
-count-back isRight rest none out h e = absurd (h e)
-count-back isRight rest (some []) out h e = absurd (h e)
-count-back isRight rest (some (n ∷ [])) out h e = go (isRight n) refl e
-  where
-    go : (t : Bool) → isRight n ≡ t → cond t (rest n) (bad 1) ≡ out → (m : ℕ) × (some (n ∷ []) ≡ some (m ∷ [])) × (isRight m ≡ true) × (rest m ≡ out)
-    go true q e = (n, refl, q, e)
-    go false q e = absurd (h e)
-count-back isRight rest (some (n ∷ m ∷ ns)) out h e = absurd (h e)
+  no-other : (ls : Lines) (isRight : ℕ → Bool) (o : Option (List ℕ)) (out : Sheet) → ((m : ℕ) → bad m ≡ out → ⊥) → ((x : List A) → all x ≡ out → ⊥)
+      → countSays isRight (λ n. restSays say all [] n 2 ls) o ≡ out → ⊥
+  no-other ls isRight o out not-bad not-all e =
+      let (n, f, g, h) = count-back isRight (λ n. restSays say all [] n 2 ls) o out (not-bad 1) e in
+      ⊎-elim (λ w. not-all (w .0) (sym (w .1) ∙ h)) (λ w. not-bad (w .0) (sym (w .1) ∙ h)) (rest-out [] n 2 ls)
 
 plan-not-bad : (n : ℕ) (x : List Path) → bad n ≡ plan x → ⊥
 plan-not-bad n x e = nope (cc)
@@ -240,10 +267,6 @@ cannot-same x y e = cc
 
 plan-not-cannot : (ps : List Path) (xs : List Point) → plan ps ≡ cannot xs → ⊥
 plan-not-cannot ps xs e = nope (cc)
-
--- a first line, LF and the rest
-head-joined : (word b l s t : List ℕ) (n : ℕ) → b ≡ l ++ (10 ∷ s) → l ≡ word ++ fields (n ∷ []) → s ≡ t → b ≡ line word (n ∷ []) ++ t
-head-joined word b l s t n e f g = e ∙ ap (λ x. x ++ (10 ∷ s)) f ∙ ap (λ x. (word ++ fields (n ∷ [])) ++ (10 ∷ x)) g ∙ simp append-assoc
 
 module _ (j : Job) where
   path-back : (l : List ℕ) (p : Path) → pathLine j l ≡ some p → (l ≡ pathWord ++ fields (pathNumbers p)) × (knownPath j p ≡ true)
@@ -279,6 +302,13 @@ module _ (j : Job) where
           some-point x y e = cc
       go (some (a ∷ b ∷ c ∷ ns)) q e = nope (cc)
 
+  -- what a PLAN or a CANNOT says, by its first line
+  abbrev plans : List ℕ → Lines → Sheet
+  plans l ls = countSays (λ n. eqb n (length (j .calls))) (λ n. restSays (pathLine j) plan [] n 2 ls) (numbersAfter planWord l)
+
+  abbrev cannots : List ℕ → Lines → Sheet
+  cannots l ls = countSays (λ n. ltb n (length (j .calls))) (λ n. restSays (chokeLine j) cannot [] n 2 ls) (numbersAfter cannotWord l)
+
   pub plan-back : (b : List ℕ) (ps : List Path) → readSheet j b ≡ plan ps
       → (b ≡ planText ps) × (length ps ≡ length (j .calls)) × ((p : Path) → In p ps → knownPath j p ≡ true)
   unfolding readSheet
@@ -290,27 +320,16 @@ module _ (j : Job) where
       go cut q e = absurd (plan-not-bad 1 ps e)
       go (more l ls) q e = by (opens planWord l) e
         where
-          by : (t : Bool) → cond t
-              (countSays (λ n. eqb n (length (j .calls))) (λ n. restSays (pathLine j) plan [] n 2 ls) (numbersAfter planWord l))
-              (countSays (λ n. ltb n (length (j .calls))) (λ n. restSays (chokeLine j) cannot [] n 2 ls) (numbersAfter cannotWord l)) ≡ plan ps
+          by : (t : Bool) → cond t (plans l ls) (cannots l ls) ≡ plan ps
               → (b ≡ planText ps) × (length ps ≡ length (j .calls)) × ((p : Path) → In p ps → knownPath j p ≡ true)
           by true e =
-              let (n, f, g, h) = count-back (λ n. eqb n (length (j .calls))) (λ n. restSays (pathLine j) plan [] n 2 ls) (numbersAfter planWord l) (plan ps) (plan-not-bad 1 ps) e in
-              let (s, q₁, q₂) = lines-more b l ls q in
-              let (m, r, c, w, t) = rest-back (pathLine j) plan pathWord pathNumbers (λ p. knownPath j p ≡ true) path-back plan-same plan-not-bad [] ps n 2 ls s q₂ h in
-              let k : length ps ≡ n = ap length r ∙ c in (
-                head-joined planWord b l s (linesText pathWord pathNumbers ps) n q₁ (after-back planWord l (n ∷ []) f) (w ∙ ap (linesText pathWord pathNumbers) (sym r))
-                    ∙ ap (λ x. line planWord (x ∷ []) ++ linesText pathWord pathNumbers ps) (sym k),
-                k ∙ eqb-true n (length (j .calls)) g,
-                λ p i. t p (rw r at i),
-              )
+              let (x, y, z) = all-back (pathLine j) plan pathWord pathNumbers (λ p. knownPath j p ≡ true) path-back plan-same plan-not-bad planWord b l ls
+              (λ n. eqb n (length (j .calls))) ps q e in
+              (x, eqb-true (length ps) (length (j .calls)) y, z)
           by false e =
-              let (n, f, g, h) = count-back (λ n. ltb n (length (j .calls))) (λ n. restSays (chokeLine j) cannot [] n 2 ls) (numbersAfter cannotWord l) (plan ps) (plan-not-bad 1 ps) e in
-              never (rest-out (chokeLine j) cannot [] n 2 ls) h
-            where
-              never : {X : Type 0} {r : Sheet} → ((x : List Point) × (r ≡ cannot x)) ⊎ ((m : ℕ) × (r ≡ bad m)) → r ≡ plan ps → X
-              never (inl (x, i)) h = absurd (plan-not-cannot ps x (sym h ∙ i))
-              never (inr (m, i)) h = absurd (plan-not-bad m ps (sym i ∙ h))
+              absurd
+              (no-other (chokeLine j) cannot ls (λ n. ltb n (length (j .calls))) (numbersAfter cannotWord l) (plan ps) (λ m. plan-not-bad m ps)
+              (λ xs f. plan-not-cannot ps xs (sym f)) e)
 
   pub cannot-back : (b : List ℕ) (xs : List Point) → readSheet j b ≡ cannot xs
       → (b ≡ cannotText xs) × (length xs < length (j .calls)) × ((x : Point) → In x xs → knownPoint j x ≡ true)
@@ -323,35 +342,20 @@ module _ (j : Job) where
       go cut q e = absurd (cannot-not-bad 1 xs e)
       go (more l ls) q e = by (opens planWord l) e
         where
-          by : (t : Bool) → cond t
-              (countSays (λ n. eqb n (length (j .calls))) (λ n. restSays (pathLine j) plan [] n 2 ls) (numbersAfter planWord l))
-              (countSays (λ n. ltb n (length (j .calls))) (λ n. restSays (chokeLine j) cannot [] n 2 ls) (numbersAfter cannotWord l)) ≡ cannot xs
+          by : (t : Bool) → cond t (plans l ls) (cannots l ls) ≡ cannot xs
               → (b ≡ cannotText xs) × (length xs < length (j .calls)) × ((x : Point) → In x xs → knownPoint j x ≡ true)
+          by true e = absurd (no-other (pathLine j) plan ls (λ n. eqb n (length (j .calls))) (numbersAfter planWord l) (cannot xs) (λ m. cannot-not-bad m xs) (λ ps. plan-not-cannot ps xs) e)
           by false e =
-              let (n, f, g, h) = count-back (λ n. ltb n (length (j .calls))) (λ n. restSays (chokeLine j) cannot [] n 2 ls) (numbersAfter cannotWord l) (cannot xs) (cannot-not-bad 1 xs) e in
-              let (s, q₁, q₂) = lines-more b l ls q in
-              let (m, r, c, w, t) = rest-back (chokeLine j) cannot chokeWord chokeNumbers (λ x. knownPoint j x ≡ true) choke-back cannot-same cannot-not-bad [] xs n 2 ls s q₂ h in
-              let k : length xs ≡ n = ap length r ∙ c in
-              let less : n < length (j .calls) = ltb-true n (length (j .calls)) g in (
-                head-joined cannotWord b l s (linesText chokeWord chokeNumbers xs) n q₁ (after-back cannotWord l (n ∷ []) f) (w ∙ ap (linesText chokeWord chokeNumbers) (sym r))
-                    ∙ ap (λ x. line cannotWord (x ∷ []) ++ linesText chokeWord chokeNumbers xs) (sym k),
-                omega arith,
-                λ x i. t x (rw r at i),
-              )
-          by true e =
-              let (n, f, g, h) = count-back (λ n. eqb n (length (j .calls))) (λ n. restSays (pathLine j) plan [] n 2 ls) (numbersAfter planWord l) (cannot xs) (cannot-not-bad 1 xs) e in
-              never (rest-out (pathLine j) plan [] n 2 ls) h
-            where
-              never : {X : Type 0} {r : Sheet} → ((x : List Path) × (r ≡ plan x)) ⊎ ((m : ℕ) × (r ≡ bad m)) → r ≡ cannot xs → X
-              never (inl (x, i)) h = absurd (plan-not-cannot x xs (sym i ∙ h))
-              never (inr (m, i)) h = absurd (cannot-not-bad m xs (sym i ∙ h))
+              let (x, y, z) = all-back (chokeLine j) cannot chokeWord chokeNumbers (λ x. knownPoint j x ≡ true) choke-back cannot-same cannot-not-bad cannotWord b l ls
+              (λ n. ltb n (length (j .calls))) xs q e in
+              (x, ltb-true (length xs) (length (j .calls)) y, z)
 
 -- Two texts are equal only if what they write is.
-module _ (j : Job) (lim : Within j) where
+module _ (j : Job) (f : Fit j) where
   pub plan-once : (ps qs : List Path) → length ps ≡ length (j .calls) → ((p : Path) → In p ps → knownPath j p ≡ true)
       → length qs ≡ length (j .calls) → ((p : Path) → In p qs → knownPath j p ≡ true) → planText ps ≡ planText qs → ps ≡ qs
-  plan-once ps qs l g l′ g′ e = plan-same ps qs (sym (plan-read j lim ps l g) ∙ ap (readSheet j) e ∙ plan-read j lim qs l′ g′)
+  plan-once ps qs l g l′ g′ e = plan-same ps qs (sym (plan-read j f ps l g) ∙ ap (readSheet j) e ∙ plan-read j f qs l′ g′)
 
   pub cannot-once : (xs ys : List Point) → length xs < length (j .calls) → ((x : Point) → In x xs → knownPoint j x ≡ true)
       → length ys < length (j .calls) → ((x : Point) → In x ys → knownPoint j x ≡ true) → cannotText xs ≡ cannotText ys → xs ≡ ys
-  cannot-once xs ys l g l′ g′ e = cannot-same xs ys (sym (cannot-read j lim xs l g) ∙ ap (readSheet j) e ∙ cannot-read j lim ys l′ g′)
+  cannot-once xs ys l g l′ g′ e = cannot-same xs ys (sym (cannot-read j f xs l g) ∙ ap (readSheet j) e ∙ cannot-read j f ys l′ g′)

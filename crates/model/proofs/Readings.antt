@@ -4,7 +4,7 @@ use mathlib.Core.List.{List, [], _∷_}
 use Rattle.model.specs.Lists.{In}
 use Rattle.model.specs.ReadJob.{readJob}
 use Rattle.model.specs.ReadSheet.{readSheet}
-use Rattle.model.specs.Filed.{Row, plans, checks, wrote, refuses, Holds, big, jobA, jobB, jobD, jobF}
+use Rattle.model.specs.Filed.{Row, plans, checks, wrote, refuses, RowHolds, big, jobA, jobB, jobD, jobF}
 use Rattle.model.proofs.Decide.{decided, all-in}
 use Rattle.model.proofs.Filed.{dec-row, row-holds}
 
@@ -53,14 +53,14 @@ moves =
     ∷ checks "FLOOR\t2\nTRACK\t0\t1\nCART\t0\nCART\t1\nCALL\t1\t1\nCALL\t0\t2\n" big "PLAN\t2\nPATH\t1\t0\t1\t1\nPATH\t0\t1\t0\t1\t0\n" 12
     ∷ []
 
-pub buffers-hold : (x : Row) → In x buffers → Holds x
+pub buffers-hold : (x : Row) → In x buffers → RowHolds x
 unfolding readJob readSheet
 buffers-hold x m = row-holds x (decided (all-in dec-row buffers) tt x m)
 
-pub sheets-hold : (x : Row) → In x sheets → Holds x
+pub sheets-hold : (x : Row) → In x sheets → RowHolds x
 unfolding readJob readSheet
 sheets-hold x m = row-holds x (decided (all-in dec-row sheets) tt x m)
 
-pub moves-hold : (x : Row) → In x moves → Holds x
+pub moves-hold : (x : Row) → In x moves → RowHolds x
 unfolding readJob readSheet
 moves-hold x m = row-holds x (decided (all-in dec-row moves) tt x m)

@@ -1,20 +1,24 @@
 -- A job that is read is fit: each line's tests keep it so. Assumes nothing.
-use Prim.Native.Nat.{ℕ, zero, suc, _+_, _<_}
+use Prim.Native.Nat.{ℕ, _+_, _<_}
 use mathlib.Core.Path.{_≡_, refl, sym, ap, subst, _∙_}
-use mathlib.Core.List.{List, [], _∷_, _++_, map}
+use mathlib.Core.List.{List, [], _∷_, _++_, map, map-append}
 use mathlib.Core.Option.{Option, none, some}
-use mathlib.Core.Bool.{Bool, true, false, cond, _&&_, _||_, false≢true}
-use mathlib.Core.Logic.{_⊎_, inl, inr}
+use mathlib.Core.Bool.{Bool, true, false, cond, _&&_, _||_}
+use mathlib.Core.Logic.{_⊎_, inl, inr, ⊎-elim}
 use native.Mathlib.Omega.{arith}
 use lib.Dec.{eqb, ltb, leb}
-use lib.ListN.{length, getD}
+use lib.ListN.{length, getD, length-append, List·getD-append}
+use lib.Seq.{getD-append-seam}
 use borrow.Author.Tests.{ltb-true, ltb-false, leb-true, eqb-true, eqb-false, not-true}
+use Rattle.model.specs.declared.answer.Answer.{Answer}
+use Rattle.model.specs.declared.answer.Answer.the-variants.{TextTooLong, BadLine, Uneven}
 use Rattle.model.specs.Limits.{maxCells, maxTracks, maxCarts, maxCalls, maxSteps, maxText}
 use Rattle.model.specs.Lists.{In, NoDup}
 use Rattle.model.specs.Job.{Job, Track, track, call}
 use Rattle.model.specs.Ready.{SameEnds, Fit, Ready}
 use Rattle.model.specs.Text.{Lines, done, cut, more, linesOf, numbersOf, opens, after, floorWord, trackWord, cartWord, callWord}
-use Rattle.model.specs.ReadJob.{refused, accepted, Kind, floorLine, trackLine, cartLine, callLine, noJob, member, leads, inRange, hasRoom, isNew, add, mayFollow, fieldCount, Said, wrong, right, numbersSay, fieldsSay, lineSays, goOn, linesSay, readJob}
+use Rattle.model.specs.ReadJob.{refused, accepted, Kind, floorLine, trackLine, cartLine, callLine, noJob, member, leads, inRange, hasRoom}
+use Rattle.model.specs.ReadJob.{isNew, add, mayFollow, fieldCount, Said, wrong, right, numbersSay, fieldsSay, lineSays, goOn, linesSay, readJob}
 use Rattle.model.proofs.Basics.{nope, and-left, and-right}
 use Rattle.model.proofs.Lists.{in-getD}
 
@@ -29,9 +33,9 @@ pub record Added (j j′ : Job) : Type 0 where
   pub new : isNew j kind a b ≡ true
   pub so : add j kind a b ≡ j′
 
-cond-right : (t : Bool) (x : Said) (n : ℕ) (j : Job) → cond t x (wrong n) ≡ right j → (t ≡ true) × (x ≡ right j)
-cond-right true x n j e = (refl, e)
-cond-right false x n j e = nope (cc)
+cond-right : (t : Bool) (x : Said) (a : Answer) (j : Job) → cond t x (wrong a) ≡ right j → (t ≡ true) × (x ≡ right j)
+cond-right true x a j e = (refl, e)
+cond-right false x a j e = nope (cc)
 
 right-same : (j k : Job) → right j ≡ right k → j ≡ k
 right-same j k e = cc
@@ -41,21 +45,21 @@ numbers-added j j′ k none f e = nope (cc)
 numbers-added j j′ k (some ns) f e =
     let a = getD ns 0 0 in
     let b = getD ns 1 0 in
-    let (h₁, e₁) = cond-right (inRange j k a b) (cond (hasRoom j k) (cond (isNew j k a b) (right (add j k a b)) (wrong 7)) (wrong 6)) 5 j′ e in
-    let (h₂, e₂) = cond-right (hasRoom j k) (cond (isNew j k a b) (right (add j k a b)) (wrong 7)) 6 j′ e₁ in
-    let (h₃, e₃) = cond-right (isNew j k a b) (right (add j k a b)) 7 j′ e₂ in
+    let (h₁, e₁) = cond-right (inRange j k a b) _ _ j′ e in
+    let (h₂, e₂) = cond-right (hasRoom j k) _ _ j′ e₁ in
+    let (h₃, e₃) = cond-right (isNew j k a b) _ _ j′ e₂ in
     record { kind = k; a = a; b = b; follows = f; ranged = h₁; room = h₂; new = h₃; so = right-same (add j k a b) j′ e₃ }
 
 fields-added : (j j′ : Job) (k : Kind) (fs : List (List ℕ)) → fieldsSay j k fs ≡ right j′ → Added j j′
 fields-added j j′ k fs e =
-    let h = cond-right (mayFollow j k && eqb (length fs) (fieldCount k)) (numbersSay j k (numbersOf fs)) 3 j′ e in
+    let h = cond-right (mayFollow j k && eqb (length fs) (fieldCount k)) (numbersSay j k (numbersOf fs)) _ j′ e in
     numbers-added j j′ k (numbersOf fs) (and-left (mayFollow j k) (eqb (length fs) (fieldCount k)) (h .0)) (h .1)
 
 line-added : (j j′ : Job) (l : List ℕ) → lineSays j l ≡ right j′ → Added j j′
 line-added j j′ l e = go (opens floorWord l) (opens trackWord l) (opens cartWord l) (opens callWord l) e
   where
     go : (t u v w : Bool) → cond t (fieldsSay j floorLine (after floorWord l)) (cond u (fieldsSay j trackLine (after trackWord l))
-        (cond v (fieldsSay j cartLine (after cartWord l)) (cond w (fieldsSay j callLine (after callWord l)) (wrong 3)))) ≡ right j′ → Added j j′
+        (cond v (fieldsSay j cartLine (after cartWord l)) (cond w (fieldsSay j callLine (after callWord l)) (wrong BadLine)))) ≡ right j′ → Added j j′
     go true u v w e = fields-added j j′ floorLine (after floorWord l) e
     go false true v w e = fields-added j j′ trackLine (after trackWord l) e
     go false false true w e = fields-added j j′ cartLine (after cartWord l) e
@@ -67,19 +71,11 @@ in-snoc : {A : Type 0} (a x : A) (l : List A) → In a (l ++ (x ∷ [])) → In 
 in-snoc a x [] (inl e) = inr e
 in-snoc a x [] (inr h) = absurd h
 in-snoc a x (b ∷ l) (inl e) = inl (inl e)
-in-snoc a x (b ∷ l) (inr h) = go (in-snoc a x l h)
-  where
-    go : In a l ⊎ (a ≡ x) → In a (b ∷ l) ⊎ (a ≡ x)
-    go (inl k) = inl (inr k)
-    go (inr e) = inr e
+in-snoc a x (b ∷ l) (inr h) = ⊎-elim (λ k. inl (inr k)) inr (in-snoc a x l h)
 
 -- If all members are so and the last is, all are.
 all-snoc : {A : Type 0} {P : A → Type 0} (l : List A) (x : A) → ((a : A) → In a l → P a) → P x → (a : A) → In a (l ++ (x ∷ [])) → P a
-all-snoc {A} {P} l x h p a m = go (in-snoc a x l m)
-  where
-    go : In a l ⊎ (a ≡ x) → P a
-    go (inl k) = h a k
-    go (inr e) = subst P (sym e) p
+all-snoc {A} {P} l x h p a m = ⊎-elim (h a) (λ e. subst P (sym e) p) (in-snoc a x l m)
 
 member-in : (a : ℕ) (l : List ℕ) → member a l ≡ false → In a l → ⊥
 member-in a [] e h = h
@@ -92,19 +88,7 @@ member-in a (b ∷ l) e h = go (eqb a b) refl e h (λ f k. member-in a l f k)
 
 nodup-snoc : (l : List ℕ) (x : ℕ) → NoDup l → (In x l → ⊥) → NoDup (l ++ (x ∷ []))
 nodup-snoc [] x nd h = ((λ k. k), tt)
-nodup-snoc (a ∷ l) x nd h = ((λ m. go (in-snoc a x l m)), nodup-snoc l x (nd .1) (λ k. h (inr k)))
-  where
-    go : In a l ⊎ (a ≡ x) → ⊥
-    go (inl k) = nd .0 k
-    go (inr e) = h (inl (sym e))
-
-map-snoc : {A : Type 0} (f : A → ℕ) (l : List A) (x : A) → map f (l ++ (x ∷ [])) ≡ map f l ++ (f x ∷ [])
-map-snoc f [] x = refl
-map-snoc f (a ∷ l) x = ap (λ y. f a ∷ y) (map-snoc f l x)
-
-length-snoc : {A : Type 0} (l : List A) (x : A) → length (l ++ (x ∷ [])) ≡ suc (length l)
-length-snoc [] x = refl
-length-snoc (a ∷ l) x = ap suc (length-snoc l x)
+nodup-snoc (a ∷ l) x nd h = ((λ m. ⊎-elim (nd .0) (λ e. h (inl (sym e))) (in-snoc a x l m)), nodup-snoc l x (nd .1) (λ k. h (inr k)))
 
 -- A new track joins no cells that an earlier one joins.
 leads-in : (a b : ℕ) (ts : List Track) → leads a b ts ≡ false → (t : Track) → In t ts → (t .from ≡ a) × (t .to ≡ b) → ⊥
@@ -127,32 +111,23 @@ or-right : (x y : Bool) → (x || y) ≡ false → y ≡ false
 or-right true y e = nope (cc)
 or-right false y e = e
 
-getD-old : {A : Type 0} (l : List A) (x d : A) (i : ℕ) → i < length l → getD (l ++ (x ∷ [])) i d ≡ getD l i d
-getD-old [] x d i h = absurd (omega arith)
-getD-old (a ∷ l) x d zero h = refl
-getD-old (a ∷ l) x d (suc i) h = getD-old l x d i (omega arith)
-
-getD-last : {A : Type 0} (l : List A) (x d : A) → getD (l ++ (x ∷ [])) (length l) d ≡ x
-getD-last [] x d = refl
-getD-last (a ∷ l) x d = getD-last l x d
-
 own-snoc : (ts : List Track) (a b : ℕ) → leads a b ts ≡ false → leads b a ts ≡ false
     → ((i k : ℕ) → i < k → k < length ts → SameEnds (getD ts i (track 0 0)) (getD ts k (track 0 0)) → ⊥)
     → (i k : ℕ) → i < k → k < length (ts ++ (track a b ∷ [])) → SameEnds (getD (ts ++ (track a b ∷ [])) i (track 0 0)) (getD (ts ++ (track a b ∷ [])) k (track 0 0)) → ⊥
 own-snoc ts a b e f own i k l m s = go (ltb k (length ts)) refl
   where
     old : getD (ts ++ (track a b ∷ [])) i (track 0 0) ≡ getD ts i (track 0 0)
-    old = getD-old ts (track a b) (track 0 0) i (omega (arith, length-snoc ts (track a b)))
+    old = List·getD-append ts (track a b ∷ []) (track 0 0) i (omega (arith, length-append ts (track a b ∷ [])))
 
     new : SameEnds (getD ts i (track 0 0)) (track a b) → ⊥
-    new (inl p) = leads-in a b ts e (getD ts i (track 0 0)) (in-getD ts i (track 0 0) (omega (arith, length-snoc ts (track a b)))) p
-    new (inr p) = leads-in b a ts f (getD ts i (track 0 0)) (in-getD ts i (track 0 0) (omega (arith, length-snoc ts (track a b)))) p
+    new (inl p) = leads-in a b ts e (getD ts i (track 0 0)) (in-getD ts i (track 0 0) (omega (arith, length-append ts (track a b ∷ [])))) p
+    new (inr p) = leads-in b a ts f (getD ts i (track 0 0)) (in-getD ts i (track 0 0) (omega (arith, length-append ts (track a b ∷ [])))) p
 
     go : (t : Bool) → ltb k (length ts) ≡ t → ⊥
-    go true q = own i k l (ltb-true k (length ts) q) (rw (old, getD-old ts (track a b) (track 0 0) k (ltb-true k (length ts) q)) at s)
+    go true q = own i k l (ltb-true k (length ts) q) (rw (old, List·getD-append ts (track a b ∷ []) (track 0 0) k (ltb-true k (length ts) q)) at s)
     go false q =
-        let z : k ≡ length ts = omega (arith, ltb-false k (length ts) q, length-snoc ts (track a b)) in
-        new (rw (old, z, getD-last ts (track a b) (track 0 0)) at s)
+        let z : k ≡ length ts = omega (arith, ltb-false k (length ts) q, length-append ts (track a b ∷ [])) in
+        new (rw (old, z, getD-append-seam ts (track a b) [] (track 0 0)) at s)
 
 pub no-fit : Fit noJob
 no-fit = record {
@@ -192,7 +167,7 @@ module _ (j : Job) (f : Fit j) (a b : ℕ) where
     few-cells = f .few-cells;
     few-carts = f .few-carts;
     few-calls = f .few-calls;
-    few-tracks = omega (arith, length-snoc (j .tracks) (track a b), ltb-true (length (j .tracks)) maxTracks h);
+    few-tracks = omega (arith, length-append (j .tracks) (track a b ∷ []), ltb-true (length (j .tracks)) maxTracks h);
     known-tracks = all-snoc (j .tracks) (track a b) (f .known-tracks)
         (ltb-true a (j .cells) (and-left (ltb a (j .cells)) (ltb b (j .cells)) r), ltb-true b (j .cells) (and-right (ltb a (j .cells)) (ltb b (j .cells)) r));
     known-carts = f .known-carts;
@@ -212,7 +187,7 @@ module _ (j : Job) (f : Fit j) (a b : ℕ) where
     few-cells = f .few-cells;
     few-tracks = f .few-tracks;
     few-calls = f .few-calls;
-    few-carts = omega (arith, length-snoc (j .carts) a, ltb-true (length (j .carts)) maxCarts h);
+    few-carts = omega (arith, length-append (j .carts) (a ∷ []), ltb-true (length (j .carts)) maxCarts h);
     known-tracks = f .known-tracks;
     no-loop = f .no-loop;
     own-tracks = f .own-tracks;
@@ -225,7 +200,7 @@ module _ (j : Job) (f : Fit j) (a b : ℕ) where
     few-cells = f .few-cells;
     few-tracks = f .few-tracks;
     few-carts = f .few-carts;
-    few-calls = omega (arith, length-snoc (j .calls) (call a b), ltb-true (length (j .calls)) maxCalls h);
+    few-calls = omega (arith, length-append (j .calls) (call a b ∷ []), ltb-true (length (j .calls)) maxCalls h);
     known-tracks = f .known-tracks;
     no-loop = f .no-loop;
     own-tracks = f .own-tracks;
@@ -233,12 +208,8 @@ module _ (j : Job) (f : Fit j) (a b : ℕ) where
     own-cells = f .own-cells;
     known-calls = all-snoc (j .calls) (call a b) (f .known-calls)
         (ltb-true a (j .cells) (and-left (ltb a (j .cells)) (ltb b maxSteps) r), ltb-true b maxSteps (and-right (ltb a (j .cells)) (ltb b maxSteps) r));
-    own-lifts = rw map-snoc (nodup-snoc (map (λ q. q .cell) (j .calls)) a (f .own-lifts) (member-in a (map (λ q. q .cell) (j .calls)) (not-true (member a (map (λ q. q .cell) (j .calls))) n)));
+    own-lifts = rw map-append (nodup-snoc (map (λ q. q .cell) (j .calls)) a (f .own-lifts) (member-in a (map (λ q. q .cell) (j .calls)) (not-true (member a (map (λ q. q .cell) (j .calls))) n)));
   }
-
-some-cells : (n : ℕ) → eqb n 0 ≡ false → 0 < n
-some-cells zero e = absurd (false≢true (sym e))
-some-cells (suc n) e = omega arith
 
 lines-ready : (j j′ : Job) (n : ℕ) (ls : Lines) → Fit j → linesSay j n ls ≡ accepted j′ → Ready j′
 lines-ready j j′ n done f e = go (eqb (j .cells) 0) refl (eqb (length (j .carts)) (length (j .calls))) refl e
@@ -247,9 +218,9 @@ lines-ready j j′ n done f e = go (eqb (j .cells) 0) refl (eqb (length (j .cart
     same e = cc
 
     go : (t : Bool) → eqb (j .cells) 0 ≡ t → (u : Bool) → eqb (length (j .carts)) (length (j .calls)) ≡ u
-        → cond t (refused 3 n) (cond u (accepted j) (refused 8 0)) ≡ accepted j′ → Ready j′
+        → cond t (refused BadLine n) (cond u (accepted j) (refused Uneven 0)) ≡ accepted j′ → Ready j′
     go true p u q e = nope (cc)
-    go false p true q e = subst Ready (same e) (record { fit = f; has-cells = some-cells (j .cells) p; even = eqb-true (length (j .carts)) (length (j .calls)) q })
+    go false p true q e = subst Ready (same e) (record { fit = f; has-cells = let n = eqb-false (j .cells) 0 p in omega arith; even = eqb-true (length (j .carts)) (length (j .calls)) q })
     go false p false q e = nope (cc)
 lines-ready j j′ n cut f e = nope (cc)
 lines-ready j j′ n (more l ls) f e = go (lineSays j l) refl e (λ k. lines-ready k j′ (n + 1) ls)
@@ -265,6 +236,6 @@ pub read-ready : (s : List ℕ) (j : Job) → readJob s ≡ accepted j → Ready
 unfolding readJob
 read-ready s j e = go (ltb maxText (length s)) e
   where
-    go : (t : Bool) → cond t (refused 2 0) (linesSay noJob 1 (linesOf s)) ≡ accepted j → Ready j
+    go : (t : Bool) → cond t (refused TextTooLong 0) (linesSay noJob 1 (linesOf s)) ≡ accepted j → Ready j
     go true e = nope (cc)
     go false e = lines-ready noJob j 1 (linesOf s) no-fit e

@@ -10,9 +10,11 @@ use lib.Dec.{eqb, ltb, leb}
 use lib.ListN.{length}
 use borrow.Author.Tests.{ltb-true, leb-true, eq-eqb, lt-ltb, not-true}
 use Rattle.model.specs.Lists.{In}
-use Rattle.model.specs.Job.{Job, horizon, callOf}
+use Rattle.model.specs.Limits.{maxCells, maxSteps}
+use Rattle.model.specs.Job.{Job, Call, latest, horizon, callOf}
 use Rattle.model.specs.Plan.{Path}
 use Rattle.model.specs.Choke.{Point}
+use Rattle.model.specs.Ready.{Fit}
 use Rattle.model.specs.Text.{more, withByte, linesOf, onField, fieldsOf, numberOf, andNumber, numbersOf, numeral, fields, line, planWord, pathWord, cannotWord, chokeWord}
 use Rattle.model.specs.SheetText.{linesText, pathNumbers, chokeNumbers, planText, cannotText}
 use Rattle.model.specs.ReadSheet.{Sheet, bad, plan, cannot, allBelow, knownPath, knownPoint, orBad, restSays, pathOf, pointOf, headSays, countSays, pathLine, chokeLine, readSheet}
@@ -102,18 +104,26 @@ module _ {A : Type 0} (say : List ℕ → Option A) (all : List A → Sheet) (wo
       ∙ rest-read (got ++ (a ∷ [])) l (n + 1) (λ b m. g b (inr m))
       ∙ ap all (append-assoc got (a ∷ []) l)
 
--- The limits keep every number of a sheet below 1,000.
-pub record Within (j : Job) : Type 0 where
-  pub few-cells : j .cells ≤ 256
-  pub few-carts : length (j .carts) ≤ 64
-  pub few-calls : length (j .calls) ≤ 64
-  pub few-steps : horizon j < 256
+  -- A head line that counts the lines of a kind, and these.
+  pub all-read : (isRight : ℕ → Bool) (l : List A) → length l < 1000 → isRight (length l) ≡ true → ((a : A) → In a l → Good a)
+      → countSays isRight (λ n. restSays say all [] n 2 (linesOf (linesText word numbers l))) (numbersOf (fieldsOf (numeral (length l) ++ fields []))) ≡ all l
+  all-read isRight l h e g =
+      ap (countSays isRight (λ n. restSays say all [] n 2 (linesOf (linesText word numbers l)))) (fields-read (length l) [] (h, tt))
+      ∙ ap (λ x. cond x (restSays say all [] (length l) 2 (linesOf (linesText word numbers l))) (bad 1)) e ∙ rest-read [] l 2 g
 
-cells-small : (n : ℕ) (ws : List ℕ) → n ≤ 256 → allBelow n ws ≡ true → Small ws
+-- The limits keep every number of a sheet below 1,000.
+deadline-below : (n : ℕ) (qs : List Call) → 0 < n → ((q : Call) → In q qs → q .deadline < n) → latest qs < n
+deadline-below n [] p h = p
+deadline-below n (q ∷ qs) p h = omega (arith, h q (inl refl), deadline-below n qs p (λ x m. h x (inr m)))
+
+cells-small : (n : ℕ) (ws : List ℕ) → n ≤ maxCells → allBelow n ws ≡ true → Small ws
 cells-small n [] h e = tt
 cells-small n (w ∷ ws) h e = (omega (arith, ltb-true w n (and-left _ _ e)), cells-small n ws h (and-right (ltb w n) (allBelow n ws) e))
 
-module _ (j : Job) (lim : Within j) where
+module _ (j : Job) (f : Fit j) where
+  pub few-steps : horizon j < maxSteps
+  few-steps = deadline-below maxSteps (j .calls) (omega arith) (λ q m. f .known-calls q m .1)
+
   path-small : (p : Path) → knownPath j p ≡ true → Small (pathNumbers p)
   path-small p e =
       let x₁ = ltb (p .cart) (length (j .carts)) in
@@ -121,10 +131,10 @@ module _ (j : Job) (lim : Within j) where
       let x₃ = eqb (length (p .cells)) (suc (callOf j (p .call) .deadline)) in
       let x₄ = allBelow (j .cells) (p .cells) in
       let e₁₂ : (x₁ && x₂) ≡ true = and-left (x₁ && x₂) x₃ (and-left (x₁ && x₂ && x₃) x₄ e) in (
-        omega (arith, ltb-true (p .cart) (length (j .carts)) (and-left x₁ x₂ e₁₂), lim .few-carts),
+        omega (arith, ltb-true (p .cart) (length (j .carts)) (and-left x₁ x₂ e₁₂), f .few-carts),
         (
-          omega (arith, ltb-true (p .call) (length (j .calls)) (and-right x₁ x₂ e₁₂), lim .few-calls),
-          cells-small (j .cells) (p .cells) (lim .few-cells) (and-right (x₁ && x₂ && x₃) x₄ e),
+          omega (arith, ltb-true (p .call) (length (j .calls)) (and-right x₁ x₂ e₁₂), f .few-calls),
+          cells-small (j .cells) (p .cells) (f .few-cells) (and-right (x₁ && x₂ && x₃) x₄ e),
         ),
       )
 
@@ -134,15 +144,14 @@ module _ (j : Job) (lim : Within j) where
   pub plan-read : (ps : List Path) → length ps ≡ length (j .calls) → ((p : Path) → In p ps → knownPath j p ≡ true) → readSheet j (planText ps) ≡ plan ps
   unfolding readSheet
   plan-read ps e g =
-      ap (headSays j) (line-read planWord (length ps ∷ []) (linesText pathWord pathNumbers ps) refl (omega (arith, lim .few-calls), tt))
-      ∙ ap (countSays (λ n. eqb n (length (j .calls))) (λ n. restSays (pathLine j) plan [] n 2 (linesOf (linesText pathWord pathNumbers ps)))) (fields-read (length ps) [] (omega (arith, lim .few-calls), tt))
-      ∙ ap (λ x. cond x (restSays (pathLine j) plan [] (length ps) 2 (linesOf (linesText pathWord pathNumbers ps))) (bad 1)) (eq-eqb (length ps) (length (j .calls)) e)
-      ∙ rest-read (pathLine j) plan pathWord pathNumbers (λ p. knownPath j p ≡ true) refl path-small path-said [] ps 2 g
+      ap (headSays j) (line-read planWord (length ps ∷ []) (linesText pathWord pathNumbers ps) refl (omega (arith, f .few-calls), tt))
+      ∙ all-read (pathLine j) plan pathWord pathNumbers (λ p. knownPath j p ≡ true) refl path-small path-said (λ n. eqb n (length (j .calls))) ps
+      (omega (arith, f .few-calls)) (eq-eqb (length ps) (length (j .calls)) e) g
 
   point-small : (x : Point) → knownPoint j x ≡ true → Small (chokeNumbers x)
   point-small x e = (
-    omega (arith, ltb-true (x .cell) (j .cells) (and-left _ _ e), lim .few-cells),
-    (omega (arith, leb-true (x .step) (horizon j) (and-right (ltb (x .cell) (j .cells)) (leb (x .step) (horizon j)) e), lim .few-steps), tt),
+    omega (arith, ltb-true (x .cell) (j .cells) (and-left _ _ e), f .few-cells),
+    (omega (arith, leb-true (x .step) (horizon j) (and-right (ltb (x .cell) (j .cells)) (leb (x .step) (horizon j)) e), few-steps), tt),
   )
 
   point-said : (x : Point) → knownPoint j x ≡ true → chokeLine j (chokeWord ++ fields (chokeNumbers x)) ≡ some x
@@ -151,7 +160,6 @@ module _ (j : Job) (lim : Within j) where
   pub cannot-read : (xs : List Point) → length xs < length (j .calls) → ((x : Point) → In x xs → knownPoint j x ≡ true) → readSheet j (cannotText xs) ≡ cannot xs
   unfolding readSheet
   cannot-read xs e g =
-      ap (headSays j) (line-read cannotWord (length xs ∷ []) (linesText chokeWord chokeNumbers xs) refl (omega (arith, lim .few-calls), tt))
-      ∙ ap (countSays (λ n. ltb n (length (j .calls))) (λ n. restSays (chokeLine j) cannot [] n 2 (linesOf (linesText chokeWord chokeNumbers xs)))) (fields-read (length xs) [] (omega (arith, lim .few-calls), tt))
-      ∙ ap (λ x. cond x (restSays (chokeLine j) cannot [] (length xs) 2 (linesOf (linesText chokeWord chokeNumbers xs))) (bad 1)) (lt-ltb (length xs) (length (j .calls)) e)
-      ∙ rest-read (chokeLine j) cannot chokeWord chokeNumbers (λ x. knownPoint j x ≡ true) refl point-small point-said [] xs 2 g
+      ap (headSays j) (line-read cannotWord (length xs ∷ []) (linesText chokeWord chokeNumbers xs) refl (omega (arith, f .few-calls), tt))
+      ∙ all-read (chokeLine j) cannot chokeWord chokeNumbers (λ x. knownPoint j x ≡ true) refl point-small point-said (λ n. ltb n (length (j .calls))) xs
+      (omega (arith, f .few-calls)) (lt-ltb (length xs) (length (j .calls)) e) g

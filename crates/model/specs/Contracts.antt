@@ -6,6 +6,8 @@ use mathlib.Core.Logic.{_⊎_}
 use mathlib.Core.Bool.{cond}
 use lib.Dec.{ltb}
 use lib.ListN.{length, drop, replicate}
+use Rattle.model.specs.declared.answer.Answer.the-variants as answer
+use Rattle.model.specs.Answers.{number}
 use Rattle.model.specs.Job.{Job, storeLeast, sheetLeast}
 use Rattle.model.specs.Plan.{Path, Plan, PlanInOrder}
 use Rattle.model.specs.Choke.{Point, TrueChokes, ChokesInOrder}
@@ -15,12 +17,12 @@ use Rattle.model.specs.ReadSheet.{Sheet, bad, plan, cannot, readSheet}
 
 -- 9 and 10: a buffer too short
 abbrev pub withStore : ℕ → Verdict → Verdict
-withStore n (refused k l) = refused k l
-withStore n (accepted j) = cond (ltb n (storeLeast j)) (refused 9 0) (accepted j)
+withStore n (refused a l) = refused a l
+withStore n (accepted j) = cond (ltb n (storeLeast j)) (refused answer.StoreTooShort 0) (accepted j)
 
 abbrev pub withRoom : ℕ → Verdict → Verdict
-withRoom n (refused k l) = refused k l
-withRoom n (accepted j) = cond (ltb n (sheetLeast j)) (refused 10 0) (accepted j)
+withRoom n (refused a l) = refused a l
+withRoom n (accepted j) = cond (ltb n (sheetLeast j)) (refused answer.SheetTooShort 0) (accepted j)
 
 abbrev pub RightPlan : Job → List Path → Type 0
 RightPlan j ps = Plan j ps × PlanInOrder j ps
@@ -31,22 +33,22 @@ RightChokes j xs = TrueChokes j xs × ChokesInOrder xs
 -- The sheet b that the planner writes, with its answer.
 abbrev pub Answers : Job → ℕ → List ℕ → Type 0
 Answers j r b =
-    ((ps : List Path) × RightPlan j ps × (b ≡ planText ps) × (r ≡ 0 + 256 * length b))
-    ⊎ ((xs : List Point) × RightChokes j xs × (b ≡ cannotText xs) × (r ≡ 1 + 256 * length b) × ((ps : List Path) → Plan j ps → ⊥))
+    ((ps : List Path) × RightPlan j ps × (b ≡ planText ps) × (r ≡ number answer.Plan + 256 * length b))
+    ⊎ ((xs : List Point) × RightChokes j xs × (b ≡ cannotText xs) × (r ≡ number answer.Cannot + 256 * length b) × ((ps : List Path) → Plan j ps → ⊥))
 
 -- The planner's answer r and the bytes b that it writes; none at a refusal.
 abbrev pub Told : Verdict → ℕ → List ℕ → Type 0
-Told (refused k l) r b = (r ≡ k + 256 * l) × (b ≡ [])
+Told (refused a l) r b = (r ≡ number a + 256 * l) × (b ≡ [])
 Told (accepted j) r b = Answers j r b
 
 -- The check's answer.
 abbrev pub Judged : Job → Sheet → ℕ → Type 0
-Judged j (bad l) r = r ≡ 11 + 256 * l
-Judged j (plan ps) r = (RightPlan j ps × (r ≡ 0)) ⊎ ((RightPlan j ps → ⊥) × (r ≡ 12))
-Judged j (cannot xs) r = (RightChokes j xs × (r ≡ 1)) ⊎ ((RightChokes j xs → ⊥) × (r ≡ 12))
+Judged j (bad l) r = r ≡ number answer.BadSheet + 256 * l
+Judged j (plan ps) r = (RightPlan j ps × (r ≡ number answer.Plan)) ⊎ ((RightPlan j ps → ⊥) × (r ≡ number answer.WrongSheet))
+Judged j (cannot xs) r = (RightChokes j xs × (r ≡ number answer.Cannot)) ⊎ ((RightChokes j xs → ⊥) × (r ≡ number answer.WrongSheet))
 
 abbrev pub Decided : Verdict → List ℕ → ℕ → Type 0
-Decided (refused k l) sheet r = r ≡ k + 256 * l
+Decided (refused a l) sheet r = r ≡ number a + 256 * l
 Decided (accepted j) sheet r = Judged j (readSheet j sheet) r
 
 -- by the lengths of store and sheet buffer
@@ -61,7 +63,7 @@ zeros s = replicate (length s) 0
 
 -- A refusal changes no lent byte; otherwise the store is wiped.
 abbrev pub storeAfter : Verdict → List ℕ → List ℕ
-storeAfter (refused k l) store = store
+storeAfter (refused a l) store = store
 storeAfter (accepted j) store = zeros store
 
 -- The planner: the bytes written, and behind them what stood there.

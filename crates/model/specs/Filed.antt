@@ -32,11 +32,11 @@ pub data Row : Type 0 where
   checks : (job : String) (store : ℕ) (sheet : String) (answer : ℕ) → Row
 
 -- What is filed is what the contract allows, and nothing else is.
-abbrev pub Holds : Row → Type 0
-Holds (plans job n m o) = (store sheet store′ sheet′ : List ℕ) (r : ℕ) → length store ≡ n → length sheet ≡ m
+abbrev pub RowHolds : Row → Type 0
+RowHolds (plans job n m o) = (store sheet store′ sheet′ : List ℕ) (r : ℕ) → length store ≡ n → length sheet ≡ m
     → (Planned (bytes job) store sheet store′ sheet′ r → (r ≡ packed o) × (sheet′ ≡ written o ++ drop (length (written o)) sheet) × (store′ ≡ leaves o store))
     × ((r ≡ packed o) × (sheet′ ≡ written o ++ drop (length (written o)) sheet) × (store′ ≡ leaves o store) → Planned (bytes job) store sheet store′ sheet′ r)
-Holds (checks job n sheet k) = (store store′ : List ℕ) (r : ℕ) → length store ≡ n
+RowHolds (checks job n sheet k) = (store store′ : List ℕ) (r : ℕ) → length store ≡ n
     → (Checked (bytes job) store (bytes sheet) store′ r → (r ≡ k) × (store′ ≡ cond (ltb k 2) (zeros store) store))
     × ((r ≡ k) × (store′ ≡ cond (ltb k 2) (zeros store) store) → Checked (bytes job) store (bytes sheet) store′ r)
 

@@ -1,4 +1,5 @@
 pub mod Limits
+pub mod Answers
 pub mod Lists
 pub mod Job
 pub mod Walk

@@ -3,10 +3,10 @@ use Prim.Native.Nat.{ℕ, suc, _<_}
 use mathlib.Core.Path.{_≡_}
 use mathlib.Core.List.{List, map}
 use mathlib.Core.Logic.{_⊎_}
-use lib.ListN.{length, getD}
+use lib.ListN.{length}
 use Rattle.model.specs.Lists.{In, NoDup, Rising}
 use Rattle.model.specs.Job.{Job, Call, cartCell, callOf}
-use Rattle.model.specs.Walk.{Walk, Serves}
+use Rattle.model.specs.Walk.{At, Walk, Serves}
 
 -- the numbers of a cart and a call, and the cells from step 0 to the deadline
 pub record Path : Type 0 where
@@ -23,7 +23,7 @@ pub record Leads (j : Job) (p : Path) : Type 0 where
 
 -- The cart that walks w is on the cell v at the step t. It is on the floor up to its deadline, that step included, and off it from the next.
 abbrev pub OnFloor : List ℕ → ℕ → ℕ → Type 0
-OnFloor w t v = (t < length w) × (getD w t 0 ≡ v)
+OnFloor w t v = At w t v
 
 -- Both are on one cell at the step t.
 abbrev pub Share : List ℕ → List ℕ → ℕ → Type 0

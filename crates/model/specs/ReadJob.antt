@@ -1,4 +1,4 @@
--- The job that a text says, or its refusal: a number and a line, from 1. The state is the job of the lines so far; it has 0 cells before its FLOOR line.
+-- The job that a text says, or its refusal: an answer and a line, from 1. The state is the job of the lines so far; it has 0 cells before its FLOOR line.
 use Prim.Native.Nat.{ℕ, _+_}
 use mathlib.Core.List.{List, [], _∷_, _++_, map}
 use mathlib.Core.Option.{Option, none, some}
@@ -6,11 +6,13 @@ use mathlib.Core.Bool.{Bool, true, false, cond, not, _&&_, _||_}
 use lib.Dec.{ltb, leb, eqb}
 use lib.ListN.{length, getD}
 use Rattle.model.specs.Limits.{maxCells, maxTracks, maxCarts, maxCalls, maxSteps, maxText}
+use Rattle.model.specs.declared.answer.Answer.{Answer}
+use Rattle.model.specs.declared.answer.Answer.the-variants.{TextTooLong, BadLine, NoNumber, OutOfRange, TooMany, Doubled, Uneven}
 use Rattle.model.specs.Job.{Job, Track, track, call}
 use Rattle.model.specs.Text.{Lines, done, cut, more, linesOf, numbersOf, opens, after, floorWord, trackWord, cartWord, callWord}
 
 pub data Verdict : Type 0 where
-  refused : (number line : ℕ) → Verdict
+  refused : (answer : Answer) (line : ℕ) → Verdict
   accepted : Job → Verdict
 
 pub data Kind : Type 0 where
@@ -72,20 +74,20 @@ add j trackLine a b = record { cells = j .cells; tracks = j .tracks ++ (track a 
 add j cartLine a b = record { cells = j .cells; tracks = j .tracks; carts = j .carts ++ (a ∷ []); calls = j .calls }
 add j callLine a b = record { cells = j .cells; tracks = j .tracks; carts = j .carts; calls = j .calls ++ (call a b ∷ []) }
 
--- What a line says: the job with it, or the number of the first test that fails.
+-- What a line says: the job with it, or the answer of the first test that fails.
 pub data Said : Type 0 where
-  wrong : ℕ → Said
+  wrong : Answer → Said
   right : Job → Said
 
 abbrev pub numbersSay : Job → Kind → Option (List ℕ) → Said
-numbersSay j k none = wrong 4
+numbersSay j k none = wrong NoNumber
 numbersSay j k (some ns) =
     let a = getD ns 0 0 in
     let b = getD ns 1 0 in
-    cond (inRange j k a b) (cond (hasRoom j k) (cond (isNew j k a b) (right (add j k a b)) (wrong 7)) (wrong 6)) (wrong 5)
+    cond (inRange j k a b) (cond (hasRoom j k) (cond (isNew j k a b) (right (add j k a b)) (wrong Doubled)) (wrong TooMany)) (wrong OutOfRange)
 
 abbrev pub fieldsSay : Job → Kind → List (List ℕ) → Said
-fieldsSay j k fs = cond (mayFollow j k && eqb (length fs) (fieldCount k)) (numbersSay j k (numbersOf fs)) (wrong 3)
+fieldsSay j k fs = cond (mayFollow j k && eqb (length fs) (fieldCount k)) (numbersSay j k (numbersOf fs)) (wrong BadLine)
 
 -- The word at the line's start decides; what follows it and its tab are the fields.
 abbrev pub lineSays : Job → List ℕ → Said
@@ -94,21 +96,21 @@ lineSays j l =
     (cond (opens trackWord l) (fieldsSay j trackLine (after trackWord l))
     (cond (opens cartWord l) (fieldsSay j cartLine (after cartWord l))
     (cond (opens callWord l) (fieldsSay j callLine (after callWord l))
-    (wrong 3))))
+    (wrong BadLine))))
 
 abbrev pub goOn : Said → ℕ → (Job → Verdict) → Verdict
-goOn (wrong k) n on = refused k n
+goOn (wrong a) n on = refused a n
 goOn (right j) n on = on j
 
 -- 8: carts and calls differ in number. A text without a line has no FLOOR.
 abbrev pub wholeJob : Job → ℕ → Verdict
-wholeJob j n = cond (eqb (j .cells) 0) (refused 3 n) (cond (eqb (length (j .carts)) (length (j .calls))) (accepted j) (refused 8 0))
+wholeJob j n = cond (eqb (j .cells) 0) (refused BadLine n) (cond (eqb (length (j .carts)) (length (j .calls))) (accepted j) (refused Uneven 0))
 
 -- The lines from number n on, after those that said j.
 abbrev pub linesSay : Job → ℕ → Lines → Verdict
 linesSay j n done = wholeJob j n
-linesSay j n cut = refused 3 n
+linesSay j n cut = refused BadLine n
 linesSay j n (more l ls) = goOn (lineSays j l) n (λ j′. linesSay j′ (n + 1) ls)
 
 unfoldable pub readJob : List ℕ → Verdict
-readJob s = cond (ltb maxText (length s)) (refused 2 0) (linesSay noJob 1 (linesOf s))
+readJob s = cond (ltb maxText (length s)) (refused TextTooLong 0) (linesSay noJob 1 (linesOf s))

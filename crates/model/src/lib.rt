@@ -1,4 +1,5 @@
-// The limits that every layer takes from here. The definitions of a job, a plan, a choke list and the texts are in specs/.
+// The limits and the answers that every layer takes from here. The definitions of a job, a plan, a choke list and the texts are in specs/.
+pub mod answer;
 pub mod bytes;
 
 ghost use mathlib.Core.Path.{_≡_};

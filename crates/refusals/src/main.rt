@@ -1,9 +1,9 @@
 // Reads examples on standard input and writes for each its label and what the reader answers: the number and line of a refusal, or "accepted".
 // An example is a line of `%` and a label, and then the job, up to the next `%`.
-use job::line::Fault;
-use job::read::Answer;
+use job::read::Verdict;
 use libc::STDIN_FILENO;
 use libc::STDOUT_FILENO;
+use model::answer::number;
 ghost use mathlib.Core.Path.{_≡_};
 ghost use Prim.Native.Nat.{_≤_};
 ghost use lib.ListN.{length};
@@ -23,35 +23,15 @@ fn find(s: &[u8], at: usize, b: u8) -> usize
     i
 }
 
-fn number_of(fault: Fault) -> u64 {
-    match fault {
-        Fault::Form => 3,
-        Fault::Number => 4,
-        Fault::Range => 5,
-        Fault::Room => 6,
-        Fault::Doubled => 7,
-    }
-}
-
-fn refuse(number: u64, line: u64) {
-    io::print_decimal(STDOUT_FILENO, number);
-    io::write_all(STDOUT_FILENO, b"\t");
-    io::print_decimal(STDOUT_FILENO, line);
-}
-
-fn say(answer: Answer) {
-    match answer {
-        Answer::Accepted => {
+fn say(verdict: Verdict) {
+    match verdict {
+        Verdict::Accepted => {
             io::write_all(STDOUT_FILENO, b"accepted");
         }
-        Answer::TooLong => {
-            refuse(2, 0);
-        }
-        Answer::BadLine { fault, line } => {
-            refuse(number_of(fault), line as u64);
-        }
-        Answer::Uneven => {
-            refuse(8, 0);
+        Verdict::Refused { answer, line } => {
+            io::print_decimal(STDOUT_FILENO, number(answer));
+            io::write_all(STDOUT_FILENO, b"\t");
+            io::print_decimal(STDOUT_FILENO, line as u64);
         }
     }
 }
@@ -60,8 +40,8 @@ fn example(label: &[u8], text: &[u8]) {
     io::write_all(STDOUT_FILENO, label);
     io::write_all(STDOUT_FILENO, b"\t");
     let reading = job::read::read(text);
-    let answer = reading.answer;
-    say(answer);
+    let verdict = reading.verdict;
+    say(verdict);
     io::write_all(STDOUT_FILENO, b"\n");
 }
 

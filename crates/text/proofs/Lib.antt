@@ -1,3 +1,4 @@
+pub mod Owned
 pub mod Steps
 pub mod LineLaws
 pub mod Numbers

@@ -1,14 +1,13 @@
 -- The lines of a text from an index on, by the end of the first: what a loop over lines cites. Where no line feed ends it the rest is cut;
--- else it is the first line, and the byte at its end is a line feed. By induction over the rest. Assumes nothing.
+-- else it is the first line. By induction over the rest. Assumes nothing.
 use Prim.Native.Nat.{ℕ, suc, _+_, _-_, _≤_, _<_}
 use mathlib.Core.Path.{_≡_, refl, sym, ap, _∙_}
 use mathlib.Core.List.{List, [], _∷_}
 use mathlib.Core.Bool.{Bool, true, false, cond}
 use native.Mathlib.Omega.{arith}
 use lib.Dec.{eqb}
-use lib.ListN.{length, getD, take, drop, length-drop, drop-of-length-le}
-use lib.Seq.{drop-drop, getD-drop}
-use borrow.Author.Tests.{eqb-true}
+use lib.ListN.{length, take, drop, length-drop, drop-of-length-le}
+use lib.Seq.{drop-drop}
 use Rattle.model.specs.Text.{done, cut, more, onFirst, linesOf}
 use Rattle.text.specs.Scan.{lineOf}
 
@@ -27,15 +26,6 @@ line-front (b ∷ s) = go (eqb b 10) (line-front s)
     go : (t : Bool) → take (length (lineOf s)) s ≡ lineOf s → take (length (cond t [] (b ∷ lineOf s))) (b ∷ s) ≡ cond t [] (b ∷ lineOf s)
     go true h = refl
     go false h = ap (λ l. b ∷ l) h
-
-feed : (s : List ℕ) → length (lineOf s) < length s → getD s (length (lineOf s)) 0 ≡ 10
-feed [] h = absurd (omega arith)
-feed (b ∷ s) h = go (eqb b 10) refl h (λ k. feed s k)
-  where
-    go : (t : Bool) → eqb b 10 ≡ t → length (cond t [] (b ∷ lineOf s)) < suc (length s)
-        → (length (lineOf s) < length s → getD s (length (lineOf s)) 0 ≡ 10) → getD (b ∷ s) (length (cond t [] (b ∷ lineOf s))) 0 ≡ 10
-    go true q h ih = eqb-true b 10 q
-    go false q h ih = ih (omega arith)
 
 no-feed : (s : List ℕ) → 0 < length s → length s ≤ length (lineOf s) → linesOf s ≡ cut
 no-feed [] n h = absurd (omega arith)
@@ -74,9 +64,6 @@ module _ (s : List ℕ) (at : ℕ) where
   module _ (e : ℕ) (inside : at < length s) (end : e ≡ at + length (lineOf (drop at s))) where
     pub lines-cut : length s ≤ e → linesOf (drop at s) ≡ cut
     lines-cut h = no-feed (drop at s) (omega (arith, length-drop at s)) (omega (arith, length-drop at s))
-
-    pub line-feed : e < length s → getD s e 0 ≡ 10
-    line-feed h = rw end (sym (getD-drop at s (length (lineOf (drop at s))) 0) ∙ feed (drop at s) (omega (arith, length-drop at s)))
 
     pub lines-more : e < length s → linesOf (drop at s) ≡ more (take (e - at) (drop at s)) (linesOf (drop (e + 1) s))
     lines-more h =

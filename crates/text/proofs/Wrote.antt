@@ -35,7 +35,8 @@ wrote-more {s} {at} {xs} {t} {p} {ys} {u} {r} w v =
     let f : take p t ≡ take at s ++ xs = ap (take p) (w .text) ∙ take-at (take at s ++ xs) (drop (at + length xs) s) p lf in
     let g : drop p t ≡ drop (at + length xs) s = ap (drop p) (w .text) ∙ drop-at (take at s ++ xs) (drop (at + length xs) s) p lf in
     let k : at + length xs + length ys ≡ at + length (xs ++ ys) = simp length-append (omega arith) in
-    let e : drop (p + length ys) t ≡ drop (at + length (xs ++ ys)) s = sym (drop-drop (length ys) p t) ∙ ap (drop (length ys)) g ∙ drop-drop (length ys) (at + length xs) s ∙ ap (λ (m : ℕ). drop m s) k in
+    let e : drop (p + length ys) t ≡ drop (at + length (xs ++ ys)) s =
+    sym (drop-drop (length ys) p t) ∙ ap (drop (length ys)) g ∙ drop-drop (length ys) (at + length xs) s ∙ ap (λ (m : ℕ). drop m s) k in
     record {
       fits = simp length-append (omega (arith, wrote-long w, w .next, v .fits));
       next = simp length-append (omega (arith, w .next, v .next));
@@ -45,10 +46,7 @@ wrote-more {s} {at} {xs} {t} {p} {ys} {u} {r} w v =
 pub wrote-whole : {s bytes t : List ℕ} {r : ℕ} → Wrote s 0 bytes t r → t ≡ bytes ++ drop (length bytes) s
 wrote-whole w = simp zero-add at (w .text)
 
--- a numeral's digits, as the code computes them
-pub numeral-1 : (n : ℕ) → n < 10 → numeral n ≡ (48 + n) ∷ []
-numeral-1 n h = simp (lt-ltb _ _ h) (ap (λ (d : ℕ). (48 + d) ∷ []) (omega arith))
-
+-- a numeral's two or three digits, as the code computes them
 pub numeral-2 : (n : ℕ) → 10 ≤ n → n < 100 → numeral n ≡ (48 + n / 10) ∷ (48 + n % 10) ∷ []
 numeral-2 n l h = simp (le-ltb _ _ l, lt-ltb _ _ h) (ap (λ (d : ℕ). (48 + d) ∷ (48 + n % 10) ∷ []) (omega arith))
 

@@ -11,12 +11,6 @@ pub struct Lines<'a> {
     pub at: usize,
 }
 
-pub fn new<'a>(text: &'a [u8], at: usize) -> Lines<'a>
-    ensures { λ r. ⌜ (r .text ≡ text .entry) × (r .at ≡ at) ⌝ }
-{
-    Lines { text, at }
-}
-
 // The position behind the next line and its line feed: past the end where it has none.
 pub fn position<'a>(lines: Lines<'a>) -> usize
     requires { ⌜ lines .at ≤ length (now (lines .text)) ⌝ }
@@ -38,7 +32,7 @@ pub fn next<'a, 'b>(text: &'a [u8], at: &'b mut usize) -> &'a [u8]
     requires { ⌜ now at ≤ length (now text) ⌝ }
     ensures { λ r. ⌜ (now r ≡ lineOf (drop (now (at .entry)) (now (text .entry)))) × (now (at .exit) ≡ now (at .entry) + length (lineOf (drop (now (at .entry)) (now (text .entry)))) + 1) ⌝ }
 {
-    let lines = new(text, *at);
+    let lines = Lines { text, at: *at };
     let past = position(lines);
     *at = past;
     line(lines, past)

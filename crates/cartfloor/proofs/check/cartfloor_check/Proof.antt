@@ -1,73 +1,57 @@
--- `check::cartfloor_check` meets the check's contract. Each return is a case of the verdict: the text turned back, the store too short, the sheet judged;
--- only an answer below 2 wipes the store. Assumes nothing.
-use mathlib.Core.Path.{_≡_, refl, _∙_}
+-- `check::cartfloor_check` meets the check's contract. Each return is a case of the verdict: the text or the store turned back, the sheet judged; only
+-- an answer up to CANNOT wipes the store. Assumes nothing.
+use mathlib.Core.Path.{_≡_, refl, subst, _∙_}
+use native.Mathlib.Omega.{arith}
 use denote.Ref.{now}
 use lib.ListN.{length}
-use native.Mathlib.Omega.{arith}
-use Rattle.model.specs.ReadJob.{readJob, accepted}
-use Rattle.model.specs.Ready.{Ready}
+use Rattle.model.specs.ReadJob.{accepted}
 use Rattle.model.specs.Contracts.{checkVerdict}
 use Rattle.job.specs.Arrays.{jobOf}
-use Rattle.cartfloor.proofs.Verdicts.{turned-back, let-through, ready, back-store, short-store, long-store, back-checked, cleared, passed-checked, failed-checked}
+use Rattle.job.specs.Reading.{Bounded}
+use Rattle.cartfloor.proofs.Verdicts.{turned, let-through, ready, cleared, back-checked, passed-checked, failed-checked}
 use borrow.Author.Needs.{needs}
 use Rattle.cartfloor.proofs.check.cartfloor_check.Statement.{statement}
 use Rattle.cartfloor.proofs.check.cartfloor_check.Tie as tie
 mod Places
 use Places.*
 
--- The text is accepted.
-said : (c : tie.Else1) → readJob (now (else1→start c .args .text)) ≡ accepted (jobOf (else1→read c .read .result .job))
-said c =
-    let back = else1→turned-back c .turned-back in
-    let-through (now (else1→start c .args .text)) (else1→read c .read .result) (else1→read c .read .ensures) (back .result) (back .ensures) (omega (arith, c .if1 .left))
-
-whole : (c : tie.Else1) → Ready (jobOf (else1→read c .read .result .job))
-whole c =
-    let back = else1→turned-back c .turned-back in
-    ready (now (else1→start c .args .text)) (else1→read c .read .result) (else1→read c .read .ensures) (back .result) (back .ensures) (omega (arith, c .if1 .left))
-
--- The store is long enough, too.
-held : (c : tie.Else2) → checkVerdict (now (else2→start c .args .text)) (length (now (else2→start c .args .store))) ≡ accepted (jobOf (else2→read c .read .result .job))
-held c =
-    long-store (now (else2→start c .args .text)) (length (now (else2→start c .args .store))) (jobOf (else2→read c .read .result .job)) (said (else2→else1 c))
-    (omega (arith, c .if2 .left, else2→store-least c .store-least .ensures))
+packed-requires : tie.Need-packed-requires
+packed-requires c κs = let b = subst Bounded (known-told→verdict c .verdict .given .1) (known-told→admit c .admit .ensures .bounded) in omega (arith, b .1)
 
 returns : tie.Need-returns
 returns c =
-    let a = then1→start c .args in
-    let r = then1→turned-back c .turned-back in
-    let b = turned-back (now (a .text)) (then1→read c .read .result) (then1→read c .read .ensures) (r .result) (r .ensures) (c .if1 .taken) in
-    back-checked (now (a .text)) (now (a .store)) (now (a .sheet)) (r .result) (back-store (now (a .text)) (length (now (a .store))) (r .result) b)
+    let a = packed→start c .args in
+    let e = packed→verdict c .verdict .given .1 in
+    let back = turned (now (a .text)) (length (now (a .store))) (packed→admit c .admit .result) (packed→admit c .admit .ensures) _ _ e in
+    back-checked (now (a .text)) (now (a .store)) (now (a .sheet)) _ _ _ back (subst Bounded e (packed→admit c .admit .ensures .bounded) .0) (c .packed .ensures)
 
-store-least-requires : tie.Need-store-least-requires
-store-least-requires c κs = (else1→read c .read .ensures .sized, whole c .fit .few-cells)
+-- The text and the store pass.
+passed : (c : tie.After-enum-told) → checkVerdict (now (enum-told→start c .args .text)) (length (now (enum-told→start c .args .store))) ≡ accepted (jobOf (enum-told→admit c .admit .result .job))
+passed c = let-through _ _ (enum-told→admit c .admit .result) (enum-told→admit c .admit .ensures) (c .enum-told .given .1)
+
+judge-sheet-requires : tie.Need-judge-sheet-requires
+judge-sheet-requires c κs =
+    let a = enum-told→start c .args in
+    let r = enum-told→admit c .admit in
+    (ready (now (a .text)) (length (now (a .store))) (r .result) (r .ensures) (c .enum-told .given .1), r .ensures .sized)
 
 returns-2 : tie.Need-returns-2
 returns-2 c =
-    let a = then2→start c .args in
-    let b = short-store (now (a .text)) (length (now (a .store))) (jobOf (then2→read c .read .result .job)) (said (then2→else1 c))
-    (omega (arith, c .if2 .taken, then2→store-least c .store-least .ensures)) in
-    back-checked (now (a .text)) (now (a .store)) (now (a .sheet)) 9 b
-
-judge-sheet-requires : tie.Need-judge-sheet-requires
-judge-sheet-requires c κs = (whole (else2→else1 c), else2→read c .read .ensures .sized)
+    let a = slice-known2→start c .args in
+    let r = slice-known2→judge-sheet c .judge-sheet in
+    passed-checked (now (a .text)) (now (a .store)) (now (a .sheet)) (r .result) _ (passed (slice-known2→enum-told c)) (r .ensures) _
+    (omega (arith, slice-known2→then1 c .if1 .taken, slice-known2→number c .number .ensures .0))
+    (slice-known2→clear c .clear .ensures ∙ cleared (now (a .store)) (now (a .store)) refl)
 
 returns-3 : tie.Need-returns-3
 returns-3 c =
-    let a = slice-known2→start c .args in
-    let r = slice-known2→judge-sheet c .judge-sheet in
-    passed-checked (now (a .text)) (now (a .store)) (now (a .sheet)) (r .result) (jobOf (slice-known2→read c .read .result .job)) (held (slice-known2→else2 c)) (r .ensures) _
-    (omega (arith, slice-known2→then3 c .if3 .taken))
-    (slice-known2→clear c .clear .ensures ∙ cleared (now (a .store)) (now (a .store)) refl)
-
-returns-4 : tie.Need-returns-4
-returns-4 c =
-    let a = else3→start c .args in
-    let r = else3→judge-sheet c .judge-sheet in
-    failed-checked (now (a .text)) (now (a .store)) (now (a .sheet)) (r .result) (jobOf (else3→read c .read .result .job)) (held (else3→else2 c)) (r .ensures) (omega (arith, c .if3 .left))
+    let a = else1→start c .args in
+    let r = else1→judge-sheet c .judge-sheet in
+    failed-checked (now (a .text)) (now (a .store)) (now (a .sheet)) (r .result) _ (passed (else1→enum-told c)) (r .ensures) (omega (arith, c .if1 .left, else1→number c .number .ensures .0))
 
 pub cartfloor-check-spec : {M : Type 1} → statement M
 cartfloor-check-spec =
     tie.close
     (tie.spec
-    (λ c κs. search needs) (λ c κs. search needs) returns store-least-requires returns-2 judge-sheet-requires (λ c κs. search needs) (λ c. search needs) returns-3 returns-4)
+    (λ c κs. search needs) (λ c. search needs) packed-requires returns (λ c. search needs) judge-sheet-requires (λ c κs. search needs) (λ c κs. search needs) (λ c. search needs)
+    returns-2 returns-3)

@@ -6,7 +6,7 @@ use borrow.Author.Tests.{not-true, not-false}
 use Rattle.model.specs.Job as model
 use Rattle.model.specs.Text.{fieldsOf}
 use Rattle.model.specs.ReadJob.{fieldsSay}
-use Rattle.job.specs.Lines.{kindOf, numbersGiven, Counted}
+use Rattle.job.specs.Lines.{kindOf, numbersGiven, SameCounts}
 use Rattle.job.proofs.Entries.{count-few, givenSay, fields-out, fields-by}
 use borrow.Author.Needs.{needs}
 use Rattle.job.proofs.line.fields_say.Statement.{statement}
@@ -25,7 +25,7 @@ numbers-of-requires c κs = rw (c .field-count .ensures) (count-few (kindOf (fie
 abbrev start : tie.After-numbers-of → tie.Start
 start c = numbers-of→start c
 
-numbered : (c : tie.After-numbers-of) (j : model.Job) → Counted (start c .args .counts) j
+numbered : (c : tie.After-numbers-of) (j : model.Job) → SameCounts (start c .args .counts) j
     → fieldsSay j (kindOf (start c .args .kind)) (fieldsOf (now (start c .args .fields))) ≡ givenSay j (kindOf (start c .args .kind)) (c .numbers-of .result)
 numbered c j q =
     let k = kindOf (start c .args .kind) in

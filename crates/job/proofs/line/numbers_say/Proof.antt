@@ -7,7 +7,7 @@ use native.Mathlib.Omega.{arith}
 use borrow.Author.Tests.{not-true, not-false}
 use Rattle.model.specs.Job as model
 use Rattle.model.specs.ReadJob.{inRange, hasRoom}
-use Rattle.job.specs.Lines.{kindOf, Counted, Small}
+use Rattle.job.specs.Lines.{kindOf, SameCounts, Small}
 use Rattle.job.proofs.Tests.{range-small}
 use Rattle.job.proofs.Entries.{some-job}
 use borrow.Author.Needs.{needs}
@@ -23,7 +23,7 @@ returns : tie.Need-returns
 returns c = (tt, λ j q m. simp (sym (then1→passes c .passes .ensures j q) ∙ not-true _ (c .if1 .taken)))
 
 -- The numbers are in range, in any job with these counts, and so they are small.
-ranged : (c : tie.Else1) (j : model.Job) → let a = start (else1→passes c) .args in Counted (a .counts) j → inRange j (kindOf (a .kind)) (a .a) (a .b) ≡ true
+ranged : (c : tie.Else1) (j : model.Job) → let a = start (else1→passes c) .args in SameCounts (a .counts) j → inRange j (kindOf (a .kind)) (a .a) (a .b) ≡ true
 ranged c j q = sym (else1→passes c .passes .ensures j q) ∙ not-false _ (c .if1 .left)
 
 small : (c : tie.Else1) → let a = start (else1→passes c) .args in Small (a .kind) (a .a) (a .b)
@@ -35,7 +35,7 @@ small c =
 returns-2 : tie.Need-returns-2
 returns-2 c = (tt, λ j q m. simp (ranged (then2→else1 c) j q, sym (then2→passes2 c .passes2 .ensures j q) ∙ not-true _ (c .if2 .taken)))
 
-roomy : (c : tie.Else2) (j : model.Job) → let a = start (else2→passes c) .args in Counted (a .counts) j → hasRoom j (kindOf (a .kind)) ≡ true
+roomy : (c : tie.Else2) (j : model.Job) → let a = start (else2→passes c) .args in SameCounts (a .counts) j → hasRoom j (kindOf (a .kind)) ≡ true
 roomy c j q = sym (else2→passes2 c .passes2 .ensures j q) ∙ not-false _ (c .if2 .left)
 
 passes-requires-3 : tie.Need-passes-requires-3

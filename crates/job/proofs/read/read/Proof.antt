@@ -1,22 +1,21 @@
 -- `read` answers what the text says. The invariant, `Kept`: the job that the arrays hold so far, read on from `at`, says what the whole text
 -- says; its counts, its cells and its table keep within their sizes; and no more lines than bytes were read. The measure is what is left of
 -- the text. Assumes nothing.
-use Prim.Native.Nat.{ℕ, _+_, _-_}
-use mathlib.Core.Path.{_≡_, refl, ap, _∙_}
+use Prim.Native.Nat.{ℕ, _-_}
+use mathlib.Core.Path.{_≡_, ap, _∙_}
 use mathlib.Core.List.{List}
 use mathlib.Core.Bool.{true}
 use Rattle.model.specs.ReadJob.{hasRoom, lineSays}
-use Rattle.job.specs.declared.read.Answer.the-variants.{BadLine}
+use Rattle.job.specs.declared.read.Verdict.the-variants.{Refused}
 use Rattle.job.specs.declared.state.Job.{Job}
 use Rattle.job.specs.Arrays.{jobOf, held}
-use Rattle.job.specs.Answers.{answerOf}
-use Rattle.job.specs.Lines.{kindOf, saidBy, Small}
+use Rattle.job.specs.Reading.{verdictOn}
+use Rattle.job.specs.Lines.{kindOf, answerTo, saidBy, Small}
 use native.Mathlib.Omega.{arith}
 use denote.Ref.{now}
-use lib.ListN.{length, take, drop}
-use Rattle.text.specs.Scan.{lineOf}
-use Rattle.text.proofs.LineLaws.{line-taken}
-use Rattle.job.proofs.Turns.{Kept, kept-counts, too-long, kept-first, ends-cut, ends-wrong, kept-next, ends-none, ends-uneven, ends-job}
+use lib.ListN.{length}
+use Rattle.job.proofs.Tests.{fault-late}
+use Rattle.job.proofs.Turns.{Kept, kept-counts, turned-back, too-long, kept-first, ends-cut, ends-wrong, kept-next, ends-none, ends-uneven, ends-job}
 use borrow.Author.Needs.{needs}
 use Rattle.job.proofs.read.read.Statement.{statement}
 use Rattle.job.proofs.read.read.Tie as tie
@@ -37,28 +36,17 @@ textOf h = now (loop→start h .args .text)
 abbrev jobAt : tie.At-loop Inv-loop μ-loop → Job
 jobAt h = held (h .loop .counts) (h .loop .from) (h .loop .to) (h .loop .starts) (h .loop .lifts) (h .loop .deadlines)
 
--- Where the line that is read ends, before its line feed.
-abbrev endOf : tie.At-loop Inv-loop μ-loop → ℕ
-endOf h = h .loop .at + length (lineOf (drop (h .loop .at) (textOf h)))
-
 returns : tie.Need-returns Inv-loop μ-loop
-returns c =
-    let r = c .refused .ensures in
-    record { says = rw (r .0) (too-long (now (refused→start c .args .text)) (refused→then1 c .if1 .taken)); sized = r .1; line-fits = rw (r .0) tt }
+returns c = turned-back (c .refused .ensures) (too-long (now (refused→start c .args .text)) (refused→then1 c .if1 .taken)) (omega arith) (omega arith)
 
 loop-holds : tie.Need-loop-holds Inv-loop μ-loop
 loop-holds c = kept-first (now (else1→start c .args .text)) (c .if1 .left)
 
 returns-2 : tie.Need-returns-2 Inv-loop μ-loop
 returns-2 c =
-    let r = c .refused2 .ensures in
     let h = refused2→loop c in
-    let l = h .loop in
-    record {
-      says = rw (r .0) (ends-cut (textOf h) (jobAt h) (l .seen) (l .at) (l .line) (l .inv) (endOf h) (refused2→in-loop c .loop-test .taken) refl (omega (arith, refused2→next c .next .ensures .1)));
-      sized = r .1;
-      line-fits = rw (r .0) (omega arith);
-    }
+    let says = ends-cut (h .loop .inv) _ _ (refused2→next c .next .ensures) (refused2→in-loop c .loop-test .taken) (refused2→then2 c .if2 .taken) in
+    turned-back (c .refused2 .ensures) says (omega arith) (omega arith)
 
 entry-of-requires : tie.Need-entry-of-requires Inv-loop μ-loop
 entry-of-requires c κs = let k = seen→loop c .loop .inv in (k .cells, k .table)
@@ -67,14 +55,10 @@ entry-of-requires c κs = let k = seen→loop c .loop .inv in (k .cells, k .tabl
 abbrev head : tie.After-entry-of Inv-loop μ-loop → tie.At-loop Inv-loop μ-loop
 head m = entry-of→loop m
 
--- What the entry says is what the line says, as the part of the text that the laws name.
+-- What the entry says is what the line says.
 line-said : (m : tie.After-entry-of Inv-loop μ-loop)
-    → saidBy (jobOf (jobAt (head m))) (m .entry-of .result)
-    ≡ lineSays (jobOf (jobAt (head m))) (take (endOf (head m) - head m .loop .at) (drop (head m .loop .at) (textOf (head m))))
-line-said m =
-    let h = head m in
-    m .entry-of .ensures .1 (jobOf (jobAt h)) (kept-counts (h .loop .inv)) (h .loop .inv .marks)
-    ∙ ap (lineSays (jobOf (jobAt h))) (line-taken (textOf h) (h .loop .at) _ (entry-of→next m .next .ensures .0))
+    → saidBy (jobOf (jobAt (head m))) (m .entry-of .result) ≡ lineSays (jobOf (jobAt (head m))) (now (entry-of→next m .next .result))
+line-said m = let k = head m .loop .inv in m .entry-of .ensures .1 (jobOf (jobAt (head m))) (kept-counts k) (k .marks)
 
 returns-3 : tie.Need-returns-3 Inv-loop μ-loop
 returns-3 c =
@@ -82,30 +66,11 @@ returns-3 c =
     let e = entry-of→next m in
     let h = head m in
     let l = h .loop in
-    let w = refused3→enum-told c .enum-told .given in
-    let r = c .refused3 .ensures in
-    let a : c .refused3 .result .answer ≡ BadLine (w .0 .0) (l .line) = r .0 ∙ refused3→answer-of c .answer-of .ensures ∙ ap (λ x. answerOf x (l .line)) (w .1) in
-    record {
-      says =
-          rw a
-          (ends-wrong
-          (textOf h)
-          (jobAt h)
-          (l .seen)
-          (l .at)
-          (l .line)
-          (l .inv)
-          (endOf h)
-          (next→in-loop e .loop-test .taken)
-          refl
-          (omega (arith, e .next .ensures .1))
-          (m .entry-of .result)
-          (line-said m)
-          (w .0 .0)
-          (w .1));
-      sized = r .1;
-      line-fits = rw a (omega arith);
-    }
+    let (f, w) = refused3→enum-told c .enum-told .given in
+    let (v, sized) = c .refused3 .ensures in
+    let on : c .refused3 .result .verdict ≡ Refused (answerTo (f .0)) (l .line) = v ∙ refused3→verdict-on c .verdict-on .ensures ∙ ap (λ x. verdictOn x (l .line)) w in
+    let says = ends-wrong (l .inv) _ _ (e .next .ensures) (omega (arith, entry-of→else2 m .if2 .left)) (m .entry-of .result) (line-said m) (f .0) w in
+    turned-back (on, sized) says (fault-late (f .0)) (omega arith)
 
 -- The entry is small, and there is room for it.
 sound : (c : tie.After-known-told Inv-loop μ-loop)
@@ -143,61 +108,25 @@ loop-again c =
     let l = h .loop in
     let v = known-told→entry k .entry .given in
     let r = p .put-line in
-    rw (e .next .ensures .1)
-    (kept-next
-    (textOf h)
-    (jobAt h)
-    (l .seen)
-    (l .at)
-    (l .line)
-    (l .inv)
-    (endOf h)
-    (next→in-loop e .loop-test .taken)
-    refl
-    (omega (arith, e .next .ensures .1))
-    (m .entry-of .result)
-    (line-said m)
-    (v .0 .0)
-    (v .0 .1 .0)
-    (v .0 .1 .1 .0)
+    kept-next (l .inv) _ _ (e .next .ensures) (omega (arith, entry-of→else2 m .if2 .left)) (m .entry-of .result) (line-said m)
+    (v .0 .0) (v .0 .1 .0) (v .0 .1 .1 .0)
     (held (r .result) (r .last .0) (r .last .1 .0) (r .last .1 .1 .0) (r .last .1 .1 .1 .0) (r .last .1 .1 .1 .1 .0))
-    (seen3→mark c .mark .last .0)
-    (v .1)
-    (sound k .0)
-    (r .ensures)
-    (seen3→mark c .mark .ensures))
+    (seen3→mark c .mark .last .0) (v .1) (sound k .0) (r .ensures) (seen3→mark c .mark .ensures)
 
 returns-4 : tie.Need-returns-4 Inv-loop μ-loop
 returns-4 c =
-    let r = c .refused4 .ensures in
-    let h = refused4→loop c in
-    let l = h .loop in
-    record {
-      says = rw (r .0) (ends-none (textOf h) (jobAt h) (l .seen) (l .at) (l .line) (l .inv) (refused4→after-loop c .loop-test .left) (refused4→then3 c .if3 .taken));
-      sized = r .1;
-      line-fits = rw (r .0) (omega arith);
-    }
+    let says = ends-none (refused4→loop c .loop .inv) (refused4→after-loop c .loop-test .left) (refused4→then3 c .if3 .taken) in
+    turned-back (c .refused4 .ensures) says (omega arith) (omega arith)
 
 returns-5 : tie.Need-returns-5 Inv-loop μ-loop
 returns-5 c =
-    let r = c .refused5 .ensures in
-    let h = refused5→loop c in
-    let l = h .loop in
-    record {
-      says = rw (r .0) (ends-uneven (textOf h) (jobAt h) (l .seen) (l .at) (l .line) (l .inv) (refused5→after-loop c .loop-test .left) (refused5→else3 c .if3 .left) (refused5→then4 c .if4 .taken));
-      sized = r .1;
-      line-fits = rw (r .0) tt;
-    }
+    let says = ends-uneven (refused5→loop c .loop .inv) (refused5→after-loop c .loop-test .left) (refused5→else3 c .if3 .left) (refused5→then4 c .if4 .taken) in
+    turned-back (c .refused5 .ensures) says (omega arith) (omega arith)
 
 returns-6 : tie.Need-returns-6 Inv-loop μ-loop
 returns-6 c =
-    let h = else4→loop c in
-    let l = h .loop in
-    record {
-      says = ends-job (textOf h) (jobAt h) (l .seen) (l .at) (l .line) (l .inv) (else4→after-loop c .loop-test .left) (else4→else3 c .if3 .left) (c .if4 .left);
-      sized = l .inv .sized;
-      line-fits = tt;
-    }
+    let k = else4→loop c .loop .inv in
+    record { says = ends-job k (else4→after-loop c .loop-test .left) (else4→else3 c .if3 .left) (c .if4 .left); sized = k .sized; bounded = tt }
 
 pub read-spec : {M : Type 1} → statement M
 read-spec =

@@ -1,10 +1,11 @@
--- `put::number` meets its contract. By the number of digits, `numeral-1` to `numeral-3` say what the numeral is, so that there is room for each
+-- `put::number` meets its contract. By the number of digits, `one-digit`, `numeral-2` and `numeral-3` say what the numeral is, so that there is room for each
 -- byte, and `wrote-more` joins the bytes. In `returns-2` and `returns-3`, x, y and z are where the first, second and third byte are written, and i
 -- is where the test before them was decided. Assumes nothing.
 use mathlib.Core.Path.{ap}
 use native.Mathlib.Omega.{arith}
 use lib.ListN.{length}
-use Rattle.text.proofs.Wrote.{numeral-1, numeral-2, numeral-3, wrote-more}
+use Rattle.model.proofs.Read.{one-digit}
+use Rattle.text.proofs.Wrote.{numeral-2, numeral-3, wrote-more}
 use borrow.Author.Needs.{needs}
 use Rattle.text.proofs.put.number.Statement.{statement}
 use Rattle.text.proofs.put.number.Tie as tie
@@ -12,13 +13,13 @@ mod Places
 use Places.*
 
 byte-requires : tie.Need-byte-requires
-byte-requires c κs = omega (arith, ap length (numeral-1 (digit→start c .args .n) (omega arith)))
+byte-requires c κs = omega (arith, ap length (one-digit (digit→start c .args .n) (omega arith)))
 
 returns : tie.Need-returns
 returns c =
     let b = slice-known2→byte c in
     let i = byte→then1 b in
-    rw (numeral-1 (then1→start i .args .n) (i .if1 .taken), ← byte→digit b .digit .ensures) (b .byte .ensures)
+    rw (one-digit (then1→start i .args .n) (i .if1 .taken), ← byte→digit b .digit .ensures) (b .byte .ensures)
 
 byte-requires-2 : tie.Need-byte-requires-2
 byte-requires-2 c κs = omega (arith, ap length (numeral-2 (digit2→start c .args .n) (omega arith) (omega arith)))

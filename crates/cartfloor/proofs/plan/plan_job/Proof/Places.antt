@@ -2,14 +2,14 @@
 -- Made of the code by proof-names, which reads the lists below when the code has changed.
 -- All places in the code's order, each behind the one in front of it; where it is behind another, `X<Y` names that:
 -- Start After-slice-known After-slice-known2 After-solve-arg After-first After-second After-rows After-solve After-store After-slice-known3 After-first2 After-second2 After-rows2
--- At-match-keys1 After-enum-told After-first3 After-second3 After-rows3 After-put-plan-arg After-put-plan After-sheet After-slice-known4 At-match-keys2<After-rows2 After-outcome
--- After-known-told After-first4 After-second4 After-put-cannot-arg After-put-cannot After-sheet2 After-slice-known5
+-- At-match-keys1 After-enum-told After-first3 After-second3 After-rows3 After-put-plan-arg After-put-plan After-sheet After-slice-known4 After-packed At-match-keys2<After-rows2
+-- After-outcome After-known-told After-first4 After-second4 After-put-cannot-arg After-put-cannot After-sheet2 After-slice-known5 After-packed2
 -- The needs, each with its place:
 -- slice-aggregate-solve@After-first slice-aggregate-solve-2@After-second slice-aggregate-solve-3@After-rows solve-requires@After-rows enum-told@At-match-keys1
 -- slice-aggregate-put-plan@After-first3 slice-aggregate-put-plan-2@After-second3 slice-aggregate-put-plan-3@After-rows3 put-plan-requires@After-put-plan-arg
--- mul-result@After-slice-known4 same-length@After-slice-known4 same-length-2@After-slice-known4 returns@After-slice-known4 enum-known-outcome@At-match-keys2
--- slice-aggregate-put-cannot@After-first4 slice-aggregate-put-cannot-2@After-second4 put-cannot-requires@After-put-cannot-arg mul-result-2@After-slice-known5
--- add-result@After-slice-known5 same-length-3@After-slice-known5 same-length-4@After-slice-known5 returns-2@After-slice-known5
+-- packed-requires@After-slice-known4 same-length@After-packed same-length-2@After-packed returns@After-packed enum-known-outcome@At-match-keys2
+-- slice-aggregate-put-cannot@After-first4 slice-aggregate-put-cannot-2@After-second4 put-cannot-requires@After-put-cannot-arg packed-requires-2@After-slice-known5
+-- same-length-3@After-packed2 same-length-4@After-packed2 returns-2@After-packed2
 use Rattle.cartfloor.proofs.plan.plan_job.Tie as tie
 
 abbrev pub solve→start : tie.After-solve → tie.Start
@@ -36,6 +36,18 @@ slice-known4→solve c = put-plan-arg→solve (c .before .before .before)
 abbrev pub slice-known4→start : tie.After-slice-known4 → tie.Start
 slice-known4→start c = solve→start (slice-known4→solve c)
 
+abbrev pub packed→put-plan : tie.After-packed → tie.After-put-plan
+packed→put-plan c = slice-known4→put-plan (c .before)
+
+abbrev pub packed→enum-told : tie.After-packed → tie.After-enum-told
+packed→enum-told c = slice-known4→enum-told (c .before)
+
+abbrev pub packed→solve : tie.After-packed → tie.After-solve
+packed→solve c = slice-known4→solve (c .before)
+
+abbrev pub packed→start : tie.After-packed → tie.Start
+packed→start c = solve→start (packed→solve c)
+
 abbrev pub put-cannot-arg→outcome : tie.After-put-cannot-arg → tie.After-outcome
 put-cannot-arg→outcome c = c .before .before .before .before
 
@@ -56,3 +68,15 @@ slice-known5→solve c = put-cannot-arg→solve (c .before .before .before)
 
 abbrev pub slice-known5→start : tie.After-slice-known5 → tie.Start
 slice-known5→start c = solve→start (slice-known5→solve c)
+
+abbrev pub packed2→put-cannot : tie.After-packed2 → tie.After-put-cannot
+packed2→put-cannot c = slice-known5→put-cannot (c .before)
+
+abbrev pub packed2→outcome : tie.After-packed2 → tie.After-outcome
+packed2→outcome c = slice-known5→outcome (c .before)
+
+abbrev pub packed2→solve : tie.After-packed2 → tie.After-solve
+packed2→solve c = slice-known5→solve (c .before)
+
+abbrev pub packed2→start : tie.After-packed2 → tie.Start
+packed2→start c = solve→start (packed2→solve c)

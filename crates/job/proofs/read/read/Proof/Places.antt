@@ -2,12 +2,12 @@
 -- Made of the code by proof-names, which reads the lists below when the code has changed.
 -- All places in the code's order, each behind the one in front of it; where it is behind another, `X<Y` names that:
 -- Start After-shared-slice-known Then1 After-refused Else1<After-shared-slice-known At-loop In-loop After-loop<At-loop After-at<In-loop After-next Then2 After-refused2
--- Else2<After-next After-seen After-entry-of At-match-keys1 After-entry After-known-told At-match-keys2<After-entry-of After-enum-told After-answer-of After-refused3
+-- Else2<After-next After-seen After-entry-of At-match-keys1 After-entry After-known-told At-match-keys2<After-entry-of After-enum-told After-verdict-on After-refused3
 -- After-from<After-known-told After-to After-starts After-lifts After-deadlines After-put-line After-seen2 After-mark After-seen3 Then3<After-loop After-refused4 Else3<After-loop
 -- Then4 After-refused5 Else4<Else3
 -- The needs, each with its place:
 -- refused-requires@Then1 returns@After-refused loop-holds@Else1 next-requires@After-at refused-requires-2@Then2 returns-2@After-refused2 slice-aggregate-entry-of@After-seen
--- entry-of-requires@After-seen enum-known-entry@At-match-keys1 enum-told@At-match-keys2 answer-of-requires@After-enum-told refused-requires-3@After-answer-of
+-- entry-of-requires@After-seen enum-known-entry@At-match-keys1 enum-told@At-match-keys2 verdict-on-requires@After-enum-told refused-requires-3@After-verdict-on
 -- returns-3@After-refused3 put-line-requires@After-deadlines slice-aggregate-mark@After-seen2 mark-requires@After-seen2 add-line@After-seen3 loop-less@After-seen3
 -- loop-again@After-seen3 refused-requires-4@Then3 returns-4@After-refused4 refused-requires-5@Then4 returns-5@After-refused5 returns-6@Else4
 use Rattle.job.proofs.read.read.Tie as tie
@@ -25,14 +25,14 @@ module _ {Inv : tie.InvT-loop} {μ : tie.MeasureT-loop} where
   abbrev pub loop→start : tie.At-loop Inv μ → tie.Start Inv μ
   loop→start c = else1→start (c .before)
 
-  abbrev pub next→in-loop : tie.After-next Inv μ → tie.In-loop Inv μ
-  next→in-loop c = c .before .before
+  abbrev pub refused2→then2 : tie.After-refused2 Inv μ → tie.Then2 Inv μ
+  refused2→then2 c = c .before
 
   abbrev pub refused2→next : tie.After-refused2 Inv μ → tie.After-next Inv μ
-  refused2→next c = c .before .before
+  refused2→next c = refused2→then2 c .before
 
   abbrev pub refused2→in-loop : tie.After-refused2 Inv μ → tie.In-loop Inv μ
-  refused2→in-loop c = next→in-loop (refused2→next c)
+  refused2→in-loop c = refused2→next c .before .before
 
   abbrev pub refused2→loop : tie.After-refused2 Inv μ → tie.At-loop Inv μ
   refused2→loop c = refused2→in-loop c .before
@@ -40,8 +40,11 @@ module _ {Inv : tie.InvT-loop} {μ : tie.MeasureT-loop} where
   abbrev pub seen→loop : tie.After-seen Inv μ → tie.At-loop Inv μ
   seen→loop c = c .before .before .before .before .before
 
+  abbrev pub entry-of→else2 : tie.After-entry-of Inv μ → tie.Else2 Inv μ
+  entry-of→else2 c = c .before .before
+
   abbrev pub entry-of→next : tie.After-entry-of Inv μ → tie.After-next Inv μ
-  entry-of→next c = c .before .before .before
+  entry-of→next c = entry-of→else2 c .before
 
   abbrev pub entry-of→loop : tie.After-entry-of Inv μ → tie.At-loop Inv μ
   entry-of→loop c = seen→loop (c .before)
@@ -52,11 +55,11 @@ module _ {Inv : tie.InvT-loop} {μ : tie.MeasureT-loop} where
   abbrev pub known-told→entry-of : tie.After-known-told Inv μ → tie.After-entry-of Inv μ
   known-told→entry-of c = known-told→entry c .before .before
 
-  abbrev pub refused3→answer-of : tie.After-refused3 Inv μ → tie.After-answer-of Inv μ
-  refused3→answer-of c = c .before
+  abbrev pub refused3→verdict-on : tie.After-refused3 Inv μ → tie.After-verdict-on Inv μ
+  refused3→verdict-on c = c .before
 
   abbrev pub refused3→enum-told : tie.After-refused3 Inv μ → tie.After-enum-told Inv μ
-  refused3→enum-told c = refused3→answer-of c .before
+  refused3→enum-told c = refused3→verdict-on c .before
 
   abbrev pub refused3→entry-of : tie.After-refused3 Inv μ → tie.After-entry-of Inv μ
   refused3→entry-of c = refused3→enum-told c .before .before
