@@ -6,9 +6,10 @@ use mathlib.Core.Logic.{_⊎_, inl, inr, ⊎-elim}
 use native.Mathlib.Omega.{arith}
 use native.Mathlib.Decide.{decLt}
 use lib.ListN.{length, getD}
+use Rattle.model.specs.Lists.{In}
 use Rattle.model.specs.Job.{Job}
 use Rattle.model.specs.Choke.{Point, point, Known}
-use Rattle.model.proofs.Lists.{in-place}
+use Rattle.model.proofs.Lists.{in-getD, in-place}
 use Rattle.network.specs.declared.planes.Grid.{Grid}
 use Rattle.network.specs.declared.planes.Node.{Node}
 use Rattle.network.specs.Store.{pointOf, placeAt, usedAt, markAt, nextAt, withMark, withEntry}
@@ -32,6 +33,12 @@ module _ (P Q : Point → ℕ → Type 0) (M : Point → Type 0) (more : (y : Po
 
 pub guess-found : (P : Point → ℕ → Type 0) (M : Point → Type 0) (r : Found) {v : Node} {via : ℕ} → r ≡ Found.Push v via → Guesses P M r → Finds P M r
 guess-found P M r {v} {via} e f = let h : Guesses P M (Found.Push v via) = rw e at f in rw e h
+
+pub found-is : (P : Point → ℕ → Type 0) (M : Point → Type 0) {r r′ : Found} → r ≡ r′ → Finds P M r′ → Finds P M r
+found-is P M e f = rw e f
+
+pub in-at : (l : List ℕ) {x : ℕ} (i : ℕ) → x ≡ getD l i 0 → i < length l → In x l
+in-at l i e h = rw e (in-getD l i 0 h)
 
 -- By way of the first i cells of the row all is marked.
 abbrev pub Passed : Grid → List ℕ → List ℕ → List ℕ → ℕ → ℕ → ℕ → Type 0

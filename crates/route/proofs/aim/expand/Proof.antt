@@ -58,5 +58,5 @@ pub expand-spec : {M : Type 1} → statement M
 expand-spec =
     tie.close
     (tie.spec
-    Inv-loop μ-loop loop-holds (λ c. search needs) (λ c κs. search needs) (λ c. search needs) (λ c. search needs) (λ c. search needs) (λ c. search needs) (λ c. search needs) (λ c. search needs)
-    element-write-queue (λ c. search needs) is-free-requires returns (λ c. search needs) (λ c. search needs) loop-again returns-2)
+    Inv-loop μ-loop loop-holds (λ c. search needs) (λ c κs. search needs) (λ c. search needs) (λ c. search needs) (λ c. search needs) (λ c. search needs) (λ c. search needs)
+    (λ c. search needs) element-write-queue (λ c. search needs) is-free-requires returns (λ c. search needs) (λ c. search needs) loop-again returns-2)

@@ -54,4 +54,5 @@ pub drop-out-spec : {M : Type 1} → statement M
 drop-out-spec =
     tie.close
     (tie.spec
-    place-requires used-requires returns add-step (λ c. search needs) (λ c. search needs) cast-if2 (λ c. search needs) next-requires place-requires-2 mark-requires returns-3 returns-4)
+    place-requires used-requires returns add-step (λ c. search needs) (λ c. search needs) cast-if2 (λ c. search needs) next-requires place-requires-2 mark-requires returns-3
+    returns-4)

@@ -21,5 +21,4 @@ returns-2 c =
     (c .drop-out .result) (c .drop-out .ensures)
 
 pub find-spec : {M : Type 1} → statement M
-find-spec =
-    tie.close (tie.spec (λ c. search needs) scan-requires (λ c. search needs) returns (λ c. search needs) (λ c κs. search needs) returns-2)
+find-spec = tie.close (tie.spec (λ c. search needs) scan-requires (λ c. search needs) returns (λ c. search needs) (λ c κs. search needs) returns-2)

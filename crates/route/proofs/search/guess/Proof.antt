@@ -1,12 +1,9 @@
 -- `guess` answers a position that the node leads to and that is not marked, or Nothing: the hint's cell, if it is one of the row, is looked at as any other. Assumes nothing.
-use mathlib.Core.Path.{_≡_}
 use mathlib.Core.Logic.{inl}
-use lib.ListN.{getD}
 use native.Mathlib.Omega.{arith}
 use denote.Ref.{now}
 use Rattle.model.specs.Lists.{In}
-use Rattle.model.proofs.Lists.{in-getD}
-use Rattle.route.proofs.SearchFinds.{found-guess}
+use Rattle.route.proofs.SearchFinds.{found-guess, in-at}
 use borrow.Author.Needs.{needs}
 use Rattle.route.proofs.search.guess.Statement.{statement}
 use Rattle.route.proofs.search.guess.Tie as tie
@@ -14,9 +11,8 @@ mod Places
 use Places.*
 
 -- The hint's cell is one of the row.
-in-row : (c : tie.After-wide) → In (c .wide .result) (now (c .before .before .before .before .before .before .before .before .args .row))
-in-row c = let e : c .wide .result ≡ getD (now (wide→start c .args .row)) (wide→start c .args .hint) 0 = c .wide .ensures .0 in
-    rw e (in-getD (now (wide→start c .args .row)) (wide→start c .args .hint) 0 (omega (arith, wide→else2 c .if2 .left)))
+in-row : (c : tie.After-wide) → In (c .wide .result) (now (wide→start c .args .row))
+in-row c = in-at (now (wide→start c .args .row)) (wide→start c .args .hint) (c .wide .ensures .0) (omega (arith, wide→else2 c .if2 .left))
 
 look-requires : tie.Need-look-requires
 look-requires c κs = let p = struct-known2→start c .pre in (p .0, (p .1 .0, p .1 .1, (p .2 _ (in-row (struct-known2→wide c)), omega (arith, p .1 .2 .1))))

@@ -3,8 +3,8 @@ use Prim.Native.Nat.{_-_, _≤_}
 use native.Mathlib.Omega.{arith}
 use denote.Ref.{now}
 use lib.ListN.{length}
-use Rattle.model.proofs.Lists.{in-getD}
-use Rattle.route.proofs.SearchFinds.{Passed, found-more, passed-more, passed-all}
+use Rattle.model.specs.Lists.{In}
+use Rattle.route.proofs.SearchFinds.{Passed, found-more, in-at, passed-more, passed-all}
 use borrow.Author.Needs.{needs}
 use Rattle.route.proofs.search.scan.Statement.{statement}
 use Rattle.route.proofs.search.scan.Tie as tie
@@ -23,17 +23,16 @@ loop-holds c = (omega arith, λ k l. absurd (omega arith))
 shared-slice-read-wide : tie.Need-shared-slice-read-wide Inv-loop μ-loop
 shared-slice-read-wide c = omega arith
 
+-- The cell at hand is one of the row.
+in-row : (c : tie.After-wide Inv-loop μ-loop) → In (c .wide .result) (now (wide→start c .args .row))
+in-row c = in-at (now (wide→start c .args .row)) (wide→loop c .loop .i) (c .wide .ensures .0) (wide→in-loop c .loop-test .taken)
+
 look-requires : tie.Need-look-requires Inv-loop μ-loop
-look-requires c κs =
-    let p = wide→start c .pre in
-    (p .0, (p .1, p .2, (omega (arith, p .3 _ (in-getD (now (wide→start c .args .row)) (wide→loop c .loop .i) 0 (wide→in-loop c .loop-test .taken)), c .wide .ensures .0), p .4)))
+look-requires c κs = let p = wide→start c .pre in (p .0, (p .1, p .2, (p .3 _ (in-row c), p .4)))
 
 returns : tie.Need-returns Inv-loop μ-loop
 returns c =
-    let l = enum-told→loop c .loop in
-    let i = in-getD (now (enum-told→start c .args .row)) (l .i) 0 (enum-told→in-loop c .loop-test .taken) in
-    found-more _ _ _ (λ y via b. (enum-told→wide c .wide .result, rw (enum-told→wide c .wide .ensures .0) i, b)) (enum-told→look c .look .result) (c .enum-told .given .1)
-    (enum-told→look c .look .ensures)
+    found-more _ _ _ (λ y via b. (enum-told→wide c .wide .result, in-row (enum-told→wide c), b)) (enum-told→look c .look .result) (c .enum-told .given .1) (enum-told→look c .look .ensures)
 
 add-i : tie.Need-add-i Inv-loop μ-loop
 add-i c = omega arith

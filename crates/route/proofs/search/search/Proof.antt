@@ -16,7 +16,7 @@ use Rattle.route.specs.Finds.{From, Stamped, Finds}
 use Rattle.route.proofs.Stack.{posIn}
 use Rattle.route.proofs.SearchCount.{unmarked}
 use Rattle.route.proofs.SearchRuns.{Running}
-use Rattle.route.proofs.SearchFinds.{guess-found}
+use Rattle.route.proofs.SearchFinds.{guess-found, found-is}
 use Rattle.route.proofs.SearchTurn.{Going, Turn, Looked, first-needs, under-way, begun, ends-none, ends-some}
 use Rattle.route.proofs.SearchTurn.{stands, cells, is-goal, no-goal, turn-pop, top-at, deep-enough, push-needs, turn-falls, turn-push}
 use Rattle.route.proofs.search.search.Statement.{statement}
@@ -54,10 +54,10 @@ dull c j h = no-goal (turn (joined1→in-loop c) j h) (λ z. ⊎-elim (λ w. w .
 
 -- What is found answers for the position on top: what `find` answers, or a guess that is a position.
 answers : (c : tie.At-match-came Inv-loop μ-loop) →
-    (let a = c .before .before .before .before .before .before .before .before .before .before .before .before .before .before .before .before .before .before .before .before .args in
-    let l = c .before .before .before .before .before .before .before .before .before .loop in
-    Finds (From (a .grid) (l .store) (now (a .due)) (now (c .before .before .before .before .before .row .result)) (pointOf (l .top))) (Stamped (a .grid) (l .store) (a .stamp)) (c .match .found))
-answers c = ⊎-elim (λ w. rw (w .4) (w .3 .ensures)) (λ w. rw (w .2) (guess-found _ _ _ (w .1 .given .1) (match-came→guess c .guess .ensures))) (c .match .came)
+    (let a = match-came→start c .args in let l = match-came→loop c .loop in
+    Finds (From (a .grid) (l .store) (now (a .due)) (now (match-came→row c .row .result)) (pointOf (l .top))) (Stamped (a .grid) (l .store) (a .stamp)) (c .match .found))
+answers c =
+    ⊎-elim (λ w. found-is _ _ (w .4) (w .3 .ensures)) (λ w. found-is _ _ (w .2) (guess-found _ _ _ (w .1 .given .1) (match-came→guess c .guess .ensures))) (c .match .came)
 
 -- What was found, and where nothing was, that the position falls off.
 looked : (c : tie.At-match-came Inv-loop μ-loop) (j : Job) → For (match-came→push c) j →
@@ -154,6 +154,6 @@ pub search-spec : {M : Type 1} → statement M
 search-spec =
     tie.close
     (tie.spec
-    Inv-loop μ-loop push-requires loop-holds shared-slice-read-if2 (λ c. search needs) returns row-requires shared-slice-read-wide (λ c κs. search needs) guess-requires (λ c. search needs)
-    find-requires (λ c. search needs) (λ c. search needs) (λ c. search needs) sub-depth sub-position position-requires loop-less loop-again loop-less-2 loop-again-2 push-requires-2
-    add-depth loop-less-3 loop-again-3 (λ c. search needs) returns-2)
+    Inv-loop μ-loop push-requires loop-holds shared-slice-read-if2 (λ c. search needs) returns row-requires shared-slice-read-wide (λ c κs. search needs) guess-requires
+    (λ c. search needs) find-requires (λ c. search needs) (λ c. search needs) (λ c. search needs) sub-depth sub-position position-requires loop-less loop-again loop-less-2
+    loop-again-2 push-requires-2 add-depth loop-less-3 loop-again-3 (λ c. search needs) returns-2)

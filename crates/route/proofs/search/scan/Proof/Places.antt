@@ -30,15 +30,6 @@ module _ {Inv : tie.InvT-loop} {μ : tie.MeasureT-loop} where
   abbrev pub enum-told→wide : tie.After-enum-told Inv μ → tie.After-wide Inv μ
   enum-told→wide c = enum-told→look c .before
 
-  abbrev pub enum-told→in-loop : tie.After-enum-told Inv μ → tie.In-loop Inv μ
-  enum-told→in-loop c = wide→in-loop (enum-told→wide c)
-
-  abbrev pub enum-told→loop : tie.After-enum-told Inv μ → tie.At-loop Inv μ
-  enum-told→loop c = wide→loop (enum-told→wide c)
-
-  abbrev pub enum-told→start : tie.After-enum-told Inv μ → tie.Start Inv μ
-  enum-told→start c = wide→start (enum-told→wide c)
-
   abbrev pub enum-told2→look : tie.After-enum-told2 Inv μ → tie.After-look Inv μ
   enum-told2→look c = c .before .before
 
