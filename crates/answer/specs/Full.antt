@@ -12,6 +12,7 @@ use Rattle.network.specs.declared.planes.Grid.{Grid}
 use Rattle.network.specs.Links.{onLink}
 use Rattle.network.specs.Holds.{Holds}
 
+-- The arrays, the table of carts and the order are the job's. The store holds a flow of it in which every call is served.
 pub record FullFlow (j : Job) (lifts deadlines : List ℕ) (calls : ℕ) (cartOn order : List ℕ) (grid : Grid) (s : List ℕ) : Type 0 where
   pub listed : Calls j lifts deadlines calls
   pub carts : CartOn j cartOn

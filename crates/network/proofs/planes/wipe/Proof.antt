@@ -30,8 +30,10 @@ module _ (g : Grid) (s t : List ℕ) (room : Roomy g s) (e : t ≡ replicate (2 
 
 returns : tie.Need-returns
 returns c =
-    let start = c .before .before .before .before .before .before in
-    wiped (start .args .grid) (now (start .args .store)) _ (start .pre) (c .before .before .clear .ensures)
+    let cleared = c .before .before in
+    let lent = cleared .before .before in
+    let start = lent .before .before in
+    wiped (start .args .grid) (now (start .args .store)) _ (start .pre) (cleared .clear .ensures)
 
 pub wipe-spec : {M : Type 1} → statement M
 wipe-spec = tie.close (tie.spec (λ c. search needs) (λ c κs. search needs) (λ c. search needs) returns)

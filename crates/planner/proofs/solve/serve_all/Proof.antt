@@ -44,7 +44,7 @@ aim-requires c κs =
     let (rows, few-cells, in-nodes) = aims b in
     let v = hint→loop c .loop .inv .3 _ b in
     let h = call-cell b (hint→in-loop c .loop-test .taken) (hint→wide c .wide .ensures .0) (hint→wide2 c .wide2 .ensures .0) (hint→wide3 c .wide3 .ensures .0) in
-    (rows, few-cells, b .tables .carts .size, in-nodes, v .holds .room, h, hint→loop c .loop .inv .1)
+    (rows, few-cells, b .tables .carts .size, v .holds .room, in-nodes, h, hint→loop c .loop .inv .1)
 
 abbrev Begins : tie.Start Inv-loop μ-loop → Job → Type 0
 Begins c j =
