@@ -114,8 +114,8 @@ const LINES: &[(&str, &str)] = &[
     ("ReadJob", "numbersSay j k none = wrong NoNumber"),
     ("ReadJob", NUMBERS_SAY),
     ("ReadJob", WHOLE_JOB),
-    ("Contracts", "withStore n (accepted j) = cond (ltb n (storeLeast j)) (refused answer.StoreTooShort 0) (accepted j)"),
-    ("Contracts", "withRoom n (accepted j) = cond (ltb n (sheetLeast j)) (refused answer.SheetTooShort 0) (accepted j)"),
+    ("Contracts", WITH_STORE),
+    ("Contracts", WITH_ROOM),
     ("Contracts", WRITTEN_PLAN),
     ("Contracts", WRITTEN_CANNOT),
     ("Contracts", "Told (refused a l) r b = (r ≡ number a + 256 * l) × (b ≡ [])"),
@@ -131,6 +131,10 @@ const NUMBERS_SAY: &str = "cond (inRange j k a b) \
     (cond (hasRoom j k) (cond (isNew j k a b) (right (add j k a b)) (wrong Doubled)) (wrong TooMany)) (wrong OutOfRange)";
 const WHOLE_JOB: &str = "wholeJob j n = cond (eqb (j .cells) 0) (refused BadLine n) \
     (cond (eqb (length (j .carts)) (length (j .calls))) (accepted j) (refused Uneven 0))";
+const WITH_STORE: &str = "withStore n (accepted j) = \
+    cond (ltb n (storeLeast j)) (refused answer.StoreTooShort 0) (accepted j)";
+const WITH_ROOM: &str = "withRoom n (accepted j) = \
+    cond (ltb n (sheetLeast j)) (refused answer.SheetTooShort 0) (accepted j)";
 const WRITTEN_PLAN: &str = "((ps : List Path) × RightPlan j ps × (b ≡ planText ps) × \
     (r ≡ number answer.Plan + 256 * length b))";
 const WRITTEN_CANNOT: &str = "⊎ ((xs : List Point) × RightChokes j xs × (b ≡ cannotText xs) × \
