@@ -23,7 +23,7 @@ use Rattle.job.specs.declared.read.Verdict.the-variants.{Accepted, Refused}
 use Rattle.job.specs.declared.read.Reading.{Reading}
 use Rattle.job.specs.Arrays.{jobOf}
 use Rattle.job.specs.Reading.{verdictOf, Read}
-use Rattle.sheet.specs.declared.form.Form as form
+use Rattle.sheet.specs.declared.Form as form
 use Rattle.sheet.specs.Form.{formOf}
 use Rattle.cartfloor.specs.Admitted.{Admitted}
 use Rattle.cartfloor.specs.Written.{Written}
@@ -123,9 +123,9 @@ module _ (text store sheet : List ℕ) (r : ℕ) where
   }
 
 -- What the sheet is read as, by the variant that its reader answers.
-module _ (j : Job) (first second rows sheet : List ℕ) (f g : form.Form) (e : f ≡ g) (q : formOf j f first second rows ≡ readSheet j sheet) where
-  pub read-as : readSheet j sheet ≡ formOf j g first second rows
-  read-as = sym q ∙ ap (λ x. formOf j x first second rows) e
+module _ (j : Job) (first second lasts rows sheet : List ℕ) (f g : form.Form) (e : f ≡ g) (q : formOf j f first second lasts rows ≡ readSheet j sheet) where
+  pub read-as : readSheet j sheet ≡ formOf j g first second lasts rows
+  read-as = sym q ∙ ap (λ x. formOf j x first second lasts rows) e
 
-  pub judged-as : (r : ℕ) → Judged j (formOf j g first second rows) r → Judged j (readSheet j sheet) r
+  pub judged-as : (r : ℕ) → Judged j (formOf j g first second lasts rows) r → Judged j (readSheet j sheet) r
   judged-as r h = subst (λ s. Judged j s r) (sym read-as) h

@@ -7,7 +7,7 @@ use model::answer::Answer;
 use model::answer::number;
 use model::answer::packed;
 use model::bytes::clear;
-use sheet::form::Form;
+use sheet::Form;
 ghost use mathlib.Core.Path.{_≡_};
 ghost use Rattle.model.specs.Ready.{Ready};
 ghost use Rattle.model.specs.ReadSheet.{readSheet};
@@ -21,14 +21,15 @@ fn judge_sheet(job: Job, sheet: &[u8]) -> u64
 {
     let mut first = [0u8; Limits::CALLS];
     let mut second = [0u8; Limits::CALLS];
+    let mut lasts = [0u8; Limits::CALLS];
     let mut rows = [0u8; Limits::CALLS * Limits::STEPS];
-    let form = sheet::form::read_sheet(job, sheet, &mut first, &mut second, &mut rows);
+    let form = sheet::read_sheet(job, sheet, &mut first, &mut second, &mut lasts, &mut rows);
     match form {
         Form::Bad { line } => {
             return packed(Answer::BadSheet, line as u64);
         }
         Form::Plan => {
-            if planjudge::plan::is_plan(job, &first, &second, &rows) {
+            if planjudge::plan::is_plan(job, &first, &second, &lasts, &rows) {
                 return packed(Answer::Plan, 0);
             }
             return packed(Answer::WrongSheet, 0);

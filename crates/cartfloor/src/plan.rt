@@ -8,7 +8,7 @@ use model::answer::Answer;
 use model::answer::packed;
 use model::bytes::clear;
 use planner::solve;
-use planner::solve::Outcome;
+use planner::solve::Solution;
 ghost use mathlib.Core.Path.{_≡_};
 ghost use Prim.Native.Nat.{_≤_};
 ghost use lib.ListN.{length};
@@ -25,14 +25,15 @@ fn plan_job(job: Job, store: &mut [u8], sheet: &mut [u8]) -> u64
 {
     let mut first = [0u8; Limits::CALLS];
     let mut second = [0u8; Limits::CALLS];
+    let mut lasts = [0u8; Limits::CALLS];
     let mut rows = [0u8; Limits::CALLS * Limits::STEPS];
-    let outcome = solve::solve(job, store, &mut first, &mut second, &mut rows);
-    match outcome {
-        Outcome::Plan => {
-            let n = sheetwriter::put_plan(job, &first, &second, &rows, sheet);
+    let solution = solve::solve(job, store, &mut first, &mut second, &mut lasts, &mut rows);
+    match solution {
+        Solution::Plan => {
+            let n = sheetwriter::put_plan(job, &first, &second, &lasts, &rows, sheet);
             return packed(Answer::Plan, n as u64);
         }
-        Outcome::Cannot { points } => {
+        Solution::Cannot { points } => {
             let n = sheetwriter::put_cannot(job, &first, &second, points, sheet);
             return packed(Answer::Cannot, n as u64);
         }

@@ -6,6 +6,7 @@ use mathlib.Core.List.{List}
 use mathlib.Core.Logic.{inl, inr}
 use native.Mathlib.Omega.{arith}
 use denote.Ref.{now}
+use lib.ListN.{length}
 use Rattle.model.specs.Limits.{maxCalls}
 use Rattle.model.specs.Job.{Job}
 use Rattle.model.specs.Choke.{point}
@@ -13,11 +14,11 @@ use Rattle.model.specs.ReadSheet.{readSheet}
 use Rattle.model.specs.Contracts.{Judged}
 use Rattle.model.proofs.Read.{plan-back, cannot-back}
 use Rattle.job.specs.Arrays.{jobOf}
-use Rattle.job.specs.Held.{pathsOf, pointsOf}
+use Rattle.job.specs.Held.{pathsTo, pointsOf}
 use Rattle.job.proofs.Arrays.{long, whole, calls-count}
 use Rattle.job.proofs.Pairs.{pairs-count}
-use Rattle.sheet.specs.declared.form.Form.{Form}
-use Rattle.sheet.specs.declared.form.Form.the-variants.{Bad, Plan, Cannot}
+use Rattle.sheet.specs.declared.Form.{Form}
+use Rattle.sheet.specs.declared.Form.the-variants.{Bad, Plan, Cannot}
 use Rattle.sheet.specs.Form.{formOf, LineFits}
 use Rattle.cartfloor.proofs.Verdicts.{read-as, judged-as}
 use borrow.Author.Needs.{needs}
@@ -26,7 +27,7 @@ use Rattle.cartfloor.proofs.check.judge_sheet.Tie as tie
 mod Places
 use Places.*
 
--- What is read: two lists, the rows, and what they are as a sheet.
+-- What is read: three lists, the rows, and what they are as a sheet.
 module _ (c : tie.After-read-sheet) where
   abbrev j : Job
   j = jobOf (read-sheet→start c .args .job)
@@ -37,15 +38,18 @@ module _ (c : tie.After-read-sheet) where
   abbrev second : List ℕ
   second = c .read-sheet .last .1 .1 .1 .0
 
+  abbrev lasts : List ℕ
+  lasts = c .read-sheet .last .1 .1 .1 .1 .0
+
   abbrev rows : List ℕ
-  rows = c .read-sheet .last .1 .1 .1 .1 .0
+  rows = c .read-sheet .last .1 .1 .1 .1 .1 .0
 
   module _ (f : Form) (e : c .read-sheet .result ≡ f) where
-    said : readSheet j (now (read-sheet→start c .args .sheet)) ≡ formOf j f first second rows
-    said = read-as j first second rows (now (read-sheet→start c .args .sheet)) (c .read-sheet .result) f e (c .read-sheet .ensures .0)
+    said : readSheet j (now (read-sheet→start c .args .sheet)) ≡ formOf j f first second lasts rows
+    said = read-as j first second lasts rows (now (read-sheet→start c .args .sheet)) (c .read-sheet .result) f e (c .read-sheet .ensures .0)
 
-    judged : (r : ℕ) → Judged j (formOf j f first second rows) r → Judged j (readSheet j (now (read-sheet→start c .args .sheet))) r
-    judged = judged-as j first second rows (now (read-sheet→start c .args .sheet)) (c .read-sheet .result) f e (c .read-sheet .ensures .0)
+    judged : (r : ℕ) → Judged j (formOf j f first second lasts rows) r → Judged j (readSheet j (now (read-sheet→start c .args .sheet))) r
+    judged = judged-as j first second lasts rows (now (read-sheet→start c .args .sheet)) (c .read-sheet .result) f e (c .read-sheet .ensures .0)
 
     fits : LineFits f
     fits = subst LineFits e (c .read-sheet .ensures .2)
@@ -62,7 +66,7 @@ returns c = let (f, e) = packed→form c .form .given in judged (packed→read-s
 is-plan-requires : tie.Need-is-plan-requires
 is-plan-requires c κs =
     let m = rows3→read-sheet c in
-    let back = plan-back (j m) (now (rows3→start c .args .sheet)) (pathsOf (j m) (first m) (second m) (rows m)) (said m Plan (rows3→enum-told c .enum-told .given .1)) in
+    let back = plan-back (j m) (now (rows3→start c .args .sheet)) (pathsTo (first m) (second m) (lasts m) (rows m) (length (j m .calls))) (said m Plan (rows3→enum-told c .enum-told .given .1)) in
     (rows3→start c .pre .0, rows3→start c .pre .1, m .read-sheet .ensures .1, back .2)
 
 returns-2 : tie.Need-returns-2
@@ -97,6 +101,6 @@ pub judge-sheet-spec : {M : Type 1} → statement M
 judge-sheet-spec =
     tie.close
     (tie.spec
-    (λ c. search needs) (λ c. search needs) (λ c. search needs) (λ c κs. search needs) (λ c. search needs) packed-requires returns (λ c. search needs) (λ c. search needs)
-    (λ c. search needs) (λ c. search needs) is-plan-requires (λ c κs. search needs) returns-2 (λ c κs. search needs) returns-3 (λ c. search needs) (λ c. search needs)
-    (λ c. search needs) is-choke-list-requires (λ c κs. search needs) returns-4 (λ c κs. search needs) returns-5)
+    (λ c. search needs) (λ c. search needs) (λ c. search needs) (λ c. search needs) (λ c κs. search needs) (λ c. search needs) packed-requires returns (λ c. search needs)
+    (λ c. search needs) (λ c. search needs) (λ c. search needs) (λ c. search needs) is-plan-requires (λ c κs. search needs) returns-2 (λ c κs. search needs) returns-3
+    (λ c. search needs) (λ c. search needs) (λ c. search needs) is-choke-list-requires (λ c κs. search needs) returns-4 (λ c κs. search needs) returns-5)

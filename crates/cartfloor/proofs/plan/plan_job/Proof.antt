@@ -1,5 +1,6 @@
 -- `plan::plan_job` meets its contract: what is solved can be written, and what is written is the answer. Its text is short, so the packed number fits.
 -- Assumes nothing.
+use Rattle.model.specs.ReadJob.{right}
 use Prim.Native.Nat.{ℕ}
 use mathlib.Core.List.{List}
 use mathlib.Core.Path.{_≡_, subst}
@@ -11,10 +12,10 @@ use Rattle.model.specs.Plan.{Path}
 use Rattle.model.specs.Choke.{Point}
 use Rattle.model.proofs.Floor.{path-known}
 use Rattle.job.specs.Arrays.{jobOf}
-use Rattle.job.specs.Held.{pathsOf, pointsOf}
+use Rattle.job.specs.Held.{pathsTo, pointsOf}
 use Rattle.job.proofs.Arrays.{long, whole, calls-count}
-use Rattle.planner.specs.declared.solve.Outcome.{Outcome}
-use Rattle.planner.specs.declared.solve.Outcome.the-variants.{Plan, Cannot}
+use Rattle.planner.specs.declared.solve.Solution.{Solution}
+use Rattle.planner.specs.declared.solve.Solution.the-variants.{Plan, Cannot}
 use Rattle.planner.specs.Solved.{Solved}
 use Rattle.cartfloor.proofs.Sheets.{plan-short, chokes-short, points-few, plan-written, chokes-written}
 use borrow.Author.Needs.{needs}
@@ -27,14 +28,26 @@ use Places.*
 abbrev job : tie.After-solve → Job
 job c = jobOf (solve→start c .args .job)
 
+abbrev first : tie.After-solve → List ℕ
+first c = c .solve .last .1 .1 .0
+
+abbrev second : tie.After-solve → List ℕ
+second c = c .solve .last .1 .1 .1 .0
+
+abbrev lasts : tie.After-solve → List ℕ
+lasts c = c .solve .last .1 .1 .1 .1 .0
+
+abbrev rows : tie.After-solve → List ℕ
+rows c = c .solve .last .1 .1 .1 .1 .1 .0
+
 abbrev paths : tie.After-solve → List Path
-paths c = pathsOf (job c) (c .solve .last .1 .1 .0) (c .solve .last .1 .1 .1 .0) (c .solve .last .1 .1 .1 .1 .0)
+paths c = pathsTo (first c) (second c) (lasts c) (rows c) (length (job c .calls))
 
 abbrev points : tie.After-solve → ℕ → List Point
-points c n = pointsOf (c .solve .last .1 .1 .0) (c .solve .last .1 .1 .1 .0) n
+points c n = pointsOf (first c) (second c) n
 
-solved : (c : tie.After-solve) (o : Outcome) → c .solve .result ≡ o → Solved (job c) o (c .solve .last .1 .1 .0) (c .solve .last .1 .1 .1 .0) (c .solve .last .1 .1 .1 .1 .0)
-solved c o e = subst (λ x. Solved (job c) x (c .solve .last .1 .1 .0) (c .solve .last .1 .1 .1 .0) (c .solve .last .1 .1 .1 .1 .0)) e (c .solve .ensures .2)
+solved : (c : tie.After-solve) (o : Solution) → c .solve .result ≡ o → Solved (job c) o (first c) (second c) (lasts c) (rows c)
+solved c o e = subst (λ x. Solved (job c) x (first c) (second c) (lasts c) (rows c)) e (c .solve .ensures .2)
 
 put-plan-requires : tie.Need-put-plan-requires
 put-plan-requires c κs =
@@ -58,22 +71,22 @@ put-cannot-requires : tie.Need-put-cannot-requires
 put-cannot-requires c κs =
     let s = put-cannot-arg→start c in
     let r = put-cannot-arg→solve c .solve in
-    let (f, e) = put-cannot-arg→outcome c .outcome .given in
+    let (f, e) = put-cannot-arg→solution c .solution .given in
     let right = solved (put-cannot-arg→solve c) (Cannot (f .0)) e in
     let calls = calls-count (s .args .job) (whole (s .args .job) (s .pre .1) (long (s .args .job) (s .good .0 .0) (s .good .0 .1 .1))) in
-    let few = points-few (r .last .1 .1 .0) (r .last .1 .1 .1 .0) (f .0) (length (job (put-cannot-arg→solve c) .calls)) (r .ensures .1 .firsts) (r .ensures .1 .seconds) (s .pre .0 .fit .few-calls)
+    let few = points-few (first (put-cannot-arg→solve c)) (second (put-cannot-arg→solve c)) (f .0) (length (job (put-cannot-arg→solve c) .calls)) (r .ensures .1 .firsts) (r .ensures .1 .seconds) (s .pre .0 .fit .few-calls)
     (right .0 .few) in
     (s .pre .0, s .pre .1, r .ensures .1 .firsts, r .ensures .1 .seconds, omega (arith, few, calls), s .pre .3)
 
 packed-requires-2 : tie.Need-packed-requires-2
 packed-requires-2 c κs =
-    let (f, e) = slice-known5→outcome c .outcome .given in
+    let (f, e) = slice-known5→solution c .solution .given in
     let right = solved (slice-known5→solve c) (Cannot (f .0)) e in
     omega (arith, slice-known5→put-cannot c .put-cannot .ensures .next, chokes-short (job (slice-known5→solve c)) (slice-known5→start c .pre .0 .fit) (points (slice-known5→solve c) (f .0)) (right .0))
 
 returns-2 : tie.Need-returns-2
 returns-2 c =
-    let (f, e) = packed2→outcome c .outcome .given in
+    let (f, e) = packed2→solution c .solution .given in
     let right = solved (packed2→solve c) (Cannot (f .0)) e in (
       packed2→solve c .solve .ensures .0,
       chokes-written (job (packed2→solve c)) (now (packed2→start c .args .sheet)) _ _ _ (c .packed2 .ensures) (points (packed2→solve c) (f .0)) right (packed2→put-cannot c .put-cannot .ensures),
@@ -83,6 +96,6 @@ pub plan-job-spec : {M : Type 1} → statement M
 plan-job-spec =
     tie.close
     (tie.spec
-    (λ c. search needs) (λ c. search needs) (λ c. search needs) (λ c κs. search needs) (λ c. search needs) (λ c. search needs) (λ c. search needs) (λ c. search needs)
-    put-plan-requires packed-requires (λ c. search needs) (λ c. search needs) returns (λ c. search needs) (λ c. search needs) (λ c. search needs) put-cannot-requires
-    packed-requires-2 (λ c. search needs) (λ c. search needs) returns-2)
+    (λ c. search needs) (λ c. search needs) (λ c. search needs) (λ c. search needs) (λ c κs. search needs) (λ c. search needs) (λ c. search needs) (λ c. search needs)
+    (λ c. search needs) (λ c. search needs) put-plan-requires packed-requires (λ c. search needs) (λ c. search needs) returns (λ c. search needs) (λ c. search needs)
+    (λ c. search needs) put-cannot-requires packed-requires-2 (λ c. search needs) (λ c. search needs) returns-2)

@@ -78,7 +78,6 @@ pub entry-of-spec : {M : Type 1} → statement M
 entry-of-spec =
     tie.close
     (tie.spec
-    (λ c. search needs) (λ c κs. search needs) floor-long floor-long (λ c. search needs) (λ c κs. search needs) returns (λ c. search needs) (λ c κs. search needs)
-    track-long track-long (λ c. search needs) (λ c κs. search needs) returns-2 (λ c. search needs) (λ c κs. search needs) cart-long
-    cart-long (λ c. search needs) (λ c κs. search needs) returns-3 (λ c. search needs) (λ c κs. search needs) call-long call-long
-    (λ c. search needs) (λ c κs. search needs) returns-4 returns-5)
+    (λ c. search needs) (λ c κs. search needs) floor-long floor-long (λ c. search needs) (λ c κs. search needs) returns (λ c. search needs) (λ c κs. search needs) track-long
+    track-long (λ c. search needs) (λ c κs. search needs) returns-2 (λ c. search needs) (λ c κs. search needs) cart-long cart-long (λ c. search needs) (λ c κs. search needs)
+    returns-3 (λ c. search needs) (λ c κs. search needs) call-long call-long (λ c. search needs) (λ c κs. search needs) returns-4 returns-5)

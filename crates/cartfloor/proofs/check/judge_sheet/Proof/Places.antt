@@ -1,25 +1,27 @@
 -- The earlier places that the proof of `judge_sheet` names: `x→y c` is what is known at y, seen from the place x.
 -- Made of the code by proof-names, which reads the lists below when the code has changed.
 -- All places in the code's order, each behind the one in front of it; where it is behind another, `X<Y` names that:
--- Start After-shared-slice-known After-first After-second After-rows After-read-sheet After-first2 After-second2 After-rows2 At-match-keys1 After-form After-known-told
--- After-packed At-match-keys2<After-rows2 After-enum-told After-first3 After-second3 After-rows3 After-is-plan Then1 After-packed2 Else1<After-is-plan After-packed3
--- At-match-keys3<After-rows2 After-form2 After-known-told2 After-first4 After-second4 After-is-choke-list Then2 After-packed4 Else2<After-is-choke-list After-packed5
+-- Start After-shared-slice-known After-first After-second After-lasts After-rows After-read-sheet After-first2 After-second2 After-lasts2 After-rows2 At-match-keys1 After-form
+-- After-known-told After-packed At-match-keys2<After-rows2 After-enum-told After-first3 After-second3 After-lasts3 After-rows3 After-is-plan Then1 After-packed2
+-- Else1<After-is-plan After-packed3 At-match-keys3<After-rows2 After-form2 After-known-told2 After-first4 After-second4 After-is-choke-list Then2 After-packed4
+-- Else2<After-is-choke-list After-packed5
 -- The needs, each with its place:
--- slice-aggregate-read-sheet@After-first slice-aggregate-read-sheet-2@After-second slice-aggregate-read-sheet-3@After-rows read-sheet-requires@After-rows
--- enum-known-form@At-match-keys1 packed-requires@After-known-told returns@After-packed enum-told@At-match-keys2 slice-aggregate-is-plan@After-first3
--- slice-aggregate-is-plan-2@After-second3 slice-aggregate-is-plan-3@After-rows3 is-plan-requires@After-rows3 packed-requires-2@Then1 returns-2@After-packed2
--- packed-requires-3@Else1 returns-3@After-packed3 enum-known-form-2@At-match-keys3 slice-aggregate-is-choke-list@After-first4 slice-aggregate-is-choke-list-2@After-second4
--- is-choke-list-requires@After-second4 packed-requires-4@Then2 returns-4@After-packed4 packed-requires-5@Else2 returns-5@After-packed5
+-- slice-aggregate-read-sheet@After-first slice-aggregate-read-sheet-2@After-second slice-aggregate-read-sheet-3@After-lasts slice-aggregate-read-sheet-4@After-rows
+-- read-sheet-requires@After-rows enum-known-form@At-match-keys1 packed-requires@After-known-told returns@After-packed enum-told@At-match-keys2 slice-aggregate-is-plan@After-first3
+-- slice-aggregate-is-plan-2@After-second3 slice-aggregate-is-plan-3@After-lasts3 slice-aggregate-is-plan-4@After-rows3 is-plan-requires@After-rows3 packed-requires-2@Then1
+-- returns-2@After-packed2 packed-requires-3@Else1 returns-3@After-packed3 enum-known-form-2@At-match-keys3 slice-aggregate-is-choke-list@After-first4
+-- slice-aggregate-is-choke-list-2@After-second4 is-choke-list-requires@After-second4 packed-requires-4@Then2 returns-4@After-packed4 packed-requires-5@Else2
+-- returns-5@After-packed5
 use Rattle.cartfloor.proofs.check.judge_sheet.Tie as tie
 
 abbrev pub read-sheet→start : tie.After-read-sheet → tie.Start
-read-sheet→start c = c .before .before .before .before .before
+read-sheet→start c = c .before .before .before .before .before .before
 
 abbrev pub known-told→form : tie.After-known-told → tie.After-form
 known-told→form c = c .before
 
 abbrev pub known-told→read-sheet : tie.After-known-told → tie.After-read-sheet
-known-told→read-sheet c = known-told→form c .before .before .before .before .before
+known-told→read-sheet c = known-told→form c .before .before .before .before .before .before
 
 abbrev pub packed→form : tie.After-packed → tie.After-form
 packed→form c = known-told→form (c .before)
@@ -28,10 +30,10 @@ abbrev pub packed→read-sheet : tie.After-packed → tie.After-read-sheet
 packed→read-sheet c = known-told→read-sheet (c .before)
 
 abbrev pub rows3→enum-told : tie.After-rows3 → tie.After-enum-told
-rows3→enum-told c = c .before .before .before
+rows3→enum-told c = c .before .before .before .before
 
 abbrev pub rows3→read-sheet : tie.After-rows3 → tie.After-read-sheet
-rows3→read-sheet c = rows3→enum-told c .before .before .before .before .before
+rows3→read-sheet c = rows3→enum-told c .before .before .before .before .before .before
 
 abbrev pub rows3→start : tie.After-rows3 → tie.Start
 rows3→start c = read-sheet→start (rows3→read-sheet c)
@@ -64,7 +66,7 @@ abbrev pub second4→form2 : tie.After-second4 → tie.After-form2
 second4→form2 c = c .before .before .before
 
 abbrev pub second4→read-sheet : tie.After-second4 → tie.After-read-sheet
-second4→read-sheet c = second4→form2 c .before .before .before .before .before
+second4→read-sheet c = second4→form2 c .before .before .before .before .before .before
 
 abbrev pub second4→start : tie.After-second4 → tie.Start
 second4→start c = read-sheet→start (second4→read-sheet c)
