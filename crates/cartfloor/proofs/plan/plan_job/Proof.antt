@@ -70,13 +70,13 @@ returns c =
 put-cannot-requires : tie.Need-put-cannot-requires
 put-cannot-requires c κs =
     let s = put-cannot-arg→start c in
-    let r = put-cannot-arg→solve c .solve in
+    let m = put-cannot-arg→solve c in
     let (f, e) = put-cannot-arg→solution c .solution .given in
-    let right = solved (put-cannot-arg→solve c) (Cannot (f .0)) e in
+    let right = solved m (Cannot (f .0)) e in
+    let room = m .solve .ensures .1 in
     let calls = calls-count (s .args .job) (whole (s .args .job) (s .pre .1) (long (s .args .job) (s .good .0 .0) (s .good .0 .1 .1))) in
-    let few = points-few (first (put-cannot-arg→solve c)) (second (put-cannot-arg→solve c)) (f .0) (length (job (put-cannot-arg→solve c) .calls)) (r .ensures .1 .firsts) (r .ensures .1 .seconds) (s .pre .0 .fit .few-calls)
-    (right .0 .few) in
-    (s .pre .0, s .pre .1, r .ensures .1 .firsts, r .ensures .1 .seconds, omega (arith, few, calls), s .pre .3)
+    let few = points-few (first m) (second m) (f .0) (length (job m .calls)) (room .firsts) (room .seconds) (s .pre .0 .fit .few-calls) (right .0 .few) in
+    (s .pre .0, s .pre .1, room .firsts, room .seconds, omega (arith, few, calls), s .pre .3)
 
 packed-requires-2 : tie.Need-packed-requires-2
 packed-requires-2 c κs =
