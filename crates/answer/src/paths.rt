@@ -12,15 +12,15 @@ ghost use lib.ListN.{length};
 ghost use Rattle.model.specs.Job as model;
 ghost use Rattle.model.specs.Contracts.{RightPlan};
 ghost use Rattle.job.specs.Held.{Room, pathsTo};
-ghost use Rattle.network.specs.Store.{pointOf};
+ghost use Rattle.network.specs.Store.{asPoint};
 ghost use Rattle.network.specs.Holds.{Holds};
 ghost use Rattle.answer.specs.Full.{FullFlow};
 ghost use Rattle.answer.specs.Trail.{HasCart, CameFrom, Trail};
 
 // The cell that the cart on the node, at a step after 0, came from. Two carts that would trade places both stand instead.
 fn came_from(store: &[u8], grid: Grid, node: Node) -> usize
-    requires { ⌜ ((j : model.Job) × Holds j grid (now store) × HasCart j (now store) (pointOf node)) × (0 < node .step) ⌝ }
-    ensures { λ r. ⌜ ((j : model.Job) → Holds j grid (now (store .entry)) → HasCart j (now (store .entry)) (pointOf node) → CameFrom j (now (store .entry)) (pointOf node) r) ⌝ }
+    requires { ⌜ ((j : model.Job) × Holds j grid (now store) × HasCart j (now store) (asPoint node)) × (0 < node .step) ⌝ }
+    ensures { λ r. ⌜ ((j : model.Job) → Holds j grid (now (store .entry)) → HasCart j (now (store .entry)) (asPoint node) → CameFrom j (now (store .entry)) (asPoint node) r) ⌝ }
 {
     let cell = node.cell;
     let step = node.step;
@@ -37,8 +37,8 @@ fn came_from(store: &[u8], grid: Grid, node: Node) -> usize
 
 // Follows the cart on the node back to step 0. Its cells go into the row, and the first of them is the answer.
 fn follow(store: &[u8], grid: Grid, row: &mut [u8], node: Node) -> usize
-    requires { ⌜ ((j : model.Job) × Holds j grid (now store) × HasCart j (now store) (pointOf node)) × (node .step < length (now row)) ⌝ }
-    ensures { λ r. ⌜ ((j : model.Job) → Holds j grid (now (store .entry)) → HasCart j (now (store .entry)) (pointOf node) → Trail j (now (store .entry)) (pointOf node) (now (row .entry)) (now (row .exit)) r) ⌝ }
+    requires { ⌜ ((j : model.Job) × Holds j grid (now store) × HasCart j (now store) (asPoint node)) × (node .step < length (now row)) ⌝ }
+    ensures { λ r. ⌜ ((j : model.Job) → Holds j grid (now (store .entry)) → HasCart j (now (store .entry)) (asPoint node) → Trail j (now (store .entry)) (asPoint node) (now (row .entry)) (now (row .exit)) r) ⌝ }
 {
     let cell = node.cell;
     let step = node.step;

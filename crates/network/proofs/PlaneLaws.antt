@@ -4,7 +4,7 @@ use mathlib.Core.Path.{_≡_, _∙_}
 use mathlib.Core.List.{List}
 use native.Mathlib.Omega.{arith}
 use lib.ListN.{length, set, length-set}
-use Rattle.network.specs.Store.{spot, at, markAt, usedAt, nextAt, prevAt, cellAt, stepAt, viaAt, withMark, withUsed, withNext, withPrev, withEntry, Roomy}
+use Rattle.network.specs.Store.{spot, at, markAt, usedAt, nextAt, prevAt, cellAt, stepAt, viaAt, withMark, withUsed, withNext, withPrev, withEntry, Spacious}
 use Rattle.network.specs.Holds.{SameFlow}
 use Rattle.network.specs.declared.planes.Grid.{Grid}
 use Rattle.network.proofs.StoreBytes.{at-same, at-other, row-below}
@@ -63,7 +63,7 @@ module _ (g : Grid) (s : List ℕ) (q v b : ℕ) (l : v < g .nodes) where
   kept : (p : ℕ) → (p ≡ q → ⊥) → Same (g .nodes) (at g s p) (at g (set s (spot g q v) b) p)
   kept p n w m = at-other g s q v b p w l m (λ e _. n e)
 
-module _ (g : Grid) (s : List ℕ) (h : Roomy g s) where
+module _ (g : Grid) (s : List ℕ) (h : Spacious g s) where
   module _ (v stamp d c t x : ℕ) (hv : v < g .nodes) (hd : d < g .nodes) where
     abbrev m₁ : List ℕ
     m₁ = withMark g s v stamp

@@ -6,13 +6,13 @@ use lib.ListN.{length}
 use Rattle.model.specs.Job.{Job}
 use Rattle.model.specs.Ready.{Ready}
 use Rattle.network.specs.declared.planes.Grid.{Grid}
-use Rattle.network.specs.Store.{gridOf, Roomy, usedAt, nextAt, prevAt}
+use Rattle.network.specs.Store.{gridOf, Spacious, usedAt, nextAt, prevAt}
 use Rattle.network.specs.Links.{FlowIn}
 
 pub record Holds (j : Job) (g : Grid) (s : List ℕ) : Type 0 where
   pub ready : Ready j
   pub grid : g ≡ gridOf j
-  pub room : Roomy g s
+  pub room : Spacious g s
   pub flow : FlowIn j s
 
 -- The planes of the flow are the same: used, on and back.

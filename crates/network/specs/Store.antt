@@ -21,14 +21,14 @@ abbrev pub gridOf : Job → Grid
 gridOf j = record { cells = j .cells; nodes = nodes j }
 
 -- where the node of a cell at a step stands in each plane
-abbrev pub placeOf : Grid → ℕ → ℕ → ℕ
-placeOf g c t = t * g .cells + c
+abbrev pub placeIn : Grid → ℕ → ℕ → ℕ
+placeIn g c t = t * g .cells + c
 
-abbrev pub pointOf : Node → Point
-pointOf v = point (v .cell) (v .step)
+abbrev pub asPoint : Node → Point
+asPoint v = point (v .cell) (v .step)
 
 abbrev pub placeAt : Grid → Point → ℕ
-placeAt g x = placeOf g (x .cell) (x .step)
+placeAt g x = placeIn g (x .cell) (x .step)
 
 abbrev pub idx : Job → Point → ℕ
 idx j x = placeAt (gridOf j) x
@@ -77,12 +77,12 @@ abbrev pub withEntry : Grid → List ℕ → ℕ → ℕ → ℕ → ℕ → Lis
 withEntry g s i c t x = set (set (set s (spot g 4 i) c) (spot g 5 i) t) (spot g 6 i) x
 
 -- There is room for eight planes.
-abbrev pub Roomy : Grid → List ℕ → Type 0
-Roomy g s = 8 * g .nodes ≤ length s
+abbrev pub Spacious : Grid → List ℕ → Type 0
+Spacious g s = 8 * g .nodes ≤ length s
 
 -- and v is a place of a plane
 abbrev pub Within : Grid → List ℕ → ℕ → Type 0
-Within g s v = Roomy g s × (v < g .nodes)
+Within g s v = Spacious g s × (v < g .nodes)
 
 abbrev pub isUsed : Job → List ℕ → Point → Bool
 isUsed j s x = knownPoint j x && not (eqb (usedAt (gridOf j) s (idx j x)) 0)

@@ -4,7 +4,7 @@ use model::bytes::wide;
 ghost use mathlib.Core.Path.{_≡_};
 ghost use Prim.Native.Nat.{_<_};
 ghost use lib.ListN.{length};
-ghost use Rattle.network.specs.Store.{placeOf, Roomy, Within, Blank, usedAt, markAt, nextAt, prevAt, cellAt, stepAt, viaAt, withUsed, withMark, withNext, withPrev, withEntry};
+ghost use Rattle.network.specs.Store.{placeIn, Spacious, Within, Blank, usedAt, markAt, nextAt, prevAt, cellAt, stepAt, viaAt, withUsed, withMark, withNext, withPrev, withEntry};
 
 // The planes. The bytes of a node: whether it is used, the stamp of a search, the cells before and behind it; of the stack: cell, step, and by way of which cell.
 const USED: usize = 0;
@@ -35,8 +35,8 @@ pub struct Node {
 
 // Where the bytes of a node stand in each plane.
 pub fn place(grid: Grid, node: Node) -> usize
-    requires { ⌜ placeOf grid (node .cell) (node .step) < grid .nodes ⌝ }
-    ensures { λ r. ⌜ r ≡ placeOf grid (node .cell) (node .step) ⌝ }
+    requires { ⌜ placeIn grid (node .cell) (node .step) < grid .nodes ⌝ }
+    ensures { λ r. ⌜ r ≡ placeIn grid (node .cell) (node .step) ⌝ }
 {
     node.step * grid.cells + node.cell
 }
@@ -130,7 +130,7 @@ pub fn set_position(store: &mut [u8], grid: Grid, i: usize, node: Node, via: usi
 
 // No node is used or marked then: the first two planes are cleared.
 pub fn wipe(store: &mut [u8], grid: Grid)
-    requires { ⌜ Roomy grid (now store) ⌝ }
+    requires { ⌜ Spacious grid (now store) ⌝ }
     ensures { λ _. ⌜ Blank grid (now (store .exit)) × (length (now (store .exit)) ≡ length (now (store .entry))) ⌝ }
 {
     clear(store, NEXT * grid.nodes);

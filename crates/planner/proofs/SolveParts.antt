@@ -15,7 +15,7 @@ use Rattle.floor.specs.Tables.{Tables}
 use Rattle.floor.specs.Order.{Sorted}
 use Rattle.floor.proofs.JobTables.{calls-of, order-of}
 use Rattle.network.specs.declared.planes.Grid.{Grid}
-use Rattle.network.specs.Store.{gridOf, Roomy, Blank}
+use Rattle.network.specs.Store.{gridOf, Spacious, Blank}
 use Rattle.route.specs.declared.serve.Served.{Served}
 use Rattle.route.specs.declared.serve.Served.the-variants.{Yes, No}
 use Rattle.answer.specs.Cut.{Failed}
@@ -29,7 +29,7 @@ gridTo j last = record { cells = j .cells; nodes = (last + 1) * j .cells }
 pub grid-is : (j : Job) {last : ℕ} → last ≡ horizon j → gridTo j last ≡ gridOf j
 grid-is j e = ap (gridTo j) e
 
-pub roomy : (j : Job) (s : List ℕ) {g : Grid} → g ≡ gridOf j → storeLeast j ≤ length s → Roomy g s
+pub roomy : (j : Job) (s : List ℕ) {g : Grid} → g ≡ gridOf j → storeLeast j ≤ length s → Spacious g s
 roomy j s e room =
     let less : j .cells ≤ j .cells + 2 * length (j .tracks) = omega arith in
     rw e (omega (arith, mul-le-mul-left ((horizon j + 1) * 32) less))

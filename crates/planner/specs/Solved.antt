@@ -13,7 +13,7 @@ use Rattle.floor.specs.Tables.{CartOn, Tables}
 use Rattle.floor.specs.Order.{Calls, Order}
 use Rattle.flow.specs.Flow.{end}
 use Rattle.network.specs.declared.planes.Grid.{Grid}
-use Rattle.network.specs.Store.{gridOf, Roomy, Blank, isMarked}
+use Rattle.network.specs.Store.{gridOf, Spacious, Blank, isMarked}
 use Rattle.network.specs.Links.{backLink, onLink}
 use Rattle.network.specs.Holds.{Holds}
 use Rattle.network.specs.Stuck.{Stuck}
@@ -29,7 +29,7 @@ pub record Begun (j : Job) (lifts deadlines : List ℕ) (calls : ℕ) (near begi
   pub tables : Tables j near begin due cartOn
   pub ordered : Order j order
   pub grid : g ≡ gridOf j
-  pub room : Roomy g s
+  pub room : Spacious g s
   pub blank : Blank g s
 
 -- Every call is served, or one cannot be along with those before it: the marks with the stamp show why.

@@ -8,7 +8,7 @@ use lib.ListN.{length-set}
 use native.Mathlib.Numerals.{add-one}
 use native.Mathlib.Omega.{arith}
 use Rattle.model.specs.Choke.{Point, point}
-use Rattle.network.specs.Store.{placeAt, cellAt, stepAt, viaAt, withUsed, withMark, withNext, withPrev, Roomy}
+use Rattle.network.specs.Store.{placeAt, cellAt, stepAt, viaAt, withUsed, withMark, withNext, withPrev, Spacious}
 use Rattle.network.specs.declared.planes.Grid.{Grid}
 use Rattle.network.proofs.Points.{point-cell, point-eq}
 use Rattle.route.specs.Stack.{posAt, byWay, viaOf}
@@ -54,7 +54,7 @@ module _ {g : Grid} {s : List ℕ} {i : ℕ} {u v w : Point} (r : Read g s i u v
   pub there : placeAt g w < g .nodes
   there = rw (r .to) (r .may .there)
 
-  pub room-kept : {s₁ s₂ s₃ : List ℕ} (a b x y z : ℕ) → s₁ ≡ withNext g s a x → s₂ ≡ withPrev g s₁ b y → s₃ ≡ withUsed g s₂ a z → Roomy g s₃
+  pub room-kept : {s₁ s₂ s₃ : List ℕ} (a b x y z : ℕ) → s₁ ≡ withNext g s a x → s₂ ≡ withPrev g s₁ b y → s₃ ≡ withUsed g s₂ a z → Spacious g s₃
   room-kept a b x y z e₁ e₂ e₃ = rw (e₃, e₂, e₁) (simp length-set (r .may .room))
 
   pub all-set : {s₁ s₂ s₃ s₄ : List ℕ} {a b c d : ℕ} → a ≡ placeAt g v → s₁ ≡ withNext g s a (u .cell) → b ≡ placeAt g u → s₂ ≡ withPrev g s₁ b (v .cell)

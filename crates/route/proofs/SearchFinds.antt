@@ -12,7 +12,7 @@ use Rattle.model.specs.Choke.{Point, point, Known}
 use Rattle.model.proofs.Lists.{in-getD, in-place}
 use Rattle.network.specs.declared.planes.Grid.{Grid}
 use Rattle.network.specs.declared.planes.Node.{Node}
-use Rattle.network.specs.Store.{pointOf, placeAt, usedAt, markAt, nextAt, withMark, withEntry}
+use Rattle.network.specs.Store.{asPoint, placeAt, usedAt, markAt, nextAt, withMark, withEntry}
 use Rattle.network.proofs.Points.{point-eq}
 use Rattle.network.proofs.HoldsLaws.{leads-on}
 use Rattle.route.specs.Lay.{pushed}
@@ -21,15 +21,15 @@ use Rattle.route.specs.Finds.{Stands, Down, By, ByRow, Stamped, Finds, G
 
 module _ (P Q : Point → ℕ → Type 0) (M : Point → Type 0) (more : (y : Point) (via : ℕ) → P y via → Q y via) where
   pub found-more : (r : Found) {v : Node} {via : ℕ} → r ≡ Found.Push v via → Finds P M r → Finds Q M r
-  found-more r {v} {via} e f = let h : Finds P M (Found.Push v via) = rw e at f in rw e (more (pointOf v) via (h .0), h .1)
+  found-more r {v} {via} e f = let h : Finds P M (Found.Push v via) = rw e at f in rw e (more (asPoint v) via (h .0), h .1)
 
   pub found-rest : ((y : Point) (via : ℕ) → Q y via → P y via ⊎ M y) → (r : Found) → Finds P M r → Finds Q M r
   found-rest rest Found.Nothing f = λ y via q. ⊎-elim (f y via) (λ m. m) (rest y via q)
-  found-rest rest (Found.Push v via) f = (more (pointOf v) via (f .0), f .1)
+  found-rest rest (Found.Push v via) f = (more (asPoint v) via (f .0), f .1)
 
   pub found-guess : (r : Found) → Finds P M r → Guesses Q M r
   found-guess Found.Nothing f = tt
-  found-guess (Found.Push v via) f = (more (pointOf v) via (f .0), f .1)
+  found-guess (Found.Push v via) f = (more (asPoint v) via (f .0), f .1)
 
 pub guess-found : (P : Point → ℕ → Type 0) (M : Point → Type 0) (r : Found) {v : Node} {via : ℕ} → r ≡ Found.Push v via → Guesses P M r → Finds P M r
 guess-found P M r {v} {via} e f = let h : Guesses P M (Found.Push v via) = rw e at f in rw e h

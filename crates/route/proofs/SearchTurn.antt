@@ -16,7 +16,7 @@ use Rattle.model.proofs.Lists.{in-getD}
 use Rattle.floor.specs.Tables.{rowOf}
 use Rattle.flow.specs.Flow.{Link}
 use Rattle.network.specs.Graph.{graph}
-use Rattle.network.specs.Store.{nodes, gridOf, idx, pointOf, placeAt, cellAt, stepAt, markAt, Roomy, Within}
+use Rattle.network.specs.Store.{nodes, gridOf, idx, asPoint, placeAt, cellAt, stepAt, markAt, Spacious, Within}
 use Rattle.network.specs.Holds.{SameFlow}
 use Rattle.network.specs.declared.planes.Grid.{Grid}
 use Rattle.network.specs.declared.planes.Node.{Node}
@@ -51,7 +51,7 @@ may-search {j} {x = x} same h = record {
   idle = ap (λ (l : Point → Link Point). l x) (back-same j same) ∙ h .idle;
 }
 
-push-in : (j : Job) {g : Grid} {s t : List ℕ} {d : ℕ} {x : Point} {via stamp : ℕ} → g ≡ gridOf j → Roomy g s → Known j x → d < nodes j → t ≡ pushed g s d x via stamp
+push-in : (j : Job) {g : Grid} {s t : List ℕ} {d : ℕ} {x : Point} {via stamp : ℕ} → g ≡ gridOf j → Spacious g s → Known j x → d < nodes j → t ≡ pushed g s d x via stamp
     → PushedIn j s t d x via stamp
 push-in j {g} {s} {t} {d} {x} {via} {stamp} q r k l e =
     let e′ : t ≡ pushed (gridOf j) s d x via stamp = rw q at e in
@@ -84,7 +84,7 @@ module _ {j : Job} {near begin due cart-on hint s s₁ : List ℕ} {g : Grid} {x
     pub ends-some : (m : ℕ) → d ≡ suc m → (graph j) .Goal (posIn j t m) → Searched j s t stamp x d
     ends-some = searched-some (h .lift) (h .idle) first r
 
-pub under-way : {j : Job} {near begin due cart-on hint : List ℕ} (s : List ℕ) {s₁ : List ℕ} {g : Grid} {x : Point} (stamp : ℕ) → s₁ ≡ pushed g s 0 x 0 stamp → Roomy g s
+pub under-way : {j : Job} {near begin due cart-on hint : List ℕ} (s : List ℕ) {s₁ : List ℕ} {g : Grid} {x : Point} (stamp : ℕ) → s₁ ≡ pushed g s 0 x 0 stamp → Spacious g s
     → Searching j near begin due cart-on hint s₁ g x → Going j s₁ s₁ stamp x 1 x
 under-way {j} s {s₁} {x = x} stamp e r h =
     let p : PushedIn j s s₁ 0 x 0 stamp = push-in j (h .holds .grid) r (h .known) (omega (arith, idx-below j (h .known))) e in
@@ -120,7 +120,7 @@ module _ {j : Job} {near begin due cart-on hint : List ℕ} {g : Grid} {s₁ s :
   deep-enough l = rw (w .for .holds .grid) (omega (arith, w .going .run .room))
 
   -- What the code reads off the stack is on top.
-  pub top-at : {v : Node} → v .cell ≡ cellAt g s (d - 1 - 1) → v .step ≡ stepAt g s (d - 1 - 1) → pointOf v ≡ posIn j s (d - 1 - 1)
+  pub top-at : {v : Node} → v .cell ≡ cellAt g s (d - 1 - 1) → v .step ≡ stepAt g s (d - 1 - 1) → asPoint v ≡ posIn j s (d - 1 - 1)
   top-at {v} e f =
       let e′ : v .cell ≡ cellAt (gridOf j) s (d - 1 - 1) = rw (w .for .holds .grid) at e in
       let f′ : v .step ≡ stepAt (gridOf j) s (d - 1 - 1) = rw (w .for .holds .grid) at f in
@@ -164,12 +164,12 @@ module _ {j : Job} {near begin due cart-on hint : List ℕ} {g : Grid} {s₁ s :
           (hop-found (k .turn .going .run .holds) (k .turn .for .tables .sides) (k .turn .for .tables .dues) y (marked (k .turn) .0) u z a b)
 
   module _ (v : Node) (via : ℕ) (e : r ≡ Found.Push v via) where
-    some : From (gridOf j) s due (rowOf near begin (y .cell)) y (pointOf v) via × (Stamped (gridOf j) s stamp (pointOf v) → ⊥)
+    some : From (gridOf j) s due (rowOf near begin (y .cell)) y (asPoint v) via × (Stamped (gridOf j) s stamp (asPoint v) → ⊥)
     some = rw e at ans′
 
-    hop : HopTo j s (posIn j s (d - 1)) (byWay (posIn j s (d - 1)) (v .step) via) (pointOf v)
-    hop = at-top (k .turn) (λ z. HopTo j s z (byWay z (v .step) via) (pointOf v))
-        (found-hop (k .turn .going .run .holds) (k .turn .for .tables .sides) (k .turn .for .tables .dues) y (marked (k .turn) .0) (pointOf v) via (some .0))
+    hop : HopTo j s (posIn j s (d - 1)) (byWay (posIn j s (d - 1)) (v .step) via) (asPoint v)
+    hop = at-top (k .turn) (λ z. HopTo j s z (byWay z (v .step) via) (asPoint v))
+        (found-hop (k .turn .going .run .holds) (k .turn .for .tables .sides) (k .turn .for .tables .dues) y (marked (k .turn) .0) (asPoint v) via (some .0))
 
     via-small : via < j .cells
     via-small = ⊎-elim
@@ -177,9 +177,9 @@ module _ {j : Job} {near begin due cart-on hint : List ℕ} {g : Grid} {s₁ s :
         (λ f. omega (arith, f .0, marked (k .turn) .0 .0)) (some .0)
 
     deep : d < nodes j
-    deep = omega (arith, k .turn .going .run .room, unmarked-some stamp (markAt (gridOf j) s) (nodes j) (idx j (pointOf v)) (idx-below j (hop .known)) (some .1))
+    deep = omega (arith, k .turn .going .run .room, unmarked-some stamp (markAt (gridOf j) s) (nodes j) (idx j (asPoint v)) (idx-below j (hop .known)) (some .1))
 
-    pub push-needs : Within g s d × (placeAt g (pointOf v) < g .nodes) × (v .cell < 256) × (v .step < 256) × (via < 256)
+    pub push-needs : Within g s d × (placeAt g (asPoint v) < g .nodes) × (v .cell < 256) × (v .step < 256) × (via < 256)
     push-needs =
         let a = hop .known in
         let f = k .turn .for .holds .ready .fit in (
@@ -190,17 +190,17 @@ module _ {j : Job} {near begin due cart-on hint : List ℕ} {g : Grid} {s₁ s :
           omega (arith, via-small, f .few-cells),
         )
 
-    module _ (s′ : List ℕ) (q : s′ ≡ pushed g s d (pointOf v) via stamp) where
-      p : PushedIn j s s′ d (pointOf v) via stamp
+    module _ (s′ : List ℕ) (q : s′ ≡ pushed g s d (asPoint v) via stamp) where
+      p : PushedIn j s s′ d (asPoint v) via stamp
       p = push-in j (k .turn .for .holds .grid) (stands (k .turn) .0 .room) (hop .known) deep q
 
-      p′ : PushedIn j s s′ (suc (d - 1)) (pointOf v) via stamp
+      p′ : PushedIn j s s′ (suc (d - 1)) (asPoint v) via stamp
       p′ = let f : d ≡ suc (d - 1) = omega (arith, k .turn .some) in rw f at p
 
       pub turn-falls : unmarked (markAt g s) stamp (g .nodes) ≡ suc (unmarked (markAt g s′) stamp (g .nodes))
       turn-falls = rw (k .turn .for .holds .grid) (run-falls run′ (k .dull) hop (some .1) p′)
 
-      pub turn-push : Going j s₁ s′ stamp x (d + 1) (pointOf v)
+      pub turn-push : Going j s₁ s′ stamp x (d + 1) (asPoint v)
       turn-push =
           let f : d + 1 ≡ suc (suc (d - 1)) = omega (arith, k .turn .some) in
-          record { run = rw f (run-push run′ (k .dull) hop (some .1) p′); top = λ z. top-pushed j s s′ d (pointOf v) via stamp p }
+          record { run = rw f (run-push run′ (k .dull) hop (some .1) p′); top = λ z. top-pushed j s s′ d (asPoint v) via stamp p }

@@ -16,7 +16,7 @@ use Rattle.flow.specs.Flow.{State, arr, dep, Residual}
 use Rattle.flow.specs.Way.{Hop, vias, ats, lastAt, Way}
 use Rattle.flow.proofs.Hops.{On, on-split, last-split, arcs, via-once}
 use Rattle.network.specs.Graph.{graph, Earlier}
-use Rattle.network.specs.Store.{gridOf, nodes, Roomy}
+use Rattle.network.specs.Store.{gridOf, nodes, Spacious}
 use Rattle.network.specs.Links.{FlowIn, backLink, onLink}
 use Rattle.route.specs.Stack.{posAt, byWay, viaOf, hopsTo}
 use Rattle.network.proofs.Points.{point-step}
@@ -127,7 +127,7 @@ module _ (j : Job) (s : List ℕ) where
 
 -- A way of e hops from known nodes through the flow that the store holds.
 pub record Stacked (j : Job) (s : List ℕ) (e : ℕ) : Type 0 where
-  pub room : Roomy (gridOf j) s
+  pub room : Spacious (gridOf j) s
   pub small : suc e ≤ nodes j
   pub known : (i : ℕ) → i ≤ e → Known j (posIn j s i)
   pub ok : FlowIn j s

@@ -8,7 +8,7 @@ use Rattle.model.specs.Lists.{In}
 use Rattle.model.specs.Job.{Job}
 use Rattle.model.specs.Choke.{Point, point, Known}
 use Rattle.floor.specs.Tables.{Due}
-use Rattle.network.specs.Store.{placeAt, pointOf, usedAt, nextAt, markAt}
+use Rattle.network.specs.Store.{placeAt, asPoint, usedAt, nextAt, markAt}
 use Rattle.network.specs.Holds.{Holds}
 use Rattle.network.specs.declared.planes.Grid.{Grid}
 use Rattle.route.specs.declared.search.Found.{Found}
@@ -44,9 +44,9 @@ Stamped g s stamp x = markAt g s (placeAt g x) ≡ stamp
 -- What is found is one of the positions that P allows and that is not marked; Nothing, if all of them are.
 abbrev pub Finds : (Point → ℕ → Type 0) → (Point → Type 0) → Found → Type 0
 Finds P M Found.Nothing = (x : Point) (via : ℕ) → P x via → M x
-Finds P M (Found.Push v via) = P (pointOf v) via × (M (pointOf v) → ⊥)
+Finds P M (Found.Push v via) = P (asPoint v) via × (M (asPoint v) → ⊥)
 
 -- What is found, if it is a position, is one that P allows and that is not marked.
 abbrev pub Guesses : (Point → ℕ → Type 0) → (Point → Type 0) → Found → Type 0
 Guesses P M Found.Nothing = Unit {0}
-Guesses P M (Found.Push v via) = P (pointOf v) via × (M (pointOf v) → ⊥)
+Guesses P M (Found.Push v via) = P (asPoint v) via × (M (asPoint v) → ⊥)

@@ -4,7 +4,7 @@ use mathlib.Core.List.{List}
 use mathlib.Core.Bool.{cond}
 use lib.Dec.{ltb}
 use Rattle.model.specs.Choke.{Point}
-use Rattle.network.specs.Store.{placeAt, stepAt, withUsed, withMark, withNext, withPrev, withEntry, Roomy}
+use Rattle.network.specs.Store.{placeAt, stepAt, withUsed, withMark, withNext, withPrev, withEntry, Spacious}
 use Rattle.network.specs.declared.planes.Grid.{Grid}
 use Rattle.route.specs.Stack.{posAt, viaOf}
 
@@ -26,7 +26,7 @@ laid g s i = joined g s (posAt g s i) (viaOf g s i) (posAt g s (suc i)) (useOf (
 
 -- All that the hop names has its place.
 pub record Layable (g : Grid) (s : List ℕ) (i : ℕ) : Type 0 where
-  pub room : Roomy g s
+  pub room : Spacious g s
   pub next : suc i < g .nodes
   pub here : placeAt g (posAt g s i) < g .nodes
   pub there : placeAt g (posAt g s (suc i)) < g .nodes

@@ -9,7 +9,7 @@ ghost use Prim.Native.Nat.{_<_, _≤_};
 ghost use lib.ListN.{length};
 ghost use Rattle.model.specs.Limits.{maxCells};
 ghost use Rattle.floor.specs.Tables.{Rows};
-ghost use Rattle.network.specs.Store.{Roomy, Within};
+ghost use Rattle.network.specs.Store.{Spacious, Within};
 ghost use Rattle.route.specs.Finds.{Cells};
 ghost use Rattle.route.specs.Queue.{Queue};
 
@@ -34,7 +34,7 @@ fn expand(
     place: &mut [u8; Limits::CELLS],
     end: usize,
 ) -> usize
-    requires { ⌜ Cells (grid .cells) (now row) × (length (now row) ≤ maxCells) × (length (now «cart_on») ≡ maxCells) × Roomy grid (now store) × (grid .cells ≤ grid .nodes) × (c < maxCells) × Queue (grid .cells) (now queue) end ⌝ }
+    requires { ⌜ Cells (grid .cells) (now row) × (length (now row) ≤ maxCells) × (length (now «cart_on») ≡ maxCells) × Spacious grid (now store) × (grid .cells ≤ grid .nodes) × (c < maxCells) × Queue (grid .cells) (now queue) end ⌝ }
     ensures { λ r. ⌜ Queue (grid .cells) (now (queue .exit)) r ⌝ }
 {
     let mut tail = end;
@@ -88,7 +88,7 @@ pub fn aim(
     cell: usize,
     hint: &mut [u8],
 )
-    requires { ⌜ Rows (grid .cells) (now near) (now begin) × (grid .cells ≤ maxCells) × (length (now «cart_on») ≡ maxCells) × Roomy grid (now store) × (grid .cells ≤ grid .nodes) × (cell < grid .cells) × (length (now hint) ≡ maxCells) ⌝ }
+    requires { ⌜ Rows (grid .cells) (now near) (now begin) × (grid .cells ≤ maxCells) × (length (now «cart_on») ≡ maxCells) × Spacious grid (now store) × (grid .cells ≤ grid .nodes) × (cell < grid .cells) × (length (now hint) ≡ maxCells) ⌝ }
     ensures { λ _. ⌜ length (now (hint .exit)) ≡ maxCells ⌝ }
 {
     let mut queue = [0u8; Limits::CELLS];

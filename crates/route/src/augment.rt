@@ -11,7 +11,7 @@ use network::planes::via;
 ghost use mathlib.Core.Path.{_≡_};
 ghost use Prim.Native.Nat.{_<_, _≤_};
 ghost use Rattle.model.specs.Job as model;
-ghost use Rattle.network.specs.Store.{pointOf, gridOf};
+ghost use Rattle.network.specs.Store.{asPoint, gridOf};
 ghost use Rattle.route.specs.Stack.{posAt, byWay};
 ghost use Rattle.route.specs.Search.{Laying, Augmented};
 ghost use Rattle.route.specs.Lay.{Layable, laid, useOf};
@@ -19,7 +19,7 @@ ghost use Rattle.route.specs.Lay.{Layable, laid, useOf};
 // By way of which node a hop goes: where the step rises, the one that it leaves; else one on the cell c, a step before.
 fn by_way(from: Node, to: Node, c: usize) -> Node
     requires { ⌜ (to .step ≤ from .step → 0 < from .step) ⌝ }
-    ensures { λ r. ⌜ pointOf r ≡ byWay (pointOf from) (to .step) c ⌝ }
+    ensures { λ r. ⌜ asPoint r ≡ byWay (asPoint from) (to .step) c ⌝ }
 {
     if from.step < to.step {
         return from;

@@ -14,7 +14,7 @@ ghost use mathlib.Core.Path.{_≡_};
 ghost use Prim.Native.Nat.{_<_, _≤_};
 ghost use Rattle.model.specs.Job as model;
 ghost use Rattle.floor.specs.Tables.{Due};
-ghost use Rattle.network.specs.Store.{Within, placeAt, pointOf};
+ghost use Rattle.network.specs.Store.{Within, placeAt, asPoint};
 ghost use Rattle.network.specs.Holds.{Holds};
 ghost use Rattle.route.specs.Lay.{pushed};
 ghost use Rattle.route.specs.Search.{Searching, Searched};
@@ -28,8 +28,8 @@ pub enum Found {
 
 // To the successor of a used node, which then falls out of the flow, or whose place in it is taken over. Nothing comes from a call's node.
 fn drop_out(store: &[u8], due: &[u16], grid: Grid, node: Node, stamp: u8) -> Found
-    requires { ⌜ ((j : model.Job) × Stands j grid (now store) (now due) (pointOf node)) ⌝ }
-    ensures { λ r. ⌜ Finds (Down grid (now (store .entry)) (now (due .entry)) (pointOf node)) (Stamped grid (now (store .entry)) stamp) r ⌝ }
+    requires { ⌜ ((j : model.Job) × Stands j grid (now store) (now due) (asPoint node)) ⌝ }
+    ensures { λ r. ⌜ Finds (Down grid (now (store .entry)) (now (due .entry)) (asPoint node)) (Stamped grid (now (store .entry)) stamp) r ⌝ }
 {
     let v = place(grid, node);
     if used(store, grid, v) == 0 {
@@ -51,8 +51,8 @@ fn drop_out(store: &[u8], due: &[u16], grid: Grid, node: Node, stamp: u8) -> Fou
 // By way of a node one step before a position: to it where it is free, else to its successor. That nothing comes from a call's node is asked after a free node's mark,
 // since most are marked.
 fn look(store: &[u8], due: &[u16], grid: Grid, node: Node, stamp: u8) -> Found
-    requires { ⌜ ((j : model.Job) × Stands j grid (now store) (now due) (pointOf node)) ⌝ }
-    ensures { λ r. ⌜ Finds (By grid (now (store .entry)) (now (due .entry)) (pointOf node)) (Stamped grid (now (store .entry)) stamp) r ⌝ }
+    requires { ⌜ ((j : model.Job) × Stands j grid (now store) (now due) (asPoint node)) ⌝ }
+    ensures { λ r. ⌜ Finds (By grid (now (store .entry)) (now (due .entry)) (asPoint node)) (Stamped grid (now (store .entry)) stamp) r ⌝ }
 {
     let v = place(grid, node);
     if used(store, grid, v) == 0 {
@@ -95,8 +95,8 @@ fn guess(
     hint: usize,
     stamp: u8,
 ) -> Found
-    requires { ⌜ ((j : model.Job) × Stands j grid (now store) (now due) (pointOf node) × Cells (j .cells) (now row)) ⌝ }
-    ensures { λ r. ⌜ Guesses (From grid (now (store .entry)) (now (due .entry)) (now (row .entry)) (pointOf node)) (Stamped grid (now (store .entry)) stamp) r ⌝ }
+    requires { ⌜ ((j : model.Job) × Stands j grid (now store) (now due) (asPoint node) × Cells (j .cells) (now row)) ⌝ }
+    ensures { λ r. ⌜ Guesses (From grid (now (store .entry)) (now (due .entry)) (now (row .entry)) (asPoint node)) (Stamped grid (now (store .entry)) stamp) r ⌝ }
 {
     if node.step == 0 {
         return Found::Nothing;
@@ -111,8 +111,8 @@ fn guess(
 
 // Where the node leads: by way of a cell of its row, else to its successor.
 fn find(store: &[u8], row: &[u8], due: &[u16], grid: Grid, node: Node, stamp: u8) -> Found
-    requires { ⌜ ((j : model.Job) × Stands j grid (now store) (now due) (pointOf node) × Cells (j .cells) (now row)) ⌝ }
-    ensures { λ r. ⌜ Finds (From grid (now (store .entry)) (now (due .entry)) (now (row .entry)) (pointOf node)) (Stamped grid (now (store .entry)) stamp) r ⌝ }
+    requires { ⌜ ((j : model.Job) × Stands j grid (now store) (now due) (asPoint node) × Cells (j .cells) (now row)) ⌝ }
+    ensures { λ r. ⌜ Finds (From grid (now (store .entry)) (now (due .entry)) (now (row .entry)) (asPoint node)) (Stamped grid (now (store .entry)) stamp) r ⌝ }
 {
     if 0 < node.step {
         let found = scan(store, row, due, grid, node.step - 1, stamp);
@@ -125,8 +125,8 @@ fn find(store: &[u8], row: &[u8], due: &[u16], grid: Grid, node: Node, stamp: u8
 
 // Marks a node and puts it on the stack.
 fn push(store: &mut [u8], grid: Grid, depth: usize, node: Node, via: usize, stamp: u8)
-    requires { ⌜ Within grid (now store) depth × (placeAt grid (pointOf node) < grid .nodes) × (node .cell < 256) × (node .step < 256) × (via < 256) ⌝ }
-    ensures { λ _. ⌜ now (store .exit) ≡ pushed grid (now (store .entry)) depth (pointOf node) via stamp ⌝ }
+    requires { ⌜ Within grid (now store) depth × (placeAt grid (asPoint node) < grid .nodes) × (node .cell < 256) × (node .step < 256) × (via < 256) ⌝ }
+    ensures { λ _. ⌜ now (store .exit) ≡ pushed grid (now (store .entry)) depth (asPoint node) via stamp ⌝ }
 {
     set_mark(store, grid, place(grid, node), stamp);
     set_position(store, grid, depth, node, via);
@@ -143,8 +143,8 @@ pub fn search(
     node: Node,
     stamp: u8,
 ) -> usize
-    requires { ⌜ ((j : model.Job) × Searching j (now near) (now begin) (now due) (now «cart_on») (now hint) (now store) grid (pointOf node)) ⌝ }
-    ensures { λ r. ⌜ ((j : model.Job) → Searching j (now (near .entry)) (now (begin .entry)) (now (due .entry)) (now («cart_on» .entry)) (now (hint .entry)) (now (store .entry)) grid (pointOf node) → Searched j (now (store .entry)) (now (store .exit)) stamp (pointOf node) r) ⌝ }
+    requires { ⌜ ((j : model.Job) × Searching j (now near) (now begin) (now due) (now «cart_on») (now hint) (now store) grid (asPoint node)) ⌝ }
+    ensures { λ r. ⌜ ((j : model.Job) → Searching j (now (near .entry)) (now (begin .entry)) (now (due .entry)) (now («cart_on» .entry)) (now (hint .entry)) (now (store .entry)) grid (asPoint node) → Searched j (now (store .entry)) (now (store .exit)) stamp (asPoint node) r) ⌝ }
 {
     push(store, grid, 0, node, 0, stamp);
     let mut depth = 1;

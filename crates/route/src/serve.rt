@@ -6,7 +6,7 @@ use network::planes::Node;
 ghost use mathlib.Core.Path.{_≡_};
 ghost use lib.ListN.{length};
 ghost use Rattle.model.specs.Job as model;
-ghost use Rattle.network.specs.Store.{pointOf};
+ghost use Rattle.network.specs.Store.{asPoint};
 ghost use Rattle.network.specs.Holds.{Holds};
 ghost use Rattle.route.specs.Serve.{Serving, ServedBy};
 
@@ -30,8 +30,8 @@ pub fn serve(
     stamp: u8,
     fresh: bool,
 ) -> Served
-    requires { ⌜ ((j : model.Job) × Serving j (now near) (now begin) (now due) (now «cart_on») (now hint) (now store) grid (pointOf node) stamp fresh) ⌝ }
-    ensures { λ r. ⌜ (length (now (store .exit)) ≡ length (now (store .entry))) × ((j : model.Job) → Serving j (now (near .entry)) (now (begin .entry)) (now (due .entry)) (now («cart_on» .entry)) (now (hint .entry)) (now (store .entry)) grid (pointOf node) stamp fresh → Holds j grid (now (store .exit)) × ServedBy j (now (store .entry)) (now (store .exit)) stamp (pointOf node) r) ⌝ }
+    requires { ⌜ ((j : model.Job) × Serving j (now near) (now begin) (now due) (now «cart_on») (now hint) (now store) grid (asPoint node) stamp fresh) ⌝ }
+    ensures { λ r. ⌜ (length (now (store .exit)) ≡ length (now (store .entry))) × ((j : model.Job) → Serving j (now (near .entry)) (now (begin .entry)) (now (due .entry)) (now («cart_on» .entry)) (now (hint .entry)) (now (store .entry)) grid (asPoint node) stamp fresh → Holds j grid (now (store .exit)) × ServedBy j (now (store .entry)) (now (store .exit)) stamp (asPoint node) r) ⌝ }
 {
     let depth = search::search(near, begin, due, cart_on, hint, store, grid, node, stamp);
     if 0 < depth {

@@ -8,11 +8,11 @@ use lib.ListN.{length, getD, drop, replicate, length-append, length-drop, length
 use denote.Ref.{now}
 use borrow.Author.Needs.{needs}
 use Rattle.network.specs.declared.planes.Grid.{Grid}
-use Rattle.network.specs.Store.{at, Roomy, Blank}
+use Rattle.network.specs.Store.{at, Spacious, Blank}
 use Rattle.network.proofs.planes.wipe.Statement.{statement}
 use Rattle.network.proofs.planes.wipe.Tie as tie
 
-module _ (g : Grid) (s t : List ℕ) (room : Roomy g s) (e : t ≡ replicate (2 * g .nodes) 0 ++ drop (2 * g .nodes) s) where
+module _ (g : Grid) (s t : List ℕ) (room : Spacious g s) (e : t ≡ replicate (2 * g .nodes) 0 ++ drop (2 * g .nodes) s) where
   abbrev k : ℕ
   k = g .nodes
 

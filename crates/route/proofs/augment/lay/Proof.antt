@@ -1,7 +1,7 @@
 -- `lay` reads three nodes off the stack and writes four bytes, each at the place of one of them. Assumes nothing.
 use native.Mathlib.Omega.{arith}
 use denote.Ref.{now}
-use Rattle.network.specs.Store.{pointOf}
+use Rattle.network.specs.Store.{asPoint}
 use Rattle.route.proofs.LayHop.{Read, read, early, via-byte, here, between, there, room-kept, all-set}
 use borrow.Author.Needs.{needs}
 use Rattle.route.proofs.augment.lay.Statement.{statement}
@@ -10,8 +10,8 @@ mod Places
 use Places.*
 
 read-off : (c : tie.After-by-way)
-    → Read (by-way→start c .args .grid) (now (by-way→start c .args .store)) (by-way→start c .args .i) (pointOf (by-way→position c .position .result)) (pointOf (c .by-way .result))
-    (pointOf (by-way→position2 c .position2 .result))
+    → Read (by-way→start c .args .grid) (now (by-way→start c .args .store)) (by-way→start c .args .i) (asPoint (by-way→position c .position .result)) (asPoint (c .by-way .result))
+    (asPoint (by-way→position2 c .position2 .result))
 read-off c =
     read (by-way→via c .via .result) (by-way→start c .pre) (by-way→position c .position .ensures .0) (by-way→position c .position .ensures .1) (by-way→position2 c .position2 .ensures .0)
     (by-way→position2 c .position2 .ensures .1)
@@ -35,7 +35,7 @@ place-requires-2 c κs = here (read-off (set-prev-arg→by-way c))
 set-prev-requires : tie.Need-set-prev-requires
 set-prev-requires c κs = (
   (search needs, omega (arith, here (read-off (place2→by-way c)), c .place2 .ensures)),
-  via-byte (pointOf (place2→position c .position .result)) _ _ (place2→by-way c .by-way .ensures) (place2→position c .position .ensures .2) (place2→via c .via .ensures .1),
+  via-byte (asPoint (place2→position c .position .result)) _ _ (place2→by-way c .by-way .ensures) (place2→position c .position .ensures .2) (place2→via c .via .ensures .1),
 )
 
 set-used-requires : tie.Need-set-used-requires

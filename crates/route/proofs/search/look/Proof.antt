@@ -4,7 +4,7 @@ use mathlib.Core.Logic.{inl, inr}
 use native.Mathlib.Omega.{arith}
 use denote.Ref.{now}
 use Rattle.model.proofs.Agree.{within}
-use Rattle.network.specs.Store.{pointOf, usedAt, markAt}
+use Rattle.network.specs.Store.{asPoint, usedAt, markAt}
 use Rattle.network.proofs.HoldsLaws.{place-below}
 use Rattle.route.proofs.SearchFinds.{told, untold, by-none, by-down}
 use borrow.Author.Needs.{needs}
@@ -25,7 +25,7 @@ mark-requires c κs = let h = then1→start c .pre .1 in (h .0 .room, omega (ari
 returns : tie.Need-returns
 returns c =
     let a = then2→start c .args in
-    by-none (a .grid) (now (a .store)) (now (a .due)) (pointOf (a .node)) (a .stamp) (then2→place c .place .ensures) (then2→used c .used .ensures .0) (then2→then1 c .if1 .taken)
+    by-none (a .grid) (now (a .store)) (now (a .due)) (asPoint (a .node)) (a .stamp) (then2→place c .place .ensures) (then2→used c .used .ensures .0) (then2→then1 c .if1 .taken)
     (inr (told (markAt (a .grid) (now (a .store))) (then2→place c .place .ensures) (then2→mark c .mark .ensures) (c .if2 .taken)))
 
 cast-if3 : tie.Need-cast-if3
@@ -37,7 +37,7 @@ add-if3 c = let (j, h) = struct-known→start c .pre in omega (arith, h .2 .1, w
 returns-2 : tie.Need-returns-2
 returns-2 c =
     let a = then3→start c .args in
-    by-none (a .grid) (now (a .store)) (now (a .due)) (pointOf (a .node)) (a .stamp) (then3→place c .place .ensures) (then3→used c .used .ensures .0) (then3→then1 c .if1 .taken) (inl (c .if3 .taken))
+    by-none (a .grid) (now (a .store)) (now (a .due)) (asPoint (a .node)) (a .stamp) (then3→place c .place .ensures) (then3→used c .used .ensures .0) (then3→then1 c .if1 .taken) (inl (c .if3 .taken))
 
 returns-3 : tie.Need-returns-3
 returns-3 c =
@@ -49,7 +49,7 @@ returns-3 c =
 returns-4 : tie.Need-returns-4
 returns-4 c =
     let a = drop-out→start c .args in
-    by-down (a .grid) (now (a .store)) (now (a .due)) (pointOf (a .node)) (a .stamp) (drop-out→place c .place .ensures) (drop-out→used c .used .ensures .0) (drop-out→else1 c .if1 .left)
+    by-down (a .grid) (now (a .store)) (now (a .due)) (asPoint (a .node)) (a .stamp) (drop-out→place c .place .ensures) (drop-out→used c .used .ensures .0) (drop-out→else1 c .if1 .left)
     (c .drop-out .result) (c .drop-out .ensures)
 
 pub look-spec : {M : Type 1} → statement M

@@ -1,6 +1,6 @@
 -- `push` marks a node and sets an entry of the stack. Assumes nothing.
 use denote.Ref.{now}
-use Rattle.network.specs.Store.{pointOf}
+use Rattle.network.specs.Store.{asPoint}
 use Rattle.route.proofs.SearchFinds.{pushed-by}
 use borrow.Author.Needs.{needs}
 use Rattle.route.proofs.search.push.Statement.{statement}
@@ -10,7 +10,7 @@ use Places.*
 
 returns : tie.Need-returns
 returns c = let a = slice-known3→start c .args in
-    pushed-by (a .grid) (now (a .store)) (a .depth) (a .via) (a .stamp) (pointOf (a .node)) (slice-known3→place c .place .ensures) (slice-known3→set-mark c .set-mark .ensures)
+    pushed-by (a .grid) (now (a .store)) (a .depth) (a .via) (a .stamp) (asPoint (a .node)) (slice-known3→place c .place .ensures) (slice-known3→set-mark c .set-mark .ensures)
     (slice-known3→set-position c .set-position .ensures)
 
 pub push-spec : {M : Type 1} → statement M

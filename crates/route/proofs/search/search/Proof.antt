@@ -9,7 +9,7 @@ use denote.Ref.{now}
 use lib.ListN.{length}
 use Rattle.model.specs.Job.{Job}
 use Rattle.network.specs.Graph.{graph}
-use Rattle.network.specs.Store.{pointOf, markAt}
+use Rattle.network.specs.Store.{asPoint, markAt}
 use Rattle.network.proofs.NodeBytes.{few-nodes}
 use Rattle.route.specs.Search.{Searching}
 use Rattle.route.specs.Finds.{From, Stamped, Finds}
@@ -27,7 +27,7 @@ use Places.*
 abbrev Inv-loop : tie.InvT-loop
 Inv-loop near begin due cart-on hint store₀ grid stamp depth₀ top₀ store depth top =
     (length store ≡ length store₀)
-    × ((j : Job) → Searching j near begin due cart-on hint store₀ grid (pointOf top₀) → Going j store₀ store stamp (pointOf top₀) depth (pointOf top))
+    × ((j : Job) → Searching j near begin due cart-on hint store₀ grid (asPoint top₀) → Going j store₀ store stamp (asPoint top₀) depth (asPoint top))
 
 abbrev μ-loop : tie.MeasureT-loop
 μ-loop near begin due cart-on hint store₀ grid stamp depth₀ top₀ store depth top = 2 * unmarked (markAt grid store) stamp (grid .nodes) + depth
@@ -36,7 +36,7 @@ abbrev μ-loop : tie.MeasureT-loop
 abbrev For : tie.After-push Inv-loop μ-loop → Job → Type 0
 For c j =
     let a = push→start c .args in
-    Searching j (now (a .near)) (now (a .begin)) (now (a .due)) (now (a .cart-on)) (now (a .hint)) (c .push .last .0) (a .grid) (pointOf (a .node))
+    Searching j (now (a .near)) (now (a .begin)) (now (a .due)) (now (a .cart-on)) (now (a .hint)) (c .push .last .0) (a .grid) (asPoint (a .node))
 
 one : (c : tie.After-push Inv-loop μ-loop) → (j : Job) × For c j
 one c = (push→start c .pre .0, begun _ (c .push .ensures) (push→start c .pre .1))
@@ -44,8 +44,8 @@ one c = (push→start c .pre .0, begun _ (c .push .ensures) (push→start c .pre
 -- What is at hand in a turn.
 turn : (c : tie.In-loop Inv-loop μ-loop) (j : Job) → For (in-loop→push c) j →
     (let a = in-loop→start c .args in let l = in-loop→loop c .loop in
-    Turn j (now (a .near)) (now (a .begin)) (now (a .due)) (now (a .cart-on)) (now (a .hint)) (a .grid) (in-loop→push c .push .last .0) (l .store) (pointOf (a .node)) (a .stamp) (l .depth)
-    (pointOf (l .top)))
+    Turn j (now (a .near)) (now (a .begin)) (now (a .due)) (now (a .cart-on)) (now (a .hint)) (a .grid) (in-loop→push c .push .last .0) (l .store) (asPoint (a .node)) (a .stamp) (l .depth)
+    (asPoint (l .top)))
 turn c j h = record { for = h; going = in-loop→loop c .loop .inv .1 j h; some = omega (arith, c .loop-test .taken) }
 
 -- Past the test the position on top is no goal.
@@ -55,20 +55,20 @@ dull c j h = no-goal (turn (joined1→in-loop c) j h) (λ z. ⊎-elim (λ w. w .
 -- What is found answers for the position on top: what `find` answers, or a guess that is a position.
 answers : (c : tie.At-match-came Inv-loop μ-loop) →
     (let a = match-came→start c .args in let l = match-came→loop c .loop in
-    Finds (From (a .grid) (l .store) (now (a .due)) (now (match-came→row c .row .result)) (pointOf (l .top))) (Stamped (a .grid) (l .store) (a .stamp)) (c .match .found))
+    Finds (From (a .grid) (l .store) (now (a .due)) (now (match-came→row c .row .result)) (asPoint (l .top))) (Stamped (a .grid) (l .store) (a .stamp)) (c .match .found))
 answers c =
     ⊎-elim (λ w. found-is _ _ (w .4) (w .3 .ensures)) (λ w. found-is _ _ (w .2) (guess-found _ _ _ (w .1 .given .1) (match-came→guess c .guess .ensures))) (c .match .came)
 
 -- What was found, and where nothing was, that the position falls off.
 looked : (c : tie.At-match-came Inv-loop μ-loop) (j : Job) → For (match-came→push c) j →
     (let a = match-came→start c .args in let l = match-came→loop c .loop in
-    Looked j (now (a .near)) (now (a .begin)) (now (a .due)) (now (a .cart-on)) (now (a .hint)) (a .grid) (match-came→push c .push .last .0) (l .store) (pointOf (a .node)) (a .stamp) (l .depth)
-    (pointOf (l .top))
+    Looked j (now (a .near)) (now (a .begin)) (now (a .due)) (now (a .cart-on)) (now (a .hint)) (a .grid) (match-came→push c .push .last .0) (l .store) (asPoint (a .node)) (a .stamp) (l .depth)
+    (asPoint (l .top))
     (now (match-came→row c .row .result)) (c .match .found))
 looked c j h = record { turn = turn (match-came→in-loop c) j h; of = match-came→row c .row .ensures; finds = answers c; dull = dull (match-came→joined1 c) j h }
 
 popped : (c : tie.After-enum-told3 Inv-loop μ-loop) (j : Job) → For (enum-told3→push c) j →
-    (let l = enum-told3→loop c .loop in Running j (enum-told3→push c .push .last .0) (l .store) (enum-told3→start c .args .stamp) (pointOf (enum-told3→start c .args .node)) (l .depth - 1))
+    (let l = enum-told3→loop c .loop in Running j (enum-told3→push c .push .last .0) (l .store) (enum-told3→start c .args .stamp) (asPoint (enum-told3→start c .args .node)) (l .depth - 1))
 popped c j h = turn-pop (looked (enum-told3→match-came c) j h) (c .enum-told3 .given .1)
 
 push-requires : tie.Need-push-requires Inv-loop μ-loop

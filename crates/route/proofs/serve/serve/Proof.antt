@@ -3,7 +3,7 @@
 use mathlib.Core.Path.{_∙_}
 use native.Mathlib.Omega.{arith}
 use denote.Ref.{now}
-use Rattle.network.specs.Store.{pointOf}
+use Rattle.network.specs.Store.{asPoint}
 use Rattle.network.proofs.HoldsLaws.{on-same, holds-flow}
 use Rattle.route.proofs.SearchTurn.{may-search}
 use Rattle.route.proofs.ServeLaws.{marks-search, fresh-next, may-lay, marks-augment, serves-too}
@@ -35,7 +35,7 @@ returns c = (
       let g = slice-known3→augment c .augment .ensures j l in
       let m = marks-search f (a .stamp) (omega arith) (h .marks) in (
         holds-flow (l .holds) (g .long) (g .flow),
-        (omega arith, omega arith, marks-augment g _ m, serves-too g (now (a .store)) (pointOf (a .node)) (on-same j (f .same)) (f .first some)),
+        (omega arith, omega arith, marks-augment g _ m, serves-too g (now (a .store)) (asPoint (a .node)) (on-same j (f .same)) (f .first some)),
       ),
 )
 
@@ -83,7 +83,7 @@ returns-3 c = (
       let g = slice-known5→augment2 c .augment2 .ensures j l in
       let m = marks-search f′ (a .stamp) (omega arith) (marks-search f (a .stamp) (omega arith) (h .marks)) in (
         holds-flow (l .holds) (g .long) (g .flow),
-        (omega arith, omega arith, marks-augment g _ m, serves-too g (now (a .store)) (pointOf (a .node)) (on-same j (f′ .same) ∙ on-same j (f .same)) (f′ .first some)),
+        (omega arith, omega arith, marks-augment g _ m, serves-too g (now (a .store)) (asPoint (a .node)) (on-same j (f′ .same) ∙ on-same j (f .same)) (f′ .first some)),
       ),
 )
 
