@@ -19,10 +19,10 @@ use Rattle.model.specs.Ready.{Ready}
 use Rattle.model.specs.Contracts.{Told, Judged, Decided, withStore, withRoom, checkVerdict, planVerdict, zeros, storeAfter, Checked, Planned}
 use Rattle.model.proofs.Basics.{nope}
 use Rattle.model.proofs.Ready.{read-ready}
-use Rattle.job.specs.declared.read.Verdict.the-variants.{Accepted, Refused}
-use Rattle.job.specs.declared.read.Reading.{Reading}
+use Rattle.reader.specs.declared.read.Verdict.the-variants.{Accepted, Refused}
+use Rattle.reader.specs.declared.read.Reading.{Reading}
 use Rattle.job.specs.Arrays.{jobOf}
-use Rattle.job.specs.Reading.{verdictOf, Read}
+use Rattle.reader.specs.Reading.{verdictOf, Read}
 use Rattle.sheet.specs.declared.Form as form
 use Rattle.sheet.specs.Form.{formOf}
 use Rattle.cartfloor.specs.Admitted.{Admitted}

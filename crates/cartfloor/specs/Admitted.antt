@@ -3,9 +3,9 @@ use Prim.Native.Nat.{ℕ}
 use mathlib.Core.Path.{_≡_}
 use mathlib.Core.List.{List}
 use Rattle.model.specs.Contracts.{checkVerdict}
-use Rattle.job.specs.declared.read.Reading.{Reading}
+use Rattle.reader.specs.declared.read.Reading.{Reading}
 use Rattle.job.specs.Arrays.{jobOf, Sized}
-use Rattle.job.specs.Reading.{verdictOf, Bounded}
+use Rattle.reader.specs.Reading.{verdictOf, Bounded}
 
 pub record Admitted (text : List ℕ) (lent : ℕ) (r : Reading) : Type 0 where
   pub says : verdictOf (r .verdict) (jobOf (r .job)) ≡ checkVerdict text lent

@@ -1,12 +1,12 @@
 // The check: a sheet from any hand, against its job. It works in locals, and touches the store only to wipe it.
 use crate::refuse;
-use job::read::Verdict;
 use job::state::Job;
 use model::Limits;
 use model::answer::Answer;
 use model::answer::number;
 use model::answer::packed;
 use model::bytes::clear;
+use reader::read::Verdict;
 use sheet::Form;
 ghost use mathlib.Core.Path.{_≡_};
 ghost use Rattle.model.specs.Ready.{Ready};

@@ -1,6 +1,5 @@
 // The planner: every refusal is decided before a byte is written.
 use crate::refuse;
-use job::read::Verdict;
 use job::size::sheet_least;
 use job::state::Job;
 use model::Limits;
@@ -9,6 +8,7 @@ use model::answer::packed;
 use model::bytes::clear;
 use planner::solve;
 use planner::solve::Solution;
+use reader::read::Verdict;
 ghost use mathlib.Core.Path.{_≡_};
 ghost use Prim.Native.Nat.{_≤_};
 ghost use lib.ListN.{length};

@@ -1,8 +1,8 @@
 // What both calls refuse: a text that the reader turns back, then a store that is too short for its job.
-use job::read::Reading;
-use job::read::Verdict;
 use job::size::store_least;
 use model::answer::Answer;
+use reader::read::Reading;
+use reader::read::Verdict;
 ghost use mathlib.Core.Path.{_≡_};
 ghost use Rattle.cartfloor.specs.Admitted.{Admitted};
 
@@ -10,7 +10,7 @@ ghost use Rattle.cartfloor.specs.Admitted.{Admitted};
 pub fn admit(text: &[u8], lent: usize) -> Reading
     ensures { λ r. ⌜ Admitted (now (text .entry)) lent r ⌝ }
 {
-    let reading = job::read::read(text);
+    let reading = reader::read::read(text);
     let job = reading.job;
     let verdict = reading.verdict;
     if let Verdict::Refused { answer: _, line: _ } = verdict {

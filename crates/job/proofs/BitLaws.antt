@@ -16,11 +16,11 @@ use Rattle.model.proofs.Decide.{dec-eq}
 use Rattle.job.specs.Bits.{bitAt, withBit}
 
 -- digit k of a number, from the lowest on
-abbrev digit : ℕ → ℕ → Bool
-digit zero x = eqb (x % 2) 1
-digit (suc k) x = digit k (x / 2)
+abbrev bitOf : ℕ → ℕ → Bool
+bitOf zero x = eqb (x % 2) 1
+bitOf (suc k) x = bitOf k (x / 2)
 
-digit-is : (k x : ℕ) → eqb (x / 2 ^ k % 2) 1 ≡ digit k x
+digit-is : (k x : ℕ) → eqb (x / 2 ^ k % 2) 1 ≡ bitOf k x
 digit-is zero x = rw (div-one x)
 digit-is (suc k) x = rw (pow-suc 2 k, mul-comm (2 ^ k) 2, ← div-div-eq-div-mul x 2 (2 ^ k)) (digit-is k (x / 2))
 
@@ -36,24 +36,24 @@ or-digit zero (suc (suc y)) h k = absurd (omega arith)
 or-digit (suc zero) (suc (suc y)) h k = absurd (omega arith)
 or-digit (suc (suc x)) y h k = absurd (omega arith)
 
-digit-or : (k a b : ℕ) → digit k (bitOr a b) ≡ (digit k a || digit k b)
+digit-or : (k a b : ℕ) → bitOf k (bitOr a b) ≡ (bitOf k a || bitOf k b)
 digit-or zero a b =
     let small = or-small (a % 2) (b % 2) (omega arith) (omega arith) in
     ap (λ x. eqb (x % 2) 1) (or-step a b) ∙ ap (λ x. eqb x 1) (digits-mod (bitOr (a / 2) (b / 2)) small) ∙ or-digit (a % 2) (b % 2) (omega arith) (omega arith)
 digit-or (suc k) a b =
     let small = or-small (a % 2) (b % 2) (omega arith) (omega arith) in
-    ap (λ x. digit k (x / 2)) (or-step a b) ∙ ap (digit k) (digits-div (bitOr (a / 2) (b / 2)) small) ∙ digit-or k (a / 2) (b / 2)
+    ap (λ x. bitOf k (x / 2)) (or-step a b) ∙ ap (bitOf k) (digits-div (bitOr (a / 2) (b / 2)) small) ∙ digit-or k (a / 2) (b / 2)
 
-digit-none : (k : ℕ) → digit k 0 ≡ false
+digit-none : (k : ℕ) → bitOf k 0 ≡ false
 digit-none zero = refl
 digit-none (suc k) = digit-none k
 
-digit-power : (m k : ℕ) → digit m (2 ^ k) ≡ eqb m k
+digit-power : (m k : ℕ) → bitOf m (2 ^ k) ≡ eqb m k
 digit-power zero zero = refl
 digit-power zero (suc k) = rw (pow-suc 2 k, mul-mod-left (2 ^ k) 2) (sym (ne-eqb 0 (suc k) (λ e. omega arith)))
 digit-power (suc m) zero = digit-none m ∙ sym (ne-eqb (suc m) 0 (λ e. omega arith))
 digit-power (suc m) (suc k) =
-    ap (λ x. digit m (x / 2)) (pow-suc 2 k) ∙ ap (digit m) (mul-div-cancel (2 ^ k) (omega arith)) ∙ digit-power m k ∙ sym (eqb·suc-suc m k)
+    ap (λ x. bitOf m (x / 2)) (pow-suc 2 k) ∙ ap (bitOf m) (mul-div-cancel (2 ^ k) (omega arith)) ∙ digit-power m k ∙ sym (eqb·suc-suc m k)
 
 -- Digit m of a number with the digit k set.
 or-power : (x k m : ℕ) → eqb (bitOr x (2 ^ k) / 2 ^ m % 2) 1 ≡ (eqb (x / 2 ^ m % 2) 1 || eqb m k)

@@ -1,9 +1,5 @@
 pub mod BitLaws
 pub mod Pairs
 pub mod Arrays
-pub mod Tests
 pub mod Triangle
-pub mod Marks
-pub mod Entries
-pub mod Turns
 pub mod Rows

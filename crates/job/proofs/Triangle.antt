@@ -8,7 +8,7 @@ use native.Mathlib.Omega.{arith}
 use lib.Dec.{ltb}
 use borrow.Author.Tests.{ltb-true, ltb-false}
 use Rattle.model.specs.Limits.{maxCells}
-use Rattle.job.specs.Lines.{pairsBelow, pairAt, cartRow}
+use Rattle.job.specs.Bits.{pairsBelow, pairAt}
 
 next-row : (n : ℕ) → pairsBelow (suc n) ≡ pairsBelow n + suc n
 next-row n = omega arith
@@ -36,28 +36,28 @@ same-corner : (lo hi u n : ℕ) → lo ≤ hi → u ≤ n → pairsBelow hi + lo
 same-corner lo hi u n l k e = let r = same-row lo hi u n l k e in (omega (arith, ap pairsBelow r), r)
 
 -- A pair by its greater cell.
-data Ordered (a b : ℕ) : Type 0 where
-  rising : a ≤ b → pairAt a b ≡ pairsBelow b + a → Ordered a b
-  falling : b ≤ a → pairAt a b ≡ pairsBelow a + b → Ordered a b
+data Corner (a b : ℕ) : Type 0 where
+  rising : a ≤ b → pairAt a b ≡ pairsBelow b + a → Corner a b
+  falling : b ≤ a → pairAt a b ≡ pairsBelow a + b → Corner a b
 
-ordered : (a b : ℕ) → Ordered a b
-ordered a b = go (ltb a b) refl
+corner : (a b : ℕ) → Corner a b
+corner a b = go (ltb a b) refl
   where
-    go : (t : Bool) → ltb a b ≡ t → Ordered a b
+    go : (t : Bool) → ltb a b ≡ t → Corner a b
     go true e = let h = ltb-true a b e in rising (omega arith) (simp e)
     go false e = falling (ltb-false a b e) (simp e)
 
-pub pair-small : (a b : ℕ) → a < maxCells → b < maxCells → pairAt a b < cartRow
-pair-small a b h k = go (ordered a b)
+pub pair-small : (a b : ℕ) → a < maxCells → b < maxCells → pairAt a b < pairsBelow maxCells
+pair-small a b h k = go (corner a b)
   where
-    go : Ordered a b → pairAt a b < cartRow
+    go : Corner a b → pairAt a b < pairsBelow maxCells
     go (rising l e) = rw e (row-ends a b maxCells l k)
     go (falling l e) = rw e (row-ends b a maxCells l h)
 
 pub pair-back : (a b : ℕ) → pairAt a b ≡ pairAt b a
-pair-back a b = go (ordered a b) (ordered b a)
+pair-back a b = go (corner a b) (corner b a)
   where
-    go : Ordered a b → Ordered b a → pairAt a b ≡ pairAt b a
+    go : Corner a b → Corner b a → pairAt a b ≡ pairAt b a
     go (rising l e) (rising k f) = let d : a ≡ b = omega arith in rw d
     go (rising l e) (falling k f) = e ∙ sym f
     go (falling l e) (rising k f) = e ∙ sym f
@@ -65,9 +65,9 @@ pair-back a b = go (ordered a b) (ordered b a)
 
 -- Two pairs at one place are the same pair, maybe the other way round.
 pub pair-same : (a b u v : ℕ) → pairAt a b ≡ pairAt u v → ((a ≡ u) × (b ≡ v)) ⊎ ((b ≡ u) × (a ≡ v))
-pair-same a b u v q = go (ordered a b) (ordered u v)
+pair-same a b u v q = go (corner a b) (corner u v)
   where
-    go : Ordered a b → Ordered u v → ((a ≡ u) × (b ≡ v)) ⊎ ((b ≡ u) × (a ≡ v))
+    go : Corner a b → Corner u v → ((a ≡ u) × (b ≡ v)) ⊎ ((b ≡ u) × (a ≡ v))
     go (rising l e) (rising k f) = let (r, s) = same-corner a b u v l k (sym e ∙ q ∙ f) in inl (r, s)
     go (rising l e) (falling k f) = let (r, s) = same-corner a b v u l k (sym e ∙ q ∙ f) in inr (s, r)
     go (falling l e) (rising k f) = let (r, s) = same-corner b a u v l k (sym e ∙ q ∙ f) in inr (r, s)

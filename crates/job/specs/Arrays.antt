@@ -7,7 +7,6 @@ use Rattle.model.specs.Limits.{maxTracks, maxCarts, maxCalls}
 use Rattle.model.specs.Job as model
 use Rattle.model.specs.Job.{track, call}
 use Rattle.job.specs.declared.state.Job.{Job}
-use Rattle.job.specs.declared.state.Counts.{Counts}
 
 -- the pairs of two lists
 abbrev pub pairs : {A : Type 0} → (ℕ → ℕ → A) → List ℕ → List ℕ → List A
@@ -21,20 +20,6 @@ jobOf s = record {
   tracks = pairs track (take (s .tracks) (s .from)) (take (s .tracks) (s .to));
   carts = take (s .carts) (s .starts);
   calls = pairs call (take (s .calls) (s .lifts)) (take (s .calls) (s .deadlines));
-}
-
--- the arrays of a job while they are filled, with their counts, as a job
-abbrev pub held : Counts → List ℕ → List ℕ → List ℕ → List ℕ → List ℕ → Job
-held c from to starts lifts deadlines = record {
-  cells = c .cells;
-  tracks = c .tracks;
-  from = from;
-  to = to;
-  carts = c .carts;
-  starts = starts;
-  calls = c .calls;
-  lifts = lifts;
-  deadlines = deadlines;
 }
 
 -- The counts keep within the arrays.

@@ -1,6 +1,4 @@
-// The reader of job texts: one pass over the text, into a job by value.
+// A job as arrays, its last step and least buffers, and a table of bits.
 pub mod bits;
-pub mod line;
-pub mod read;
 pub mod size;
 pub mod state;

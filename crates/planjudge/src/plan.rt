@@ -1,8 +1,8 @@
 // Whether paths are a plan in the order of the sheet: each a walk of its cart to its call, no two sharing a cell or trading places.
 use floor::order::sooner;
 use job::bits;
+use job::bits::pair;
 use job::state::Job;
-use job::state::pair;
 use model::Limits;
 use model::bytes::wide;
 ghost use Prim.Native.Nat.{ℕ, _+_, _*_, _<_, _≤_};
@@ -15,10 +15,9 @@ ghost use Rattle.model.specs.Plan.{Path};
 ghost use Rattle.model.specs.Ready.{Ready};
 ghost use Rattle.model.specs.ReadSheet.{knownPath};
 ghost use Rattle.model.specs.Contracts.{RightPlan};
-ghost use Rattle.job.specs.Bits.{bitAt};
+ghost use Rattle.job.specs.Bits.{bitAt, pairsBelow};
 ghost use Rattle.job.specs.Arrays.{jobOf, Sized};
 ghost use Rattle.job.specs.Held.{Room, pathsTo, Decides};
-ghost use Rattle.job.specs.Lines.{pairsBelow};
 ghost use Rattle.planjudge.specs.PlanTests.{cellOf, Fits, Below, Ordered, Marks, Goes, Walks, Led, AllLed, Unshared, Trades, Untraded, Clear, Standing};
 
 // In the place of a path's number: no path.

@@ -1,9 +1,9 @@
 // Reads examples on standard input and writes for each its label and what the reader answers: the number and line of a refusal, or "accepted".
 // An example is a line of `%` and a label, and then the job, up to the next `%`.
-use job::read::Verdict;
 use libc::STDIN_FILENO;
 use libc::STDOUT_FILENO;
 use model::answer::number;
+use reader::read::Verdict;
 ghost use mathlib.Core.Path.{_≡_};
 ghost use Prim.Native.Nat.{_≤_};
 ghost use lib.ListN.{length};
@@ -39,7 +39,7 @@ fn say(verdict: Verdict) {
 fn example(label: &[u8], text: &[u8]) {
     io::write_all(STDOUT_FILENO, label);
     io::write_all(STDOUT_FILENO, b"\t");
-    let reading = job::read::read(text);
+    let reading = reader::read::read(text);
     let verdict = reading.verdict;
     say(verdict);
     io::write_all(STDOUT_FILENO, b"\n");

@@ -7,7 +7,7 @@ use lib.ListN.{length}
 use Rattle.model.specs.ReadJob.{accepted}
 use Rattle.model.specs.Contracts.{checkVerdict}
 use Rattle.job.specs.Arrays.{jobOf}
-use Rattle.job.specs.Reading.{Bounded}
+use Rattle.reader.specs.Reading.{Bounded}
 use Rattle.cartfloor.proofs.Verdicts.{turned, let-through, ready, cleared, back-checked, passed-checked, failed-checked}
 use borrow.Author.Needs.{needs}
 use Rattle.cartfloor.proofs.check.cartfloor_check.Statement.{statement}

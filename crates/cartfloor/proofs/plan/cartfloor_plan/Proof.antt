@@ -10,7 +10,7 @@ use Rattle.model.specs.Job.{sheetLeast}
 use Rattle.model.specs.ReadJob.{accepted}
 use Rattle.model.specs.Contracts.{withRoom, checkVerdict}
 use Rattle.job.specs.Arrays.{jobOf}
-use Rattle.job.specs.Reading.{Bounded}
+use Rattle.reader.specs.Reading.{Bounded}
 use Rattle.cartfloor.proofs.Verdicts.{turned, let-through, stored, ready, short-room, long-room, cleared, back-planned, written-planned}
 use borrow.Author.Needs.{needs}
 use Rattle.cartfloor.proofs.plan.cartfloor_plan.Statement.{statement}

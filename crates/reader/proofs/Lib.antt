@@ -1,0 +1,4 @@
+pub mod Tests
+pub mod Noted
+pub mod Entries
+pub mod Turns

@@ -1,0 +1,106 @@
+-- `put_line` adds the line to the job that the arrays hold: it stores the numbers at the count of their kind and counts one more. There is
+-- room, so the count is within the array. Assumes nothing.
+use Prim.Native.Nat.{_<_}
+use native.Mathlib.Omega.{arith}
+use denote.Ref.{now}
+use lib.ListN.{length, length-set}
+use Rattle.model.specs.Limits.{maxTracks, maxCarts, maxCalls}
+use Rattle.model.specs.Job.{track, call}
+use Rattle.job.specs.declared.state.Job.{Job}
+use Rattle.reader.specs.Lines.{held}
+use Rattle.job.proofs.Pairs.{first-more, pairs-more}
+use Rattle.job.proofs.Arrays.{Whole, whole, tracks-room, carts-room, calls-room}
+use borrow.Author.Needs.{needs}
+use Rattle.reader.proofs.fill.put_line.Statement.{statement}
+use Rattle.reader.proofs.fill.put_line.Tie as tie
+
+-- The job that the arrays hold at first, and that they are long enough for it.
+abbrev job : tie.Start → Job
+job s = held (s .args .counts) (now (s .args .from)) (now (s .args .to)) (now (s .args .starts)) (now (s .args .lifts)) (now (s .args .deadlines))
+
+spacious : (s : tie.Start) → Whole (job s)
+spacious s = whole (job s) (s .pre .sized) (s .pre .long)
+
+returns : tie.Need-returns
+returns c = record { adds = rw (c .enum-told .given .1); sized = search needs; long = search needs }
+
+cast-from : tie.Need-cast-from
+cast-from c = let s = rw (c .enum-told2 .given .1) at (c .before .before .pre .small) in omega arith
+
+element-write-from : tie.Need-element-write-from
+element-write-from c = let s = c .before .before in tracks-room (job s) (spacious s) (rw (c .enum-told2 .given .1) at (s .pre .room))
+
+cast-to : tie.Need-cast-to
+cast-to c = let s = rw (c .enum-told2 .given .1) at (c .before .before .pre .small) in omega arith
+
+returns-2 : tie.Need-returns-2
+returns-2 c =
+    let s = c .before .before in
+    let j = job s in
+    let room : j .tracks < maxTracks = element-write-from c in
+    let h : j .tracks < length (j .from) = omega (arith, s .pre .long .from) in
+    let k : j .tracks < length (j .to) = omega (arith, s .pre .long .to) in
+    record {
+      adds = rw (c .enum-told2 .given .1, pairs-more track (j .from) (j .to) (j .tracks) (s .args .a) (s .args .b) h k);
+      sized = record { tracks = omega arith; carts = search needs; calls = search needs };
+      long = record {
+        from = simp length-set (s .pre .long .from);
+        to = simp length-set (s .pre .long .to);
+        starts = search needs;
+        lifts = search needs;
+        deadlines = search needs;
+      };
+    }
+
+cast-starts : tie.Need-cast-starts
+cast-starts c = let s = rw (c .enum-told3 .given .1) at (c .before .before .pre .small) in omega arith
+
+element-write-starts : tie.Need-element-write-starts
+element-write-starts c = let s = c .before .before in carts-room (job s) (spacious s) (rw (c .enum-told3 .given .1) at (s .pre .room))
+
+returns-3 : tie.Need-returns-3
+returns-3 c =
+    let s = c .before .before in
+    let j = job s in
+    let room : j .carts < maxCarts = element-write-starts c in
+    let h : j .carts < length (j .starts) = omega (arith, s .pre .long .starts) in
+    record {
+      adds = rw (c .enum-told3 .given .1, first-more (j .starts) (j .carts) (s .args .a) h);
+      sized = record { tracks = search needs; carts = omega arith; calls = search needs };
+      long = record { from = search needs; to = search needs; starts = simp length-set (s .pre .long .starts); lifts = search needs; deadlines = search needs };
+    }
+
+cast-lifts : tie.Need-cast-lifts
+cast-lifts c = let s = rw (c .enum-told4 .given .1) at (c .before .before .pre .small) in omega arith
+
+element-write-lifts : tie.Need-element-write-lifts
+element-write-lifts c = let s = c .before .before in calls-room (job s) (spacious s) (rw (c .enum-told4 .given .1) at (s .pre .room))
+
+cast-deadlines : tie.Need-cast-deadlines
+cast-deadlines c = let s = rw (c .enum-told4 .given .1) at (c .before .before .pre .small) in omega arith
+
+returns-4 : tie.Need-returns-4
+returns-4 c =
+    let s = c .before .before in
+    let j = job s in
+    let room : j .calls < maxCalls = element-write-lifts c in
+    let h : j .calls < length (j .lifts) = omega (arith, s .pre .long .lifts) in
+    let k : j .calls < length (j .deadlines) = omega (arith, s .pre .long .deadlines) in
+    record {
+      adds = rw (c .enum-told4 .given .1, pairs-more call (j .lifts) (j .deadlines) (j .calls) (s .args .a) (s .args .b) h k);
+      sized = record { tracks = search needs; carts = search needs; calls = omega arith };
+      long = record {
+        from = search needs;
+        to = search needs;
+        starts = search needs;
+        lifts = simp length-set (s .pre .long .lifts);
+        deadlines = simp length-set (s .pre .long .deadlines);
+      };
+    }
+
+pub put-line-spec : {M : Type 1} → statement M
+put-line-spec =
+    tie.close
+    (tie.spec
+    (λ c. search needs) returns (λ c. search needs) cast-from element-write-from cast-to element-write-from (λ c. search needs) returns-2 (λ c. search needs) cast-starts
+    element-write-starts (λ c. search needs) returns-3 (λ c. search needs) cast-lifts element-write-lifts cast-deadlines element-write-lifts (λ c. search needs) returns-4)

@@ -1,0 +1,51 @@
+-- `is_new` asks the table, whose bit at a line's place tells whether the line is there already. Assumes nothing.
+use mathlib.Core.Path.{ap, _∙_}
+use mathlib.Core.Bool.{not}
+use native.Mathlib.Omega.{arith}
+use borrow.Author.Needs.{needs}
+use Rattle.reader.proofs.line.is_new.Statement.{statement}
+use Rattle.reader.proofs.line.is_new.Tie as tie
+mod Places
+use Places.*
+
+is-new-track-requires : tie.Need-is-new-track-requires
+is-new-track-requires c κs = let s = rw (c .enum-told2 .given .1) at (c .before .before .before .pre .0) in (s .0, s .1, enum-told2→start c .pre .1)
+
+add-has : tie.Need-add-has
+add-has c = let s = rw (c .enum-told3 .given .1) at (c .before .before .before .pre .0) in omega arith
+
+has-requires : tie.Need-has-requires
+has-requires c κs = let s = rw (c .enum-told3 .given .1) at (c .before .before .before .pre .0) in omega arith
+
+add-has-2 : tie.Need-add-has-2
+add-has-2 c = let s = rw (c .enum-told4 .given .1) at (c .before .before .before .pre .0) in omega arith
+
+has-requires-2 : tie.Need-has-requires-2
+has-requires-2 c κs = let s = rw (c .enum-told4 .given .1) at (c .before .before .before .pre .0) in omega arith
+
+returns : tie.Need-returns
+returns c = λ j m. rw (c .enum-told .given .1)
+
+returns-2 : tie.Need-returns-2
+returns-2 c = λ j m. rw (is-new-track→enum-told2 c .enum-told2 .given .1) (c .is-new-track .ensures j m)
+
+returns-3 : tie.Need-returns-3
+returns-3 c =
+    λ j m.
+    let a = has→start c .args .a in
+    let s = rw (has→enum-told3 c .enum-told3 .given .1) at (c .before .before .before .before .pre .0) in
+    rw (has→enum-told3 c .enum-told3 .given .1) (ap not (c .has .ensures ∙ m .carts a s))
+
+returns-4 : tie.Need-returns-4
+returns-4 c =
+    λ j m.
+    let a = has2→start c .args .a in
+    let s = rw (has2→enum-told4 c .enum-told4 .given .1) at (c .before .before .before .before .pre .0) in
+    rw (has2→enum-told4 c .enum-told4 .given .1) (ap not (c .has2 .ensures ∙ m .calls a (s .0)))
+
+pub is-new-spec : {M : Type 1} → statement M
+is-new-spec =
+    tie.close
+    (tie.spec
+    (λ c. search needs) (λ c. search needs) is-new-track-requires (λ c. search needs) add-has has-requires (λ c. search needs) add-has-2 has-requires-2 returns returns-2 returns-3
+    returns-4)
