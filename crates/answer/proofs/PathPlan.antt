@@ -31,13 +31,13 @@ use Rattle.answer.proofs.Calls.{node-read}
 use Rattle.answer.proofs.Rising.{rising-once, precedes-on, precedes-apart}
 
 -- The first i paths are traced.
-pub record Written (j : Job) (order s first lasts rows : List ℕ) (i : ℕ) : Type 0 where
+pub record PathsTraced (j : Job) (order s first lasts rows : List ℕ) (i : ℕ) : Type 0 where
   pub room : Room first order lasts rows
   pub short : (m : ℕ) → m < i → getD lasts m 0 < maxSteps
   pub traced : (m : ℕ) → m < i → Traced j (backFrom j s) (pathAt first order lasts rows m)
 
-pub written-none : {j : Job} {order s first lasts rows : List ℕ} → Room first order lasts rows → Written j order s first lasts rows 0
-written-none r = record { room = r; short = λ m h. absurd (omega arith); traced = λ m h. absurd (omega arith) }
+pub traced-none : {j : Job} {order s first lasts rows : List ℕ} → Room first order lasts rows → PathsTraced j order s first lasts rows 0
+traced-none r = record { room = r; short = λ m h. absurd (omega arith); traced = λ m h. absurd (omega arith) }
 
 -- The row that is lent for a path.
 pub row-long : {first order lasts rows : List ℕ} {i : ℕ} → Room first order lasts rows → i < maxCalls
@@ -98,10 +98,10 @@ module _ {j : Job} {lifts deadlines : List ℕ} {calls : ℕ} {cartOn order : Li
             starts = c .1 ∙ tr .begins ∙ sym (getD-take (suc d) row 0 0 (omega arith));
           }
 
-      pub written-more : {first lasts rows : List ℕ} → Written j order s first lasts rows i
+      pub traced-more : {first lasts rows : List ℕ} → PathsTraced j order s first lasts rows i
           → length row ≡ length (take (i * maxSteps + maxSteps - i * maxSteps) (drop (i * maxSteps) rows))
-          → Written j order s (set first i (getD cartOn r 0 - 1)) (set lasts i (getD deadlines u 0)) (withRow rows i row) (i + 1)
-      written-more {first} {lasts} {rows} w same = rw (← deadline) (record {
+          → PathsTraced j order s (set first i (getD cartOn r 0 - 1)) (set lasts i (getD deadlines u 0)) (withRow rows i row) (i + 1)
+      traced-more {first} {lasts} {rows} w same = rw (← deadline) (record {
         room = rw kept at (room-more (w .room) row i cart (q i) d slot same);
         short = λ m h. short m h (dec-lt m i);
         traced = λ m h. traced m h (dec-lt m i);
@@ -123,7 +123,7 @@ module _ {j : Job} {lifts deadlines : List ℕ} {calls : ℕ} {cartOn order : Li
 
   -- All paths are written.
   module _ {first lasts rows : List ℕ} where
-    pub right-plan : {m : ℕ} → m ≡ calls → Written j order s first lasts rows m → RightPlan j (pathsTo first order lasts rows (length (j .calls)))
+    pub right-plan : {m : ℕ} → m ≡ calls → PathsTraced j order s first lasts rows m → RightPlan j (pathsTo first order lasts rows (length (j .calls)))
     right-plan {m} e w = (
       flow-plan j (g .holds .ready) (stood-flow (g .holds .flow)) (stood-calm (backLink j s)) (λ q h. stood-ends (g .holds .flow) (nodeOf q) (g .full q h)) ps
           (paths-length first order lasts rows all) own (λ p i. traced p (paths-in first order lasts rows all p i)),

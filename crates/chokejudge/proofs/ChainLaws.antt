@@ -7,7 +7,7 @@ use native.Mathlib.Omega.{arith}
 use native.Mathlib.Nat.{eq-or-lt-of-le}
 use lib.ListN.{length, getD, set, replicate, length-set, length-replicate}
 use Rattle.model.specs.Limits.{maxCalls, maxSteps}
-use Rattle.floor.proofs.TableLaws.{Entry, new, old, entry, zeros}
+use Rattle.floor.proofs.TableLaws.{AfterSet, new, old, after-set, zeros}
 use Rattle.chokejudge.specs.Chains.{LastOf, Chains}
 use Rattle.chokejudge.proofs.Numbers.{below-or}
 
@@ -35,15 +35,15 @@ module _ (keys : List ℕ) (n : ℕ) where
   chains-more latest before h g r = record {
     steps = length-set latest (getD keys n 0) (n + 1) ∙ r .steps;
     calls = length-set before n (getD latest (getD keys n 0) 0) ∙ r .calls;
-    last = λ t b. last t b (entry latest (getD keys n 0) (n + 1) t (omega (arith, r .steps)));
-    back = λ k b. back k b (entry before n (getD latest (getD keys n 0) 0) k (omega (arith, r .calls)));
+    last = λ t b. last t b (after-set latest (getD keys n 0) (n + 1) t (omega (arith, r .steps)));
+    back = λ k b. back k b (after-set before n (getD latest (getD keys n 0) 0) k (omega (arith, r .calls)));
   }
     where
-      last : (t : ℕ) → t < maxSteps → Entry latest (getD keys n 0) (n + 1) t → LastOf keys (n + 1) t (getD (set latest (getD keys n 0) (n + 1)) t 0)
+      last : (t : ℕ) → t < maxSteps → AfterSet latest (getD keys n 0) (n + 1) t → LastOf keys (n + 1) t (getD (set latest (getD keys n 0) (n + 1)) t 0)
       last t b (new e f) = rw (f, e) last-here
       last t b (old e f) = rw f (last-older t (getD latest t 0) e (r .last t b))
 
-      back : (k : ℕ) → k < n + 1 → Entry before n (getD latest (getD keys n 0) 0) k → LastOf keys k (getD keys k 0) (getD (set before n (getD latest (getD keys n 0) 0)) k 0)
+      back : (k : ℕ) → k < n + 1 → AfterSet before n (getD latest (getD keys n 0) 0) k → LastOf keys k (getD keys k 0) (getD (set before n (getD latest (getD keys n 0) 0)) k 0)
       back k b (new e f) = rw (f, e) (r .last (getD keys n 0) g)
       back k b (old e f) = rw f (r .back k (⊎-elim (λ z. absurd (e z)) (λ l. l) (eq-or-lt-of-le {n = k} {m = n} (omega arith))))
 

@@ -23,8 +23,7 @@ use Rattle.job.proofs.Pairs.{in-pairs, pairs-count}
 use Rattle.job.proofs.Arrays.{Whole, in-carts, in-calls, calls-count}
 use Rattle.floor.specs.Tables.{Near}
 use Rattle.floor.proofs.JobTables.{arc-even, near-even}
-use Rattle.chokejudge.specs.ChokeLayers.{Placed, Choked, Layer, Met}
-use Rattle.chokejudge.proofs.Ranges.{Side}
+use Rattle.chokejudge.specs.ChokeLayers.{Placed, Choked, Side, Reached, SomeCallIn}
 use Rattle.chokejudge.proofs.LayerLaws.{layer-known}
 use Rattle.chokejudge.proofs.ChokeWalks.{Free, point-eq, chokes}
 
@@ -42,25 +41,26 @@ module _ (s : Job) (w : Whole s) (ready : Ready (jobOf s)) {near begin : List �
         back : Choked cells steps n t v → In (point v t) (pointsOf cells steps n)
         back (k, b, (e, f)) = in-pairs point cells steps n h g (point v t) .1 (k, b, point-eq (point v t) (getD cells k 0) (getD steps k 0) (sym f) (sym e))
 
-    abbrev Reached : ℕ → ℕ → Type 0
-    Reached = Layer (Placed (s .starts) (s .carts)) (Side near begin) (Choked cells steps n)
+    -- the layers by the arrays
+    abbrev InLayer : ℕ → ℕ → Type 0
+    InLayer = Reached near begin (s .starts) (s .carts) cells steps n
 
-    known : (t v : ℕ) → Reached t v → v < s .cells
+    known : (t v : ℕ) → InLayer t v → v < s .cells
     known = layer-known (Placed (s .starts) (s .carts)) (Side near begin) (Choked cells steps n) (s .cells) (λ v p. rw (sym (p .2)) (carts-known (p .0) (p .1)))
         (λ c h. r .all c c h (inl refl)) (near-even r)
 
-    free : (t v : ℕ) → Reached t v ↔ Free (jobOf s) (pointsOf cells steps n) t v
+    free : (t v : ℕ) → InLayer t v ↔ Free (jobOf s) (pointsOf cells steps n) t v
     free zero v = (λ p. (in-carts s w v .1 (p .0), λ q. p .1 (choked 0 v .0 q)), λ p. (in-carts s w v .0 (p .0), λ q. p .1 (choked 0 v .1 q)))
     free (suc t) v = (λ p. there p (λ u. free t u .0), λ p. back p (λ u. free t u .1))
       where
-        there : Reached (suc t) v → ((u : ℕ) → Reached t u → Free (jobOf s) (pointsOf cells steps n) t u) → Free (jobOf s) (pointsOf cells steps n) (suc t) v
+        there : InLayer (suc t) v → ((u : ℕ) → InLayer t u → Free (jobOf s) (pointsOf cells steps n) t u) → Free (jobOf s) (pointsOf cells steps n) (suc t) v
         there ((u, f, p), q) is = ((u, is u f, arc-even (jobOf s) v u (r .only u v (known t u f) p)), λ o. q (choked (suc t) v .0 o))
 
-        back : Free (jobOf s) (pointsOf cells steps n) (suc t) v → ((u : ℕ) → Free (jobOf s) (pointsOf cells steps n) t u → Reached t u) → Reached (suc t) v
+        back : Free (jobOf s) (pointsOf cells steps n) (suc t) v → ((u : ℕ) → Free (jobOf s) (pointsOf cells steps n) t u → InLayer t u) → InLayer (suc t) v
         back ((u, f, p), q) is = ((u, is u f, r .all u v (known t u (is u f)) (arc-even (jobOf s) u v p)), λ o. q (choked (suc t) v .1 o))
 
     -- a call that is reached refutes the list
-    pub chokes-wrong : Met (s .lifts) (s .deadlines) (s .calls) Reached → RightChokes (jobOf s) (pointsOf cells steps n) → ⊥
+    pub chokes-wrong : SomeCallIn (s .lifts) (s .deadlines) (s .calls) InLayer → RightChokes (jobOf s) (pointsOf cells steps n) → ⊥
     chokes-wrong (k, b, p) o =
         let q : Call = call (getD (s .lifts) k 0) (getD (s .deadlines) k 0) in
         chokes (jobOf s) (pointsOf cells steps n) .1 (o .0 .chokes) q (in-calls s w q .1 (k, b, refl)) (free (q .deadline) (q .cell) .0 p)
@@ -77,7 +77,7 @@ module _ (s : Job) (w : Whole s) (ready : Ready (jobOf s)) {near begin : List �
       points-known k b = seen (point (getD cells k 0) (getD steps k 0)) (in-pairs point cells steps n h g (point (getD cells k 0) (getD steps k 0)) .1 (k, b, refl)) .0
 
       -- a list that no call refutes is right
-      pub chokes-right : (Met (s .lifts) (s .deadlines) (s .calls) Reached → ⊥) → n < s .calls → ChokesInOrder (pointsOf cells steps n) → RightChokes (jobOf s) (pointsOf cells steps n)
+      pub chokes-right : (SomeCallIn (s .lifts) (s .deadlines) (s .calls) InLayer → ⊥) → n < s .calls → ChokesInOrder (pointsOf cells steps n) → RightChokes (jobOf s) (pointsOf cells steps n)
       chokes-right out few order =
           (record { known = seen; few = omega (arith, few, pairs-count point cells steps n h g, calls-count s w); chokes = chokes (jobOf s) (pointsOf cells steps n) .0 none }, order)
         where

@@ -30,7 +30,7 @@ module _ (j : Job) (xs : List Point) where
       ((getD w t 0, walk-free c w m k out t (omega arith), k .steps t h), λ p. out (point (getD w (suc t) 0) (suc t), p, (h, refl)))
 
   -- a walk to v that stands on no point
-  record Clear (t v : ℕ) : Type 0 where
+  record Unstopped (t v : ℕ) : Type 0 where
     pub cart : ℕ
     pub cells : List ℕ
     pub known : In cart (j .carts)
@@ -39,8 +39,8 @@ module _ (j : Job) (xs : List Point) where
     pub ends : getD cells t 0 ≡ v
     pub out : StandsOn cells xs → ⊥
 
-  clear-none : (v : ℕ) → Free 0 v → Clear 0 v
-  clear-none v (m, n) = record {
+  unstopped-none : (v : ℕ) → Free 0 v → Unstopped 0 v
+  unstopped-none v (m, n) = record {
     cart = v;
     cells = v ∷ [];
     known = m;
@@ -55,7 +55,7 @@ module _ (j : Job) (xs : List Point) where
           let z : x .step ≡ 0 = omega arith in
           n (rw (point-eq x v 0 (sym (rw z at e)) z) at p)
 
-  module _ (t u v : ℕ) (a : Clear t u) (s : Step j t u v) (n : In (point v (suc t)) xs → ⊥) where
+  module _ (t u v : ℕ) (a : Unstopped t u) (s : Step j t u v) (n : In (point v (suc t)) xs → ⊥) where
     more : List ℕ
     more = a .cells ++ (v ∷ [])
 
@@ -83,8 +83,8 @@ module _ (j : Job) (xs : List Point) where
         (λ l. a .out (x, p, (omega (arith, a .size), sym (older (x .step) l) ∙ e)))
         (eq-or-lt-of-le {n = x .step} {m = suc t} (omega (arith, size)))
 
-    clear-more : Clear (suc t) v
-    clear-more = record {
+    unstopped-more : Unstopped (suc t) v
+    unstopped-more = record {
       cart = a .cart;
       cells = more;
       known = a .known;
@@ -94,9 +94,9 @@ module _ (j : Job) (xs : List Point) where
       out = out;
     }
 
-  free-clear : (t v : ℕ) → Free t v → Clear t v
-  free-clear zero v f = clear-none v f
-  free-clear (suc t) v ((u, f, s), n) = clear-more t u v (free-clear t u f) s n
+  free-unstopped : (t v : ℕ) → Free t v → Unstopped t v
+  free-unstopped zero v f = unstopped-none v f
+  free-unstopped (suc t) v ((u, f, s), n) = unstopped-more t u v (free-unstopped t u f) s n
 
   pub chokes : ((q : Call) → In q (j .calls) → Free (q .deadline) (q .cell) → ⊥) ↔ Chokes j xs
   chokes = (there, back)
@@ -110,5 +110,5 @@ module _ (j : Job) (xs : List Point) where
 
       back : Chokes j xs → (q : Call) → In q (j .calls) → Free (q .deadline) (q .cell) → ⊥
       back all q p f =
-          let a = free-clear (q .deadline) (q .cell) f in
+          let a = free-unstopped (q .deadline) (q .cell) f in
           a .out (all (a .cart) (a .known) q p (a .cells) (a .walks) (record { size = a .size; ends = a .ends }))

@@ -6,7 +6,7 @@ use mathlib.Core.Logic.{⊎-elim, _⊎_, _↔_, inl, inr}
 use native.Mathlib.Omega.{arith}
 use native.Mathlib.Nat.{eq-or-lt-of-le}
 use lib.ListN.{length, getD, set, length-set}
-use Rattle.floor.proofs.TableLaws.{Entry, new, old, entry}
+use Rattle.floor.proofs.TableLaws.{AfterSet, new, old, after-set}
 use Rattle.chokejudge.specs.ChokeLayers.{Choked}
 use Rattle.chokejudge.specs.Grown.{Between, Cleared, Climbs, Cursor}
 use Rattle.chokejudge.proofs.Numbers.{below-or}
@@ -19,16 +19,16 @@ pub cleared-more : (cells : List ℕ) (a i : ℕ) (l₀ l : List ℕ) → a ≤ 
     → Cleared (Between cells a (i + 1)) l₀ (set l (getD cells i 0) 0)
 cleared-more cells a i l₀ l h g r = record {
   size = length-set l (getD cells i 0) 0 ∙ r .size;
-  gone = λ v p. gone v (entry l (getD cells i 0) 0 v g) (between-more cells a i v h .0 p);
-  each = λ v. each v (entry l (getD cells i 0) 0 v g);
+  gone = λ v p. gone v (after-set l (getD cells i 0) 0 v g) (between-more cells a i v h .0 p);
+  each = λ v. each v (after-set l (getD cells i 0) 0 v g);
 }
   where
-    gone : (v : ℕ) → Entry l (getD cells i 0) 0 v → Between cells a i v ⊎ (getD cells i 0 ≡ v) → getD (set l (getD cells i 0) 0) v 0 ≡ 0
+    gone : (v : ℕ) → AfterSet l (getD cells i 0) 0 v → Between cells a i v ⊎ (getD cells i 0 ≡ v) → getD (set l (getD cells i 0) 0) v 0 ≡ 0
     gone v (new e f) p = f
     gone v (old e f) (inl p) = f ∙ r .gone v p
     gone v (old e f) (inr p) = absurd (e (sym p))
 
-    each : (v : ℕ) → Entry l (getD cells i 0) 0 v → (getD (set l (getD cells i 0) 0) v 0 ≡ getD l₀ v 0) ⊎ Between cells a (i + 1) v
+    each : (v : ℕ) → AfterSet l (getD cells i 0) 0 v → (getD (set l (getD cells i 0) 0) v 0 ≡ getD l₀ v 0) ⊎ Between cells a (i + 1) v
     each v (new e f) = inr (between-more cells a i v h .1 (inr (sym e)))
     each v (old e f) = ⊎-elim (λ z. inl (f ∙ z)) (λ p. inr (between-more cells a i v h .1 (inl p))) (r .each v)
 

@@ -9,7 +9,7 @@ use lib.ListN.{length, getD, set, length-set}
 use lib.Seq.{getD-set-same, getD-set-other}
 use Rattle.model.specs.Limits.{maxCells}
 use Rattle.job.specs.Held.{Some}
-use Rattle.floor.proofs.TableLaws.{Entry, new, old, entry}
+use Rattle.floor.proofs.TableLaws.{AfterSet, new, old, after-set}
 use Rattle.chokejudge.specs.Grown.{Between, Older, Roomy, Grown}
 use Rattle.chokejudge.proofs.Numbers.{zero-or}
 use Rattle.chokejudge.proofs.Ranges.{some-more, between-more}
@@ -36,17 +36,17 @@ grown-one s l queue n v p h g z = record {
   places = length-set queue n v;
   more = omega arith;
   count = omega (arith, members-add l v s h z p);
-  kept = λ x q. kept x q (entry l v s x h);
-  only = λ x e q. only x e q (entry l v s x h);
+  kept = λ x q. kept x q (after-set l v s x h);
+  only = λ x e q. only x e q (after-set l v s x h);
   all = λ x e. rw e (omega (arith, getD-set-same l v s 0 h));
   front = λ k q. getD-set-other queue n k v 0 (λ e. omega arith);
 }
   where
-    kept : (x : ℕ) → 0 < getD l x 0 → Entry l v s x → getD (set l v s) x 0 ≡ getD l x 0
+    kept : (x : ℕ) → 0 < getD l x 0 → AfterSet l v s x → getD (set l v s) x 0 ≡ getD l x 0
     kept x q (new e f) = absurd (omega (arith, ap (λ y. getD l y 0) e))
     kept x q (old e f) = f
 
-    only : (x : ℕ) → getD l x 0 ≡ 0 → 0 < getD (set l v s) x 0 → Entry l v s x → (getD (set l v s) x 0 ≡ s) × (x ≡ v) × Between (set queue n v) n (n + 1) x
+    only : (x : ℕ) → getD l x 0 ≡ 0 → 0 < getD (set l v s) x 0 → AfterSet l v s x → (getD (set l v s) x 0 ≡ s) × (x ≡ v) × Between (set queue n v) n (n + 1) x
     only x e q (new d f) = (f, d, (n, omega arith, omega arith, getD-set-same queue n v 0 g ∙ sym d))
     only x e q (old d f) = absurd (omega arith)
 

@@ -13,7 +13,7 @@ use Rattle.chokejudge.proofs.Numbers.{zero-or}
 
 module _ (First : ℕ → Type 0) (Side Choke : ℕ → ℕ → Type 0) where
   -- The table at step t. The queue has the cells that were added at this step.
-  pub record Stands (t : ℕ) (l queue : List ℕ) (head tail : ℕ) : Type 0 where
+  pub record LayerTable (t : ℕ) (l queue : List ℕ) (head tail : ℕ) : Type 0 where
     pub layer : (v : ℕ) → (0 < getD l v 0) ↔ Layer First Side Choke t v
     pub stamps : (v : ℕ) → getD l v 0 ≤ t + 1
     pub settled : (u v : ℕ) → 0 < getD l u 0 → Side u v → (0 < getD l v 0) ⊎ (Choke t v ⊎ Between queue head tail u)
@@ -22,8 +22,8 @@ module _ (First : ℕ → Type 0) (Side Choke : ℕ → ℕ → Type 0) where
   left : {P : ℕ → Type 0} {l l′ : List ℕ} → Cleared P l l′ → (v : ℕ) → 0 < getD l′ v 0 → (getD l′ v 0 ≡ getD l v 0) × (P v → ⊥)
   left k v p = (⊎-elim (λ e. e) (λ q. absurd (omega (arith, k .gone v q))) (k .each v), λ q. omega (arith, k .gone v q))
 
-  pub stands-first : (l₀ l l′ queue₀ queue : List ℕ) (n : ℕ) → ((v : ℕ) → getD l₀ v 0 ≡ 0) → Grown 1 First l₀ queue₀ 0 l queue n → Cleared (Choke 0) l l′ → Stands 0 l′ queue 0 n
-  stands-first l₀ l l′ queue₀ queue n z g k = record {
+  pub layer-table-first : (l₀ l l′ queue₀ queue : List ℕ) (n : ℕ) → ((v : ℕ) → getD l₀ v 0 ≡ 0) → Grown 1 First l₀ queue₀ 0 l queue n → Cleared (Choke 0) l l′ → LayerTable 0 l′ queue 0 n
+  layer-table-first l₀ l l′ queue₀ queue n z g k = record {
     layer = λ v. (there v, λ f. ⊎-elim (λ e. omega (arith, g .all v (f .0))) (λ q. absurd (f .1 q)) (k .each v));
     stamps = λ v. stamp v (zero-or (getD l′ v 0));
     settled = λ u v p s. inr (inr (g .only u (z u) (omega (arith, left k u p .0)) .2));
@@ -46,7 +46,7 @@ module _ (First : ℕ → Type 0) (Side Choke : ℕ → ℕ → Type 0) where
     Added t l queue head tail v = (Choke t v × ((x : ℕ) × Side v x × Older l (t + 1 + 1) x)) ⊎ ((u : ℕ) × Between queue head tail u × (Older l (t + 1 + 1) u × Side u v))
 
     module _ (t : ℕ) (choke : (v : ℕ) → Choke t v → v < floor) (l queue l₁ queue₁ l₂ : List ℕ) (head tail n₁ : ℕ)
-        (st : Stands t l queue head tail)
+        (st : LayerTable t l queue head tail)
         (g : Grown (t + 1 + 1) (Added t l queue head tail) l queue tail l₁ queue₁ n₁)
         (k : Cleared (Choke (t + 1)) l₁ l₂) where
       older : (u : ℕ) → 0 < getD l u 0 → Older l (t + 1 + 1) u
@@ -92,8 +92,8 @@ module _ (First : ℕ → Type 0) (Side Choke : ℕ → ℕ → Type 0) where
           go (inl e) = inr (inr (g .only u e (omega (arith, left k u p .0)) .2))
           go (inr h) = ⊎-elim (λ e. inl (omega (arith, spread u v h s))) (λ q. inr (inl q)) (k .each v)
 
-      pub stands-next : Stands (t + 1) l₂ queue₁ tail n₁
-      stands-next = record {
+      pub layer-table-next : LayerTable (t + 1) l₂ queue₁ tail n₁
+      layer-table-next = record {
         layer = λ v. rw add-one (there v, back v);
         stamps = λ v. stamp v (zero-or (getD l₂ v 0)) (zero-or (getD l v 0));
         settled = settled;

@@ -9,7 +9,6 @@ use lib.ListN.{length, getD}
 use Rattle.model.specs.Lists.{In}
 use Rattle.model.proofs.Lists.{in-getD, in-place}
 use Rattle.job.specs.Held.{Some}
-use Rattle.floor.specs.Tables.{rowOf}
 use Rattle.chokejudge.specs.Grown.{Between}
 
 module _ (P : ℕ → Type 0) where
@@ -32,10 +31,6 @@ between-more l a i v h = (there, back)
     back : Between l a i v ⊎ (getD l i 0 ≡ v) → Between l a (i + 1) v
     back (inl (k, lo, hi, e)) = (k, lo, omega arith, e)
     back (inr e) = (i, h, omega arith, e)
-
--- x is in row c.
-abbrev pub Side : List ℕ → List ℕ → ℕ → ℕ → Type 0
-Side near begin c x = In x (rowOf near begin c)
 
 pub in-some : (l : List ℕ) (v : ℕ) → Some (length l) (λ k. getD l k 0 ≡ v) ↔ In v l
 in-some l v = (λ p. rw (sym (p .2)) (in-getD l (p .0) 0 (p .1)), λ m. let (k, h, e) = in-place v l 0 m in (k, h, sym e))

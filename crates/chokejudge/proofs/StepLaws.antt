@@ -12,20 +12,16 @@ use Rattle.model.specs.Job.{Job}
 use Rattle.job.specs.Held.{Some}
 use Rattle.floor.specs.Tables.{Near}
 use Rattle.floor.proofs.JobTables.{near-even}
-use Rattle.chokejudge.specs.ChokeLayers.{Placed, Choked, Layer, Met}
+use Rattle.chokejudge.specs.ChokeLayers.{Placed, Choked, Side, Reached, SomeCallIn}
 use Rattle.chokejudge.specs.Grown.{Between, Older, Again, Onward, Roomy, Grown, Cleared, Cursor, members, queueSize}
-use Rattle.chokejudge.proofs.Ranges.{Side}
 use Rattle.chokejudge.proofs.GrownLaws.{grown-as}
 use Rattle.chokejudge.proofs.ClearedLaws.{cleared-as, cursor-first, points-of}
-use Rattle.chokejudge.proofs.LayerLaws.{Stands, stands-first, stands-next, layer-known}
+use Rattle.chokejudge.proofs.LayerLaws.{LayerTable, layer-table-first, layer-table-next, layer-known}
 
 module _ (near begin starts : List ℕ) (carts : ℕ) (cells steps : List ℕ) (n : ℕ) where
-  abbrev pub Reached : ℕ → ℕ → Type 0
-  Reached = Layer (Placed starts carts) (Side near begin) (Choked cells steps n)
-
   -- The table, the queue from `head` to before `tail`, and the points of step t from `opens` to before `end`.
   pub record Holding (t : ℕ) (since queue : List ℕ) (head tail opens end : ℕ) : Type 0 where
-    pub stands : Stands (Placed starts carts) (Side near begin) (Choked cells steps n) t since queue head tail
+    pub stands : LayerTable (Placed starts carts) (Side near begin) (Choked cells steps n) t since queue head tail
     pub size : length since ≡ maxCells
     pub places : length queue ≡ queueSize
     pub ends : tail ≤ members since + end
@@ -46,7 +42,7 @@ module _ {near begin starts : List ℕ} {carts : ℕ} {cells steps : List ℕ} {
   pub holding-first : {l₀ queue₀ l queue l′ : List ℕ} {tail end : ℕ} → ((v : ℕ) → getD l₀ v 0 ≡ 0) → length l₀ ≡ maxCells → length queue₀ ≡ queueSize
       → Grown 1 (Placed starts carts) l₀ queue₀ 0 l queue tail → Gone cells steps n 0 0 l l′ end → Holding near begin starts carts cells steps n 0 l′ queue 0 tail 0 end
   holding-first {l₀} {queue₀} {l} {queue} {l′} {tail} {end} z h p g k = record {
-    stands = stands-first (Placed starts carts) (Side near begin) (Choked cells steps n) l₀ l l′ queue₀ queue tail z g
+    stands = layer-table-first (Placed starts carts) (Side near begin) (Choked cells steps n) l₀ l l′ queue₀ queue tail z g
         (cleared-as (points-of steps n 0 0 (cursor-first steps n) cells end (k .1)) (k .2));
     size = k .2 .size ∙ g .cells ∙ h;
     places = g .places ∙ p;
@@ -75,7 +71,7 @@ module _ {near begin starts : List ℕ} {carts : ℕ} {cells steps : List ℕ} {
           → Grown (t + 1 + 1) (λ v. Again near begin cells opens end since (t + 1 + 1) v ⊎ Onward near begin queue head tail since (t + 1 + 1) v) since queue tail l₁ queue₁ n₁
           → Gone cells steps n (t + 1) end l₁ l₂ end′ → Holding near begin starts carts cells steps n (t + 1) l₂ queue₁ tail n₁ end end′
       holding-next points-known {l₁} {queue₁} {l₂} {n₁} {end′} g k = record {
-        stands = stands-next (Placed starts carts) (Side near begin) (Choked cells steps n) (j .cells) first-known (λ c h. f .all c c h (inl refl)) (near-even f)
+        stands = layer-table-next (Placed starts carts) (Side near begin) (Choked cells steps n) (j .cells) first-known (λ c h. f .all c c h (inl refl)) (near-even f)
             t (λ v p. rw (sym (p .2 .1)) (points-known (p .0) (p .1))) since queue l₁ queue₁ l₂ head tail n₁ (h .stands)
             (grown-as (λ v. (⊎-elim (λ p. inl (at v .0 (p .0), p .1)) (λ p. inr p), ⊎-elim (λ p. inl (at v .1 (p .0), p .1)) (λ p. inr p))) g)
             (cleared-as (points-of steps n (t + 1) end (h .to) cells end′ (k .1)) (k .2));
@@ -96,8 +92,8 @@ module _ {near begin starts : List ℕ} {carts : ℕ} {cells steps : List ℕ} {
       abbrev pub Now : Type 0
       Now = Some calls (λ k. (getD deadlines k 0 ≡ t) × (0 < getD since (getD lifts k 0) 0))
 
-      pub met : Now → Met lifts deadlines calls (Reached near begin starts carts cells steps n)
-      met (k, b, (e, p)) = (k, b, rw e (h .stands .layer (getD lifts k 0) .0 p))
+      pub call-in : Now → SomeCallIn lifts deadlines calls (Reached near begin starts carts cells steps n)
+      call-in (k, b, (e, p)) = (k, b, rw e (h .stands .layer (getD lifts k 0) .0 p))
 
       pub unmet-more : (Now → ⊥) → Unmet (Reached near begin starts carts cells steps n) lifts deadlines calls t → Unmet (Reached near begin starts carts cells steps n) lifts deadlines calls (t + 1)
       unmet-more out u k b d r = ⊎-elim

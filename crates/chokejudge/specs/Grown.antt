@@ -5,8 +5,7 @@ use mathlib.Core.List.{List, [], _∷_}
 use mathlib.Core.Logic.{_⊎_}
 use lib.ListN.{length, getD}
 use Rattle.model.specs.Limits.{maxCells, maxCalls}
-use Rattle.model.specs.Lists.{In}
-use Rattle.floor.specs.Tables.{rowOf}
+use Rattle.chokejudge.specs.ChokeLayers.{Side}
 
 -- no cell is added again before a choke point has taken it out
 abbrev pub queueSize : ℕ
@@ -28,11 +27,11 @@ Older l s v = (0 < getD l v 0) × (getD l v 0 < s)
 
 -- v is one of the points from a to before b, and an older cell leads to it.
 abbrev pub Again : List ℕ → List ℕ → List ℕ → ℕ → ℕ → List ℕ → ℕ → ℕ → Type 0
-Again near begin cells a b l s v = Between cells a b v × ((x : ℕ) × In x (rowOf near begin v) × Older l s x)
+Again near begin cells a b l s v = Between cells a b v × ((x : ℕ) × Side near begin v x × Older l s x)
 
 -- An older cell of the queue from a to before b leads to v.
 abbrev pub Onward : List ℕ → List ℕ → List ℕ → ℕ → ℕ → List ℕ → ℕ → ℕ → Type 0
-Onward near begin queue a b l s v = (u : ℕ) × Between queue a b u × (Older l s u × In v (rowOf near begin u))
+Onward near begin queue a b l s v = (u : ℕ) × Between queue a b u × (Older l s u × Side near begin u v)
 
 -- The table and the queue have room for a cell more.
 pub record Roomy (l queue : List ℕ) (n : ℕ) : Type 0 where

@@ -19,8 +19,8 @@ ghost use Rattle.model.specs.ReadSheet.{knownPoint};
 ghost use Rattle.model.specs.Contracts.{RightChokes};
 ghost use Rattle.job.specs.Arrays.{jobOf, Sized};
 ghost use Rattle.job.specs.Held.{pointsOf, Decides};
-ghost use Rattle.floor.specs.Tables.{rowOf, Near};
-ghost use Rattle.chokejudge.specs.ChokeLayers.{Placed, Choked, Layer, Met};
+ghost use Rattle.floor.specs.Tables.{Near};
+ghost use Rattle.chokejudge.specs.ChokeLayers.{Reached, SomeCallIn};
 ghost use Rattle.chokejudge.specs.Grown.{Climbs};
 
 // Whether a point stands before the next: by step, then by cell.
@@ -61,7 +61,7 @@ fn reaches<'a>(
     n: usize,
 ) -> bool
     requires { ⌜ (carts ≤ maxCarts) × (calls ≤ maxCalls) × (n ≤ maxCalls) × (n ≤ length (now cells)) × (n ≤ length (now steps)) × Climbs (now steps) n × ((j : model.Job) × Near j (now near) (now begin) × ((k : ℕ) → k < carts → getD (now starts) k 0 < j .cells) × ((k : ℕ) → k < n → getD (now cells) k 0 < j .cells)) ⌝ }
-    ensures { λ r. ⌜ Decides r (Met (now (lifts .entry)) (now (deadlines .entry)) calls (Layer (Placed (now (starts .entry)) carts) (λ c x. In x (rowOf (now (near .entry)) (now (begin .entry)) c)) (Choked (now (cells .entry)) (now (steps .entry)) n))) ⌝ }
+    ensures { λ r. ⌜ Decides r (SomeCallIn (now (lifts .entry)) (now (deadlines .entry)) calls (Reached (now (near .entry)) (now (begin .entry)) (now (starts .entry)) carts (now (cells .entry)) (now (steps .entry)) n)) ⌝ }
 {
     let last = job::size::horizon(deadlines, calls);
     let mut latest = [0u8; Limits::STEPS];

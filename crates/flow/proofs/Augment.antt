@@ -94,22 +94,22 @@ module _ {N : Type 0} (dec : Discrete N) {G : Graph N} {next prev : N → Link N
       go (yes (inl e)) = through (inl e) (rw e (way .unused))
       go (yes (inr i)) = met (via-on s hs w i)
 
-  data Before (v : N) : Type 0 where
-    unmet : (In v (s ∷ ats hs) → ⊥) → Before v
-    through : In v (s ∷ vias hs) → next v ≡ off → Before v
-    back : (w : N) → In w (s ∷ vias hs) → prev w ≡ to v → Before v
+  data Prior (v : N) : Type 0 where
+    unmet : (In v (s ∷ ats hs) → ⊥) → Prior v
+    through : In v (s ∷ vias hs) → next v ≡ off → Prior v
+    back : (w : N) → In w (s ∷ vias hs) → prev w ≡ to v → Prior v
 
-  before : (v : N) → Before v
-  before v = go (dec-in dec v (s ∷ ats hs))
+  prior : (v : N) → Prior v
+  prior v = go (dec-in dec v (s ∷ ats hs))
     where
-      on : (u w : N) → On s hs u w v → Residual G next prev (arr w) (dep v) → Before v
+      on : (u w : N) → On s hs u w v → Residual G next prev (arr w) (dep v) → Prior v
       on u w o (inl (e, f)) = through (inr (rw e (on-via s hs u w v o))) (rw e f)
       on u w o (inr f) = back w (inr (on-via s hs u w v o)) f
 
-      met : (u : N) × (w : N) × On s hs u w v → Before v
+      met : (u : N) × (w : N) × On s hs u w v → Prior v
       met (u, w, o) = on u w o (arcs G next prev s hs u w v (way .hops) o .1)
 
-      go : Dec (In v (s ∷ ats hs)) → Before v
+      go : Dec (In v (s ∷ ats hs)) → Prior v
       go (no h) = unmet h
       go (yes (inl e)) = through (inl e) (rw e (way .unused))
       go (yes (inr i)) = met (at-on s hs v i)
@@ -131,13 +131,13 @@ module _ {N : Type 0} (dec : Discrete N) {G : Graph N} {next prev : N → Link N
   new-back : (u w : N) → prev′ w ≡ to u → next′ u ≡ to w
   new-back u w h = go (look-prev w)
     where
-      same : (In w (s ∷ vias hs) → ⊥) → next u ≡ to w → Before u → next′ u ≡ to w
+      same : (In w (s ∷ vias hs) → ⊥) → next u ≡ to w → Prior u → next′ u ≡ to w
       same k r (unmet k′) = next-kept dec next s hs u k′ ∙ r
       same k r (through i f) = nope (cc)
       same k r (back w′ i f) = absurd (k (let e : w′ ≡ w = cc (ok .back u w′ f) in rw e at i))
 
       go : Prev w → next′ u ≡ to w
-      go (kept k f) = same k (ok .back u w (cc)) (before u)
+      go (kept k f) = same k (ok .back u w (cc)) (prior u)
       go (begins e f) = cc
       go (frees u′ x o e f) = cc
       go (comes u′ x o ne f) = let e : u ≡ u′ = cc in rw e (out u′ w x o (λ q. ne (cc)))
@@ -156,13 +156,13 @@ module _ {N : Type 0} (dec : Discrete N) {G : Graph N} {next prev : N → Link N
   new-off-next : (v : N) → prev′ v ≡ off → next′ v ≡ off
   new-off-next v h = go (look-prev v)
     where
-      same : (In v (s ∷ vias hs) → ⊥) → next v ≡ off → Before v → next′ v ≡ off
+      same : (In v (s ∷ vias hs) → ⊥) → next v ≡ off → Prior v → next′ v ≡ off
       same k r (unmet k′) = next-kept dec next s hs v k′ ∙ r
       same k r (through i f) = absurd (k i)
       same k r (back w i f) = nope (cc (ok .back v w f))
 
       go : Prev v → next′ v ≡ off
-      go (kept k f) = same k (ok .off-next v (cc)) (before v)
+      go (kept k f) = same k (ok .off-next v (cc)) (prior v)
       go (begins e f) = cc
       go (frees u x o e f) = rw e (out-off u v x o (cc))
       go (comes u x o ne f) = cc
@@ -196,7 +196,7 @@ module _ {N : Type 0} (dec : Discrete N) {G : Graph N} {next prev : N → Link N
       stay h (back x i f) = nope (cc)
 
   pub ends-more : (v : N) → (nextBy dec s hs next v ≡ end) ↔ ((next v ≡ end) ⊎ (v ≡ lastAt s hs))
-  ends-more v = (λ h. only h (look-next v), ⊎-elim (λ h. stay h (before v)) (λ e. rw e (next-last dec next s hs (way .once))))
+  ends-more v = (λ h. only h (look-next v), ⊎-elim (λ h. stay h (prior v)) (λ e. rw e (next-last dec next s hs (way .once))))
     where
       only : next′ v ≡ end → Next v → (next v ≡ end) ⊎ (v ≡ lastAt s hs)
       only h (kept k f) = inl (cc)
@@ -204,7 +204,7 @@ module _ {N : Type 0} (dec : Discrete N) {G : Graph N} {next prev : N → Link N
       only h (frees w x o e f) = nope (cc)
       only h (leads w x o ne f) = nope (cc)
 
-      stay : next v ≡ end → Before v → next′ v ≡ end
+      stay : next v ≡ end → Prior v → next′ v ≡ end
       stay h (unmet k) = next-kept dec next s hs v k ∙ h
       stay h (through i f) = nope (cc)
       stay h (back w i f) = nope (cc (ok .back v w f))

@@ -30,26 +30,26 @@ module _ {N : Type 0} {G : Graph N} {next prev : N → Link N} (ok : Flow G next
   one-line v s s′ h h′ (k, c) (k′, c′) = same-head k k′ v s s′ h h′ (turned k s v c) (turned k′ s′ v c′)
 
   -- v is on a line from a start
-  abbrev pub Led : N → Type 0
-  Led v = (s : N) × Ahead next s v × (prev s ≡ end)
+  abbrev pub FromStart : N → Type 0
+  FromStart v = (s : N) × Ahead next s v × (prev s ≡ end)
 
-  led : (v : N) → (prev v ≡ off → ⊥) → ((u : N) → prev v ≡ to u → Led u) → Led v
-  led v used ih = go (prev v) refl
+  from-start : (v : N) → (prev v ≡ off → ⊥) → ((u : N) → prev v ≡ to u → FromStart u) → FromStart v
+  from-start v used ih = go (prev v) refl
     where
-      longer : (u : N) → prev v ≡ to u → Led u → Led v
+      longer : (u : N) → prev v ≡ to u → FromStart u → FromStart v
       longer u e (s, (k, c), q) = (s, (suc k, chain-more next k s u v c (ok .back u v e)), q)
 
-      go : (l : Link N) → prev v ≡ l → Led v
+      go : (l : Link N) → prev v ≡ l → FromStart v
       go off e = absurd (used e)
       go end e = (v, (0, refl), e)
       go (to u) e = longer u e (ih u e)
 
   module _ {rank : N → ℕ} {H : ℕ} (rk : Ranked G rank H) where
     -- f bounds the layers that are left above.
-    reach : (f : ℕ) (v : N) → H < rank v + f → (prev v ≡ off → ⊥) → Led v
-    reach zero v h used = led v used (λ u e. absurd (omega (arith, rk .falls u v (ok .edge u v (ok .back u v e)), rk .bound u v (ok .edge u v (ok .back u v e)))))
+    reach : (f : ℕ) (v : N) → H < rank v + f → (prev v ≡ off → ⊥) → FromStart v
+    reach zero v h used = from-start v used (λ u e. absurd (omega (arith, rk .falls u v (ok .edge u v (ok .back u v e)), rk .bound u v (ok .edge u v (ok .back u v e)))))
     reach (suc f) v h used =
-        led v used (λ u e. reach f u (omega (arith, rk .falls u v (ok .edge u v (ok .back u v e)))) (λ q. nope (cc (ok .back u v e, ok .off-next u q))))
+        from-start v used (λ u e. reach f u (omega (arith, rk .falls u v (ok .edge u v (ok .back u v e)))) (λ q. nope (cc (ok .back u v e, ok .off-next u q))))
 
-    pub on-line : (v : N) → (prev v ≡ off → ⊥) → Led v
+    pub on-line : (v : N) → (prev v ≡ off → ⊥) → FromStart v
     on-line v used = reach (suc H) v (omega arith) used

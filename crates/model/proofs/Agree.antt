@@ -15,13 +15,7 @@ use Rattle.model.specs.Contracts.{Answers, Judged}
 use Rattle.model.proofs.Floor.{path-known, known-test}
 use Rattle.model.proofs.Written.{few-steps, plan-read, cannot-read}
 
-pub record Within (j : Job) : Type 0 where
-  pub few-steps : horizon j < maxSteps
-
 module _ (j : Job) (f : Fit j) where
-  pub within : Within j
-  within = record { few-steps = few-steps j f }
-
   -- PLAN for a PLAN, CANNOT for a CANNOT
   pub agree : (r : ℕ) (b : List ℕ) → Answers j r b → (a : Answer) × (r ≡ number a + 256 * length b) × Judged j (readSheet j b) (number a)
   agree r b (inl (ps, h, e, g)) =

@@ -119,36 +119,36 @@ dec-row (plans job n m o) = dec-told (planVerdict (bytes job) n m) o
 dec-row (checks job n sheet k) = dec-decided (checkVerdict (bytes job) n) (bytes sheet) k
 
 module _ (job store sheet store′ sheet′ : List ℕ) (r : ℕ) (o : Outcome) (s : ToldShown (planVerdict job (length store) (length sheet)) o) where
-  abbrev pub Kept : Type 0
-  Kept = (r ≡ packed o) × (sheet′ ≡ written o ++ drop (length (written o)) sheet) × (store′ ≡ leaves o store)
+  abbrev pub AsFiled : Type 0
+  AsFiled = (r ≡ packed o) × (sheet′ ≡ written o ++ drop (length (written o)) sheet) × (store′ ≡ leaves o store)
 
-  planned-kept : Planned job store sheet store′ sheet′ r → Kept
-  planned-kept p =
+  planned-filed : Planned job store sheet store′ sheet′ r → AsFiled
+  planned-filed p =
       let (t, (only, left)) = told-holds (planVerdict job (length store) (length sheet)) o s in
       let (e, f) = only r (p .bytes) (p .told) in
       (e, p .sheet-after ∙ ap (λ b. b ++ drop (length b) sheet) f, p .store-after ∙ left store)
 
-  kept-planned : Kept → Planned job store sheet store′ sheet′ r
-  kept-planned (e, f, g) =
+  filed-planned : AsFiled → Planned job store sheet store′ sheet′ r
+  filed-planned (e, f, g) =
       let (t, (only, left)) = told-holds (planVerdict job (length store) (length sheet)) o s in
       record { bytes = written o; told = rw e t; sheet-after = f; store-after = g ∙ sym (left store) }
 
 module _ (job store sheet store′ : List ℕ) (r k : ℕ) (s : Decided (checkVerdict job (length store)) sheet k) where
-  checked-kept : Checked job store sheet store′ r → (r ≡ k) × (store′ ≡ cond (ltb k 2) (zeros store) store)
-  checked-kept p =
+  checked-filed : Checked job store sheet store′ r → (r ≡ k) × (store′ ≡ cond (ltb k 2) (zeros store) store)
+  checked-filed p =
       let e = decided-once (checkVerdict job (length store)) sheet k r s (p .told) in
       (e, p .store-after ∙ ap (λ x. cond (ltb x 2) (zeros store) store) e)
 
-  kept-checked : (r ≡ k) × (store′ ≡ cond (ltb k 2) (zeros store) store) → Checked job store sheet store′ r
-  kept-checked (e, f) = record { told = rw e s; store-after = f ∙ ap (λ x. cond (ltb x 2) (zeros store) store) (sym e) }
+  filed-checked : (r ≡ k) × (store′ ≡ cond (ltb k 2) (zeros store) store) → Checked job store sheet store′ r
+  filed-checked (e, f) = record { told = rw e s; store-after = f ∙ ap (λ x. cond (ltb x 2) (zeros store) store) (sym e) }
 
 pub row-holds : (x : Row) → RowShown x → RowHolds x
 row-holds (plans job n m o) h = λ store sheet store′ sheet′ r e f.
     let s : ToldShown (planVerdict (bytes job) (length store) (length sheet)) o = rw (e, f) h in
-    (planned-kept (bytes job) store sheet store′ sheet′ r o s, kept-planned (bytes job) store sheet store′ sheet′ r o s)
+    (planned-filed (bytes job) store sheet store′ sheet′ r o s, filed-planned (bytes job) store sheet store′ sheet′ r o s)
 row-holds (checks job n sheet k) h = λ store store′ r e.
     let s : Decided (checkVerdict (bytes job) (length store)) (bytes sheet) k = rw e h in
-    (checked-kept (bytes job) store (bytes sheet) store′ r k s, kept-checked (bytes job) store (bytes sheet) store′ r k s)
+    (checked-filed (bytes job) store (bytes sheet) store′ r k s, filed-checked (bytes job) store (bytes sheet) store′ r k s)
 
 pub filed-hold : (x : Row) → In x filed → RowHolds x
 unfolding readJob readSheet

@@ -189,10 +189,10 @@ head-joined word b l s t n e f g = e ∙ ap (λ x. x ++ (10 ∷ s)) f ∙ ap (λ
 module _ {A : Type 0} (say : List ℕ → Option A) (all : List A → Sheet) (word : List ℕ) (numbers : A → List ℕ) (Good : A → Type 0)
     (back : (l : List ℕ) (a : A) → say l ≡ some a → (l ≡ word ++ fields (numbers a)) × Good a)
     (same : (x y : List A) → all x ≡ all y → x ≡ y) (not-bad : (n : ℕ) (x : List A) → bad n ≡ all x → ⊥) where
-  abbrev pub Wrote : List A → List A → ℕ → List ℕ → Type 0
-  Wrote got res k b = (l : List A) × (res ≡ got ++ l) × (length l ≡ k) × (b ≡ linesText word numbers l) × ((a : A) → In a l → Good a)
+  abbrev pub LinesBack : List A → List A → ℕ → List ℕ → Type 0
+  LinesBack got res k b = (l : List A) × (res ≡ got ++ l) × (length l ≡ k) × (b ≡ linesText word numbers l) × ((a : A) → In a l → Good a)
 
-  rest-back : (got res : List A) (k n : ℕ) (ls : Lines) (b : List ℕ) → linesOf b ≡ ls → restSays say all got k n ls ≡ all res → Wrote got res k b
+  rest-back : (got res : List A) (k n : ℕ) (ls : Lines) (b : List ℕ) → linesOf b ≡ ls → restSays say all got k n ls ≡ all res → LinesBack got res k b
   rest-back got res zero n done b q e = ([], sym (same got res e) ∙ sym (append-nil got), refl, lines-done b q, λ a h. absurd h)
   rest-back got res zero n cut b q e = absurd (not-bad n res e)
   rest-back got res zero n (more l ls) b q e = absurd (not-bad n res e)
@@ -202,7 +202,7 @@ module _ {A : Type 0} (say : List ℕ → Option A) (all : List A → Sheet) (wo
     where
       go : (o : Option A) → say l ≡ o → orBad n o (λ a. restSays say all (got ++ (a ∷ [])) k (n + 1) ls) ≡ all res
           → (s : List ℕ) × (b ≡ l ++ (10 ∷ s)) × (linesOf s ≡ ls)
-          → ((g : List A) (s : List ℕ) → linesOf s ≡ ls → restSays say all g k (n + 1) ls ≡ all res → Wrote g res k s) → Wrote got res (suc k) b
+          → ((g : List A) (s : List ℕ) → linesOf s ≡ ls → restSays say all g k (n + 1) ls ≡ all res → LinesBack g res k s) → LinesBack got res (suc k) b
       go none f e m ih = absurd (not-bad n res e)
       go (some a) f e (s, g, h) ih =
           let (as′, r, c, w, t) = ih (got ++ (a ∷ [])) s h e in

@@ -23,7 +23,7 @@ use Rattle.model.proofs.Basics.{nope, and-left, and-right}
 use Rattle.model.proofs.Lists.{in-getD}
 
 -- A line that is right passed its tests.
-pub record Added (j j′ : Job) : Type 0 where
+pub record RightLine (j j′ : Job) : Type 0 where
   pub kind : Kind
   pub a : ℕ
   pub b : ℕ
@@ -40,7 +40,7 @@ cond-right false x a j e = nope (cc)
 right-same : (j k : Job) → right j ≡ right k → j ≡ k
 right-same j k e = cc
 
-numbers-added : (j j′ : Job) (k : Kind) (o : Option (List ℕ)) → mayFollow j k ≡ true → numbersSay j k o ≡ right j′ → Added j j′
+numbers-added : (j j′ : Job) (k : Kind) (o : Option (List ℕ)) → mayFollow j k ≡ true → numbersSay j k o ≡ right j′ → RightLine j j′
 numbers-added j j′ k none f e = nope (cc)
 numbers-added j j′ k (some ns) f e =
     let a = getD ns 0 0 in
@@ -50,16 +50,16 @@ numbers-added j j′ k (some ns) f e =
     let (h₃, e₃) = cond-right (isNew j k a b) _ _ j′ e₂ in
     record { kind = k; a = a; b = b; follows = f; ranged = h₁; room = h₂; new = h₃; so = right-same (add j k a b) j′ e₃ }
 
-fields-added : (j j′ : Job) (k : Kind) (fs : List (List ℕ)) → fieldsSay j k fs ≡ right j′ → Added j j′
+fields-added : (j j′ : Job) (k : Kind) (fs : List (List ℕ)) → fieldsSay j k fs ≡ right j′ → RightLine j j′
 fields-added j j′ k fs e =
     let h = cond-right (mayFollow j k && eqb (length fs) (fieldCount k)) (numbersSay j k (numbersOf fs)) _ j′ e in
     numbers-added j j′ k (numbersOf fs) (and-left (mayFollow j k) (eqb (length fs) (fieldCount k)) (h .0)) (h .1)
 
-line-added : (j j′ : Job) (l : List ℕ) → lineSays j l ≡ right j′ → Added j j′
+line-added : (j j′ : Job) (l : List ℕ) → lineSays j l ≡ right j′ → RightLine j j′
 line-added j j′ l e = go (opens floorWord l) (opens trackWord l) (opens cartWord l) (opens callWord l) e
   where
     go : (t u v w : Bool) → cond t (fieldsSay j floorLine (after floorWord l)) (cond u (fieldsSay j trackLine (after trackWord l))
-        (cond v (fieldsSay j cartLine (after cartWord l)) (cond w (fieldsSay j callLine (after callWord l)) (wrong BadLine)))) ≡ right j′ → Added j j′
+        (cond v (fieldsSay j cartLine (after cartWord l)) (cond w (fieldsSay j callLine (after callWord l)) (wrong BadLine)))) ≡ right j′ → RightLine j j′
     go true u v w e = fields-added j j′ floorLine (after floorWord l) e
     go false true v w e = fields-added j j′ trackLine (after trackWord l) e
     go false false true w e = fields-added j j′ cartLine (after cartWord l) e

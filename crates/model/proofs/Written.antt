@@ -48,9 +48,9 @@ dec-some (some m) n = dec-by (λ e. ap some e) some-some (dec-eq m n)
 pub numeral-good : (n : ℕ) → n < 1000 → (free 9 (numeral n) ≡ true) × ((free 10 (numeral n) ≡ true) × (numberOf (numeral n) ≡ some n))
 numeral-good = decided (all-below (λ n. dec-and (dec-true (free 9 (numeral n))) (dec-and (dec-true (free 10 (numeral n))) (dec-some (numberOf (numeral n)) n))) 1000) tt
 
-abbrev pub Small : List ℕ → Type 0
-Small [] = Unit
-Small (n ∷ ns) = (n < 1000) × Small ns
+abbrev pub AllSmall : List ℕ → Type 0
+AllSmall [] = Unit
+AllSmall (n ∷ ns) = (n < 1000) × AllSmall ns
 
 -- Lines.
 pub lines-line : (l s : List ℕ) → free 10 l ≡ true → linesOf (l ++ (10 ∷ s)) ≡ more l (linesOf s)
@@ -59,11 +59,11 @@ lines-line (b ∷ l) s e =
     let f : eqb b 10 ≡ false = not-true (eqb b 10) (and-left _ _ e) in
     ap (withByte b) (lines-line l s (and-right (not (eqb b 10)) (free 10 l) e)) ∙ ap (λ x. cond x (more [] (more l (linesOf s))) (more (b ∷ l) (linesOf s))) f
 
-fields-free : (ns : List ℕ) → Small ns → free 10 (fields ns) ≡ true
+fields-free : (ns : List ℕ) → AllSmall ns → free 10 (fields ns) ≡ true
 fields-free [] h = refl
 fields-free (n ∷ ns) h = free-append 10 (numeral n) (fields ns) (numeral-good n (h .0) .1 .0) (fields-free ns (h .1))
 
-pub line-read : (word ns s : List ℕ) → free 10 word ≡ true → Small ns → linesOf (line word ns ++ s) ≡ more (word ++ fields ns) (linesOf s)
+pub line-read : (word ns s : List ℕ) → free 10 word ≡ true → AllSmall ns → linesOf (line word ns ++ s) ≡ more (word ++ fields ns) (linesOf s)
 line-read word ns s e h = ap linesOf apart ∙ lines-line (word ++ fields ns) s (free-append 10 word (fields ns) e (fields-free ns h))
   where
     apart : line word ns ++ s ≡ (word ++ fields ns) ++ (10 ∷ s)
@@ -79,22 +79,22 @@ fields-front (b ∷ l) m f fs e h =
 fields-first : (l m : List ℕ) (fs : List (List ℕ)) → free 9 l ≡ true → fieldsOf m ≡ [] ∷ fs → fieldsOf (l ++ m) ≡ l ∷ fs
 fields-first l m fs e h = fields-front l m [] fs e h ∙ ap (λ x. x ∷ fs) (append-nil l)
 
-fields-apart : (ns : List ℕ) → Small ns → fieldsOf (fields ns) ≡ [] ∷ map numeral ns
+fields-apart : (ns : List ℕ) → AllSmall ns → fieldsOf (fields ns) ≡ [] ∷ map numeral ns
 fields-apart [] h = refl
 fields-apart (n ∷ ns) h =
     ap (onField 9) (fields-first (numeral n) (fields ns) (map numeral ns) (numeral-good n (h .0) .0) (fields-apart ns (h .1)))
 
-numbers-read : (ns : List ℕ) → Small ns → numbersOf (map numeral ns) ≡ some ns
+numbers-read : (ns : List ℕ) → AllSmall ns → numbersOf (map numeral ns) ≡ some ns
 numbers-read [] h = refl
 numbers-read (n ∷ ns) h = ap (λ o. andNumber o (numbersOf (map numeral ns))) (numeral-good n (h .0) .1 .1) ∙ ap (andNumber (some n)) (numbers-read ns (h .1))
 
-pub fields-read : (n : ℕ) (ns : List ℕ) → Small (n ∷ ns) → numbersOf (fieldsOf (numeral n ++ fields ns)) ≡ some (n ∷ ns)
+pub fields-read : (n : ℕ) (ns : List ℕ) → AllSmall (n ∷ ns) → numbersOf (fieldsOf (numeral n ++ fields ns)) ≡ some (n ∷ ns)
 fields-read n ns h =
     ap numbersOf (fields-first (numeral n) (fields ns) (map numeral ns) (numeral-good n (h .0) .0) (fields-apart ns (h .1))) ∙ numbers-read (n ∷ ns) h
 
 -- Lines of one kind.
 module _ {A : Type 0} (say : List ℕ → Option A) (all : List A → Sheet) (word : List ℕ) (numbers : A → List ℕ) (Good : A → Type 0)
-    (plain : free 10 word ≡ true) (small : (a : A) → Good a → Small (numbers a)) (said : (a : A) → Good a → say (word ++ fields (numbers a)) ≡ some a) where
+    (plain : free 10 word ≡ true) (small : (a : A) → Good a → AllSmall (numbers a)) (said : (a : A) → Good a → say (word ++ fields (numbers a)) ≡ some a) where
   pub rest-read : (got l : List A) (n : ℕ) → ((a : A) → In a l → Good a)
       → restSays say all got (length l) n (linesOf (linesText word numbers l)) ≡ all (got ++ l)
   rest-read got [] n g = ap all (sym (append-nil got))
@@ -116,7 +116,7 @@ deadline-below : (n : ℕ) (qs : List Call) → 0 < n → ((q : Call) → In q q
 deadline-below n [] p h = p
 deadline-below n (q ∷ qs) p h = omega (arith, h q (inl refl), deadline-below n qs p (λ x m. h x (inr m)))
 
-cells-small : (n : ℕ) (ws : List ℕ) → n ≤ maxCells → allBelow n ws ≡ true → Small ws
+cells-small : (n : ℕ) (ws : List ℕ) → n ≤ maxCells → allBelow n ws ≡ true → AllSmall ws
 cells-small n [] h e = tt
 cells-small n (w ∷ ws) h e = (omega (arith, ltb-true w n (and-left _ _ e)), cells-small n ws h (and-right (ltb w n) (allBelow n ws) e))
 
@@ -124,7 +124,7 @@ module _ (j : Job) (f : Fit j) where
   pub few-steps : horizon j < maxSteps
   few-steps = deadline-below maxSteps (j .calls) (omega arith) (λ q m. f .known-calls q m .1)
 
-  path-small : (p : Path) → knownPath j p ≡ true → Small (pathNumbers p)
+  path-small : (p : Path) → knownPath j p ≡ true → AllSmall (pathNumbers p)
   path-small p e =
       let x₁ = ltb (p .cart) (length (j .carts)) in
       let x₂ = ltb (p .call) (length (j .calls)) in
@@ -148,7 +148,7 @@ module _ (j : Job) (f : Fit j) where
       ∙ all-read (pathLine j) plan pathWord pathNumbers (λ p. knownPath j p ≡ true) refl path-small path-said (λ n. eqb n (length (j .calls))) ps
       (omega (arith, f .few-calls)) (eq-eqb (length ps) (length (j .calls)) e) g
 
-  point-small : (x : Point) → knownPoint j x ≡ true → Small (chokeNumbers x)
+  point-small : (x : Point) → knownPoint j x ≡ true → AllSmall (chokeNumbers x)
   point-small x e = (
     omega (arith, ltb-true (x .cell) (j .cells) (and-left _ _ e), f .few-cells),
     (omega (arith, leb-true (x .step) (horizon j) (and-right (ltb (x .cell) (j .cells)) (leb (x .step) (horizon j)) e), few-steps), tt),

@@ -34,12 +34,12 @@ to-is x (to y) e =
 
 module _ (back : Point → Link Point) where
   -- The cart on v came from u, and the one then on u's cell came from v's. A cart that stood is one of these, with itself.
-  abbrev Trades : Point → Point → Type 0
-  Trades v u = (back v ≡ to u) × (back (point (u .cell) (v .step)) ≡ to (point (v .cell) (u .step)))
+  abbrev TradesAt : Point → Point → Type 0
+  TradesAt v u = (back v ≡ to u) × (back (point (u .cell) (v .step)) ≡ to (point (v .cell) (u .step)))
 
   pub data Meets (v : Point) : Type 0 where
-    trades : (u : Point) → Trades v u → other back v ≡ point (u .cell) (v .step) → Meets v
-    passes : ((u : Point) → Trades v u → ⊥) → other back v ≡ v → Meets v
+    trades : (u : Point) → TradesAt v u → other back v ≡ point (u .cell) (v .step) → Meets v
+    passes : ((u : Point) → TradesAt v u → ⊥) → other back v ≡ v → Meets v
 
   pub meets : (v : Point) → Meets v
   meets v = go (back v) refl
@@ -57,7 +57,7 @@ module _ (back : Point → Link Point) where
   twice v = go (meets v)
     where
       -- the other node of two that trade, and v with it
-      turn : (u : Point) → Trades v u → Meets (point (u .cell) (v .step)) → other back (point (u .cell) (v .step)) ≡ v
+      turn : (u : Point) → TradesAt v u → Meets (point (u .cell) (v .step)) → other back (point (u .cell) (v .step)) ≡ v
       turn u (e, f) (trades w (g, h) q) = let p : w ≡ point (v .cell) (u .step) = to-eq (sym g ∙ f) in q ∙ point-eq (point-cell p) refl
       turn u (e, f) (passes none q) = absurd (none (point (v .cell) (u .step)) (f, e))
 
@@ -73,27 +73,27 @@ module _ (back : Point → Link Point) where
       go (passes none q) = inl q
 
   -- A link now leads to the node's own cell, or where it did, and that in no trade.
-  abbrev Leads : ℕ → ℕ → ℕ → Type 0
-  Leads u w t = (u ≡ w) ⊎ ((back (point u (suc t)) ≡ to (point w t)) × (Trades (point u (suc t)) (point w t) → ⊥))
+  abbrev CalmLink : ℕ → ℕ → ℕ → Type 0
+  CalmLink u w t = (u ≡ w) ⊎ ((back (point u (suc t)) ≡ to (point w t)) × (TradesAt (point u (suc t)) (point w t) → ⊥))
 
-  now-leads : (u w t : ℕ) → stoodBack back (point u (suc t)) ≡ to (point w t) → Leads u w t
+  now-leads : (u w t : ℕ) → stoodBack back (point u (suc t)) ≡ to (point w t) → CalmLink u w t
   now-leads u w t e = go (meets (point u (suc t)))
     where
-      go : Meets (point u (suc t)) → Leads u w t
+      go : Meets (point u (suc t)) → CalmLink u w t
       go (trades x (f, g) q) = inl (point-cell (to-eq (sym g ∙ ap back (sym q) ∙ e)))
       go (passes none q) = inr (ap back (sym q) ∙ e, none (point w t))
 
   pub stood-calm : Calm (stoodBack back)
   stood-calm u w t e f = go (now-leads u w t e) (now-leads w u t f)
     where
-      go : Leads u w t → Leads w u t → u ≡ w
+      go : CalmLink u w t → CalmLink w u t → u ≡ w
       go (inl q) r = q
       go (inr p) (inl q) = sym q
       go (inr (g, none)) (inr (h, _)) = absurd (none (g, h))
 
 module _ {j : Job} {back on : Point → Link Point} (ok : Flow (graph j) back on) where
   -- A cart that stands instead of trading could have: the other one left its cell.
-  stands : (v u : Point) → Trades back v u → Earlier j v (point (v .cell) (u .step))
+  stands : (v u : Point) → TradesAt back v u → Earlier j v (point (v .cell) (u .step))
   stands v u (e, f) =
       let d = ok .edge v u e in
       record {

@@ -15,7 +15,7 @@ use Rattle.model.specs.Ready.{Ready}
 use Rattle.model.specs.ReadSheet.{knownPoint}
 use Rattle.model.proofs.Basics.{nope, and-left, and-right, and-both}
 use Rattle.model.proofs.Floor.{known-test, test-known}
-use Rattle.model.proofs.Agree.{within}
+use Rattle.model.proofs.Written.{few-steps}
 use Rattle.flow.specs.Flow.{Link, off, end, to}
 use Rattle.network.specs.Store.{nodes, gridOf, idx, usedAt, isUsed}
 use Rattle.network.proofs.Points.{to-eq}
@@ -43,7 +43,7 @@ link-same true b′ c x x′ e h = rw (sym e, h refl)
 link-same false b′ c x x′ e h = rw (sym e)
 
 pub few-nodes : (j : Job) → Ready j → nodes j ≤ maxCells * maxSteps
-few-nodes j ready = omega (arith, mul-le-mul-right (j .cells) (within j (ready .fit) .few-steps), ready .fit .few-cells)
+few-nodes j ready = omega (arith, mul-le-mul-right (j .cells) (few-steps j (ready .fit)), ready .fit .few-cells)
 
 module _ (j : Job) (s : List ℕ) (v : Point) where
   abbrev pub useByte : ℕ

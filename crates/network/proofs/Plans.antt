@@ -59,21 +59,21 @@ own-by {A} f g (a ∷ l) h nd = (λ i. twice (in-unmap g (g a) l i), own-by f g 
 
 module _ (j : Job) (r : Ready j) {back on : Point → Link Point} (ok : Flow (graph j) back on) (calm : Calm back)
     (full : (q : Call) → In q (j .calls) → on (point (q .cell) (q .deadline)) ≡ end) where
-  abbrev spot : Path → Point
-  spot p = point (callOf j (p .call) .cell) (callOf j (p .call) .deadline)
+  abbrev goal : Path → Point
+  goal p = point (callOf j (p .call) .cell) (callOf j (p .call) .deadline)
 
   abbrev stand : Path → ℕ → Point
   stand p t = point (getD (p .cells) t 0) t
 
-  begins : (p : Path) → Traced j back p → on (spot p) ≡ end
+  begins : (p : Path) → Traced j back p → on (goal p) ≡ end
   begins p tr = full (callOf j (p .call)) (in-getD (j .calls) (p .call) (call 0 0) (tr .known-call))
 
   -- The path follows the links from its call's node.
-  on-line : (p : Path) → Traced j back p → (k t : ℕ) → t + k ≡ callOf j (p .call) .deadline → Chain back k (spot p) (stand p t)
+  on-line : (p : Path) → Traced j back p → (k t : ℕ) → t + k ≡ callOf j (p .call) .deadline → Chain back k (goal p) (stand p t)
   on-line p tr zero t e =
       let d : t ≡ callOf j (p .call) .deadline = omega arith in
       sym (point-eq (ap (λ i. getD (p .cells) i 0) d ∙ tr .ends) d)
-  on-line p tr (suc k) t e = chain-more back k (spot p) (stand p (suc t)) (stand p t) (on-line p tr k (suc t) (omega arith)) (tr .follows t (omega (arith, tr .size)))
+  on-line p tr (suc k) t e = chain-more back k (goal p) (stand p (suc t)) (stand p t) (on-line p tr k (suc t) (omega arith)) (tr .follows t (omega (arith, tr .size)))
 
   -- Paths that stand on one node are of one call: calls have cells of their own.
   apart : (p q : Path) → Traced j back p → Traced j back q → (t : ℕ) → t < length (p .cells) → t < length (q .cells)
@@ -82,9 +82,9 @@ module _ (j : Job) (r : Ready j) {back on : Point → Link Point} (ok : Flow (gr
       let k = callOf j (p .call) .deadline - t in
       let k′ = callOf j (q .call) .deadline - t in
       let same : stand p t ≡ stand q t = point-eq e refl in
-      let c : Chain back k (spot p) (stand q t) = rw same at (on-line p tr k t (omega (arith, tr .size))) in
+      let c : Chain back k (goal p) (stand q t) = rw same at (on-line p tr k t (omega (arith, tr .size))) in
       place-of (λ q. q .cell) (j .calls) (r .fit .own-lifts) (p .call) (q .call) (call 0 0) (tr .known-call) (tr′ .known-call)
-      (point-cell (one-line ok (stand q t) (spot p) (spot q) (λ u f. nope (cc (begins p tr))) (λ u f. nope (cc (begins q tr′)))
+      (point-cell (one-line ok (stand q t) (goal p) (goal q) (λ u f. nope (cc (begins p tr))) (λ u f. nope (cc (begins q tr′)))
       (k, c) (k′, on-line q tr′ k′ t (omega (arith, tr′ .size)))))
 
   module _ (ps : List Path) (own : NoDup (map (λ p. p .call) ps)) (traced : (p : Path) → In p ps → Traced j back p) where

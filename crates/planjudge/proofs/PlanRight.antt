@@ -23,7 +23,7 @@ use Rattle.job.specs.Arrays.{jobOf}
 use Rattle.job.specs.declared.state.Job.{Job}
 use Rattle.job.specs.Held.{pathAt, pathsTo}
 use Rattle.job.proofs.Triangle.{pair-back}
-use Rattle.planjudge.specs.PlanTests.{cellOf, Fits, Listed, Ordered, Marks, Goes, AllLed, Unshared, Untraded, Clear}
+use Rattle.planjudge.specs.PlanTests.{cellOf, Fits, PairIn, Ordered, Marks, Goes, AllLed, Unshared, Untraded, Clear}
 use Rattle.job.proofs.Arrays.{Whole, calls-count, carts-count, call-at, cart-at, in-tracks, deadline-by}
 use Rattle.job.proofs.Rows.{paths-length, path-at, in-paths, paths-in}
 use Rattle.planjudge.proofs.PlanLaws.{Ranged, known-ranged, nodup-of, cell-at, cells-count}
@@ -140,11 +140,11 @@ module _ {s : Job} {carts calls lasts rows : List ℕ} (g : Given s carts calls 
       )))
 
   -- Walks.
-  track-listed : (u v : ℕ) → In (track u v) (jobOf s .tracks) → Listed (s .from) (s .to) (s .tracks) u v
+  track-listed : (u v : ℕ) → In (track u v) (jobOf s .tracks) → PairIn (s .from) (s .to) (s .tracks) u v
   track-listed u v h =
       let (i, l, e) = in-tracks s (g .full) (track u v) .0 h in (i, l, sym (track-parts e .0), sym (track-parts e .1))
 
-  listed-track : (u v : ℕ) → Listed (s .from) (s .to) (s .tracks) u v → In (track u v) (jobOf s .tracks)
+  listed-track : (u v : ℕ) → PairIn (s .from) (s .to) (s .tracks) u v → In (track u v) (jobOf s .tracks)
   listed-track u v (i, l, e, f) = in-tracks s (g .full) (track u v) .1 (i, l, track-eq (sym e, sym f))
 
   module _ {table : List ℕ} (marks : Marks (s .from) (s .to) (s .tracks) table) where

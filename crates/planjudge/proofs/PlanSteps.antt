@@ -14,12 +14,11 @@ use borrow.Author.Tests.{eqb-true, eqb-false}
 use Rattle.model.specs.Limits.{maxCells, maxCalls}
 use Rattle.model.proofs.Decide.{dec-eq}
 use Rattle.floor.specs.Order.{SoonerIn}
-use Rattle.job.specs.Bits.{bitAt, withBit}
+use Rattle.job.specs.Bits.{bitAt, withBit, pairsBelow, pairAt}
 use Rattle.job.specs.Held.{Decides}
-use Rattle.job.specs.Lines.{pairsBelow, pairAt}
 use Rattle.job.proofs.BitLaws.{bit-set, bit-other}
 use Rattle.job.proofs.Triangle.{pair-small, pair-same}
-use Rattle.planjudge.specs.PlanTests.{cellOf, Ordered, Listed, Marks, Goes, Unshared, Trades, Standing}
+use Rattle.planjudge.specs.PlanTests.{cellOf, Ordered, PairIn, Marks, Goes, Unshared, Trades, Standing}
 
 -- Answers.
 pub told : {P : Type 0} → P → Decides true P
@@ -40,31 +39,31 @@ at-both F e f h = rw (e, f) at h
 
 -- Order.
 module _ (lifts deadlines calls : List ℕ) where
-  abbrev Before : ℕ → ℕ → Type 0
-  Before k m = SoonerIn lifts deadlines (getD calls k 0) (getD calls m 0)
+  abbrev PathBefore : ℕ → ℕ → Type 0
+  PathBefore k m = SoonerIn lifts deadlines (getD calls k 0) (getD calls m 0)
 
-  before-next : (k m l : ℕ) → Before k m → Before m l → Before k l
-  before-next k m l (inl a) (inl b) = inl (omega arith)
-  before-next k m l (inl a) (inr b) = inl (omega arith)
-  before-next k m l (inr a) (inl b) = inl (omega arith)
-  before-next k m l (inr a) (inr b) = inr (omega arith, omega arith)
+  path-before-next : (k m l : ℕ) → PathBefore k m → PathBefore m l → PathBefore k l
+  path-before-next k m l (inl a) (inl b) = inl (omega arith)
+  path-before-next k m l (inl a) (inr b) = inl (omega arith)
+  path-before-next k m l (inr a) (inl b) = inl (omega arith)
+  path-before-next k m l (inr a) (inr b) = inr (omega arith, omega arith)
 
-  before-later : (n : ℕ) → Ordered lifts deadlines calls n → (m k : ℕ) → k < m → m < n → Before k m
-  before-later n o zero k h l = absurd (omega arith)
-  before-later n o (suc m) k h l = go (dec-eq k m) (λ h′. before-later n o m k h′ (omega arith))
+  path-before-all : (n : ℕ) → Ordered lifts deadlines calls n → (m k : ℕ) → k < m → m < n → PathBefore k m
+  path-before-all n o zero k h l = absurd (omega arith)
+  path-before-all n o (suc m) k h l = go (dec-eq k m) (λ h′. path-before-all n o m k h′ (omega arith))
     where
-      next : Before m (suc m)
+      next : PathBefore m (suc m)
       next = rw add-one at (o m (omega arith))
 
-      go : Dec (k ≡ m) → (k < m → Before k m) → Before k (suc m)
+      go : Dec (k ≡ m) → (k < m → PathBefore k m) → PathBefore k (suc m)
       go (yes e) f = rw e next
-      go (no n) f = before-next k m (suc m) (f (omega arith)) next
+      go (no n) f = path-before-next k m (suc m) (f (omega arith)) next
 
   -- no call is twice
   pub other-call : (n : ℕ) → Ordered lifts deadlines calls n → (i k : ℕ) → i < k → k < n → getD calls i 0 ≡ getD calls k 0 → ⊥
-  other-call n o i k a b e = go (before-later n o k i a b)
+  other-call n o i k a b e = go (path-before-all n o k i a b)
     where
-      go : Before i k → ⊥
+      go : PathBefore i k → ⊥
       go (inl l) = omega (arith, ap (λ q. getD deadlines q 0) e)
       go (inr l) = omega arith
 
@@ -83,10 +82,10 @@ module _ (from to : List ℕ) where
     inside : at < 8 * length table
     inside = rw size (pair-small (getD from i 0) (getD to i 0) a b)
 
-    older : (u v : ℕ) → Listed from to i u v → Listed from to (i + 1) u v
+    older : (u v : ℕ) → PairIn from to i u v → PairIn from to (i + 1) u v
     older u v (x, h, f, g) = (x, omega arith, f, g)
 
-    more-all : (u v : ℕ) → u < maxCells → v < maxCells → Listed from to (i + 1) u v → bitAt (withBit table at) (pairAt u v) ≡ true
+    more-all : (u v : ℕ) → u < maxCells → v < maxCells → PairIn from to (i + 1) u v → bitAt (withBit table at) (pairAt u v) ≡ true
     more-all u v c d (x, h, e, f) = go (dec-eq (pairAt u v) at)
       where
         go : Dec (pairAt u v ≡ at) → bitAt (withBit table at) (pairAt u v) ≡ true
@@ -97,14 +96,14 @@ module _ (from to : List ℕ) where
             earlier (yes q) = absurd (n (rw (sym (rw q at e), sym (rw q at f))))
             earlier (no k) = omega arith
 
-    more-only : (u v : ℕ) → u < maxCells → v < maxCells → bitAt (withBit table at) (pairAt u v) ≡ true → Listed from to (i + 1) u v ⊎ Listed from to (i + 1) v u
+    more-only : (u v : ℕ) → u < maxCells → v < maxCells → bitAt (withBit table at) (pairAt u v) ≡ true → PairIn from to (i + 1) u v ⊎ PairIn from to (i + 1) v u
     more-only u v c d e = go (dec-eq (pairAt u v) at)
       where
-        here : ((u ≡ getD from i 0) × (v ≡ getD to i 0)) ⊎ ((v ≡ getD from i 0) × (u ≡ getD to i 0)) → Listed from to (i + 1) u v ⊎ Listed from to (i + 1) v u
+        here : ((u ≡ getD from i 0) × (v ≡ getD to i 0)) ⊎ ((v ≡ getD from i 0) × (u ≡ getD to i 0)) → PairIn from to (i + 1) u v ⊎ PairIn from to (i + 1) v u
         here (inl (p, q)) = inl (i, omega arith, sym p, sym q)
         here (inr (p, q)) = inr (i, omega arith, sym p, sym q)
 
-        go : Dec (pairAt u v ≡ at) → Listed from to (i + 1) u v ⊎ Listed from to (i + 1) v u
+        go : Dec (pairAt u v ≡ at) → PairIn from to (i + 1) u v ⊎ PairIn from to (i + 1) v u
         go (yes q) = here (pair-same u v (getD from i 0) (getD to i 0) q)
         go (no n) = ⊎-elim (λ l. inl (older u v l)) (λ l. inr (older v u l)) (m .only u v c d (sym (bit-other table at inside (pairAt u v) n) ∙ e))
 
@@ -171,19 +170,19 @@ module _ (lasts rows : List ℕ) (t : ℕ) where
       omega (arith, a (getD on (cellOf rows k t) 0) k (omega arith) h d l e)
 
   -- Who meets path k is the path o that is on the cell that it goes to.
-  pub record Met (k o : ℕ) : Type 0 where
+  pub record Facing (k o : ℕ) : Type 0 where
     pub known : o < maxCalls
     pub other : o ≡ k → ⊥
     pub lives : t < getD lasts o 0
     pub back : cellOf rows o (t + 1) ≡ cellOf rows k t
 
   module _ (n k : ℕ) (on : List ℕ) (few : n ≤ maxCalls) (s : Standing lasts rows n t on) (o : ℕ) (e : o ≡ getD on (cellOf rows k (t + 1)) 0) where
-    pub met : Trades lasts rows n t k → Met k o
-    met (m, h, d, l, f, f′) =
+    pub facing : Trades lasts rows n t k → Facing k o
+    facing (m, h, d, l, f, f′) =
         let q : o ≡ m = e ∙ ap (λ c. getD on c 0) (sym f) ∙ s .there m h (omega arith) in
         rw q (record { known = omega arith; other = d; lives = l; back = f′ })
 
-    pub trades-of : cellOf rows k (t + 1) < maxCells → Met k o → Trades lasts rows n t k
+    pub trades-of : cellOf rows k (t + 1) < maxCells → Facing k o → Trades lasts rows n t k
     trades-of c m =
         let b = s .back (cellOf rows k (t + 1)) c (rw e at (m .known)) in
         (o, rw e (b .0), m .other, m .lives, rw e (b .2), m .back)

@@ -5,8 +5,7 @@ use mathlib.Core.List.{List}
 use mathlib.Core.Logic.{_⊎_}
 use mathlib.Core.Bool.{true}
 use lib.ListN.{getD, length}
-use Rattle.job.specs.Bits.{bitAt}
-use Rattle.job.specs.Lines.{pairAt}
+use Rattle.job.specs.Bits.{bitAt, pairAt}
 use Rattle.floor.specs.Order.{SoonerIn}
 use Rattle.model.specs.Limits.{maxCells, maxCalls, maxSteps}
 
@@ -29,13 +28,13 @@ abbrev pub Ordered : List ℕ → List ℕ → List ℕ → ℕ → Type 0
 Ordered lifts deadlines calls n = (k : ℕ) → k + 1 < n → SoonerIn lifts deadlines (getD calls k 0) (getD calls (k + 1) 0)
 
 -- One of the first n pairs of the two lists is u and v.
-abbrev pub Listed : List ℕ → List ℕ → ℕ → ℕ → ℕ → Type 0
-Listed from to n u v = (i : ℕ) × (i < n) × (getD from i 0 ≡ u) × (getD to i 0 ≡ v)
+abbrev pub PairIn : List ℕ → List ℕ → ℕ → ℕ → ℕ → Type 0
+PairIn from to n u v = (i : ℕ) × (i < n) × (getD from i 0 ≡ u) × (getD to i 0 ≡ v)
 
 -- The table's bit is set for each of the first n pairs, either way round, and for no other.
 pub record Marks (from to : List ℕ) (n : ℕ) (table : List ℕ) : Type 0 where
-  pub all : (u v : ℕ) → u < maxCells → v < maxCells → Listed from to n u v → bitAt table (pairAt u v) ≡ true
-  pub only : (u v : ℕ) → u < maxCells → v < maxCells → bitAt table (pairAt u v) ≡ true → Listed from to n u v ⊎ Listed from to n v u
+  pub all : (u v : ℕ) → u < maxCells → v < maxCells → PairIn from to n u v → bitAt table (pairAt u v) ≡ true
+  pub only : (u v : ℕ) → u < maxCells → v < maxCells → bitAt table (pairAt u v) ≡ true → PairIn from to n u v ⊎ PairIn from to n v u
 
 -- By the table, a cart may go from u to v in a step.
 abbrev pub Goes : List ℕ → ℕ → ℕ → Type 0

@@ -40,12 +40,12 @@ use Rattle.route.specs.Serve.{MarksUpTo, Serving, ServedBy}
 use Rattle.planner.specs.Solved.{Begun, ServedAll}
 
 -- The node of the i-th call in the order.
-abbrev nodeAt : Job → List ℕ → ℕ → Point
-nodeAt j order i = nodeOf (callOf j (getD order i 0))
+abbrev orderNode : Job → List ℕ → ℕ → Point
+orderNode j order i = nodeOf (callOf j (getD order i 0))
 
 -- It is the node of one of the first i.
 abbrev Among : Job → List ℕ → ℕ → Point → Type 0
-Among j order i v = (m : ℕ) × (m < i) × (v ≡ nodeAt j order m)
+Among j order i v = (m : ℕ) × (m < i) × (v ≡ orderNode j order m)
 
 -- The flow serves the first i calls of the order and no other.
 pub record SoFar (j : Job) (order s : List ℕ) (g : Grid) (i stamp : ℕ) : Type 0 where
@@ -135,7 +135,7 @@ module _ {j : Job} {lifts deadlines : List ℕ} {calls : ℕ} {near begin due ca
     listed = in-getD (j .calls) q (call 0 0) is-call
 
     -- It is none of those before it: they have other numbers, so other cells.
-    later : Among j order i (nodeAt j order i) → ⊥
+    later : Among j order i (orderNode j order i) → ⊥
     later (m, l, e) =
         let h : m < n = omega (arith, b .listed .counted) in
         let f : getD order m 0 ≡ q = place-of (λ (c : Call). c .cell) (j .calls) (b .ready .fit .own-lifts) (getD order m 0) q (call 0 0) (b .ordered .known m h) is-call (sym (point-cell e)) in
@@ -146,7 +146,7 @@ module _ {j : Job} {lifts deadlines : List ℕ} {calls : ℕ} {near begin due ca
       abbrev x : Point
       x = point p d
 
-      here : x ≡ nodeAt j order i
+      here : x ≡ orderNode j order i
       here = node-read (b .listed) call-known number lift deadline
 
       known : Known j x
@@ -193,7 +193,7 @@ module _ {j : Job} {lifts deadlines : List ℕ} {calls : ℕ} {near begin due ca
               where
                 go : Dec (m < i) → (onLink j s w ≡ end) ⊎ (w ≡ x)
                 go (yes h) = inl (v .served w .1 (m, h, f))
-                go (no h) = let z : m ≡ i = omega arith in inr (f ∙ ap (nodeAt j order) z ∙ sym here)
+                go (no h) = let z : m ≡ i = omega arith in inr (f ∙ ap (orderNode j order) z ∙ sym here)
 
         -- It cannot be served, which ends it.
         pub call-failed : {s′ : List ℕ} {m : ℕ} (answer : Served) → answer ≡ No m → Holds j g s′ × ServedBy j s s′ stamp (point p d) answer → Holds j g s′ × ServedAll j s′ answer

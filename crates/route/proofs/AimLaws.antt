@@ -8,17 +8,17 @@ use Rattle.model.specs.Limits.{maxCells}
 use Rattle.floor.specs.Tables.{Rows, rowOf}
 use Rattle.route.specs.Finds.{Cells}
 use Rattle.route.specs.Queue.{Queue}
-use Rattle.floor.proofs.TableLaws.{Entry, new, old, entry}
+use Rattle.floor.proofs.TableLaws.{AfterSet, new, old, after-set}
 
 pub queue-more : {cells : ℕ} {queue : List ℕ} {end : ℕ} (b : ℕ) → end < cells → b < cells → Queue cells queue end → Queue cells (set queue end b) (end + 1)
 queue-more {cells} {queue} {end} b h g q = record {
   size = length-set queue end b ∙ q .size;
   few = q .few;
   room = omega arith;
-  known = λ i l. known i l (entry queue end b i (omega (arith, q .size, q .few)));
+  known = λ i l. known i l (after-set queue end b i (omega (arith, q .size, q .few)));
 }
   where
-    known : (i : ℕ) → i < end + 1 → Entry queue end b i → getD (set queue end b) i 0 < cells
+    known : (i : ℕ) → i < end + 1 → AfterSet queue end b i → getD (set queue end b) i 0 < cells
     known i l (new e f) = omega arith
     known i l (old e f) = omega (arith, q .known i (omega arith))
 

@@ -11,7 +11,7 @@ use Rattle.model.proofs.Decide.{dec-eq}
 use Rattle.network.specs.Store.{nodes, gridOf, idx, placeAt, usedAt, markAt, nextAt, prevAt, stepAt}
 use Rattle.network.specs.declared.planes.Grid.{Grid}
 use Rattle.network.proofs.StoreBytes.{idx-below, idx-one}
-use Rattle.network.proofs.PlaneLaws.{Wrote, SameStack, Joined, joins}
+use Rattle.network.proofs.PlaneLaws.{SetAt, SameStack, Joined, joins}
 use Rattle.route.specs.Stack.{posAt, viaOf}
 use Rattle.route.specs.Lay.{useOf, joined, laid}
 use Rattle.route.specs.Search.{MarksOr}
@@ -26,7 +26,7 @@ over-none : (k : ℕ) (a b : ℕ → ℕ) (e : ℕ) (f : ℕ → ℕ) → Over k
 over-none k a b e f = record { new = λ m h l. absurd (omega arith); old = λ v l h. refl }
 
 over-more : {k : ℕ} {a b : ℕ → ℕ} {i e : ℕ} {f f′ f″ : ℕ → ℕ} → i < e → ((m : ℕ) → m < e → a m < k) → ((m : ℕ) → i < m → m < e → a m ≡ a i → ⊥)
-    → Over k a b (suc i) e f f′ → Wrote k (a i) (b i) f′ f″ → Over k a b i e f f″
+    → Over k a b (suc i) e f f′ → SetAt k (a i) (b i) f′ f″ → Over k a b i e f f″
 over-more {a = a} {b} {i} {e} {f″ = f″} h small own o w =
     record { new = λ m l g. new m l g (dec-eq m i); old = λ v l g. w .else v l (g i (omega arith) h) ∙ o .old v l (λ m p q. g m (omega arith) q) }
   where
@@ -58,7 +58,7 @@ laid-none g s e = record {
 }
 
 -- Marks that are as they were or 0, after a write of one that is 0.
-pub marks-more : (g : Grid) (s s′ s″ : List ℕ) (w : ℕ) → MarksOr g s s′ 0 → Wrote (g .nodes) w 0 (markAt g s′) (markAt g s″) → MarksOr g s s″ 0
+pub marks-more : (g : Grid) (s s′ s″ : List ℕ) (w : ℕ) → MarksOr g s s′ 0 → SetAt (g .nodes) w 0 (markAt g s′) (markAt g s″) → MarksOr g s s″ 0
 marks-more g s s′ s″ w m e v l = go (dec-eq v w)
   where
     go : Dec (v ≡ w) → (markAt g s″ v ≡ markAt g s v) ⊎ (markAt g s″ v ≡ 0)

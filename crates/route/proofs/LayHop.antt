@@ -15,15 +15,15 @@ use Rattle.route.specs.Stack.{posAt, byWay, viaOf}
 use Rattle.route.specs.Lay.{useOf, joined, laid, Layable}
 
 -- The hop goes from u by way of v to w.
-pub record Read (g : Grid) (s : List ℕ) (i : ℕ) (u v w : Point) : Type 0 where
+pub record HopRead (g : Grid) (s : List ℕ) (i : ℕ) (u v w : Point) : Type 0 where
   pub may : Layable g s i
   pub from : u ≡ posAt g s i
   pub by : v ≡ viaOf g s i
   pub to : w ≡ posAt g s (suc i)
 
-pub read : {g : Grid} {s : List ℕ} {i : ℕ} {u v w : Point} (x : ℕ) → Layable g s i → u .cell ≡ cellAt g s i → u .step ≡ stepAt g s i
-    → w .cell ≡ cellAt g s (i + 1) → w .step ≡ stepAt g s (i + 1) → x ≡ viaAt g s (i + 1) → v ≡ byWay u (w .step) x → Read g s i u v w
-read {g} {s} {i} {u} {v} {w} x m c t c′ t′ e b =
+pub hop-read : {g : Grid} {s : List ℕ} {i : ℕ} {u v w : Point} (x : ℕ) → Layable g s i → u .cell ≡ cellAt g s i → u .step ≡ stepAt g s i
+    → w .cell ≡ cellAt g s (i + 1) → w .step ≡ stepAt g s (i + 1) → x ≡ viaAt g s (i + 1) → v ≡ byWay u (w .step) x → HopRead g s i u v w
+hop-read {g} {s} {i} {u} {v} {w} x m c t c′ t′ e b =
     let from : u ≡ posAt g s i = point-eq c t in
     let step : w .step ≡ stepAt g s (suc i) = rw (add-one i) at t′ in
     let cell : w .cell ≡ cellAt g s (suc i) = rw (add-one i) at c′ in
@@ -44,7 +44,7 @@ via-byte {v} u t c e h l = go (ltb (u .step) t) refl
     go true q = let f : v ≡ u = rw q at e in omega (arith, point-cell f)
     go false q = let f : v ≡ point c (u .step - 1) = rw q at e in omega (arith, point-cell f)
 
-module _ {g : Grid} {s : List ℕ} {i : ℕ} {u v w : Point} (r : Read g s i u v w) where
+module _ {g : Grid} {s : List ℕ} {i : ℕ} {u v w : Point} (r : HopRead g s i u v w) where
   pub here : placeAt g u < g .nodes
   here = rw (r .from) (r .may .here)
 

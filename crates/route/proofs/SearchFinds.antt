@@ -41,19 +41,19 @@ pub in-at : (l : List ℕ) {x : ℕ} (i : ℕ) → x ≡ getD l i 0 → i < leng
 in-at l i e h = rw e (in-getD l i 0 h)
 
 -- By way of the first i cells of the row all is marked.
-abbrev pub Passed : Grid → List ℕ → List ℕ → List ℕ → ℕ → ℕ → ℕ → Type 0
-Passed g s due row t stamp i = (k : ℕ) → k < i → Finds (By g s due (point (getD row k 0) t)) (Stamped g s stamp) Found.Nothing
+abbrev pub RowMarked : Grid → List ℕ → List ℕ → List ℕ → ℕ → ℕ → ℕ → Type 0
+RowMarked g s due row t stamp i = (k : ℕ) → k < i → Finds (By g s due (point (getD row k 0) t)) (Stamped g s stamp) Found.Nothing
 
-module _ (g : Grid) (s due row : List ℕ) (t stamp i : ℕ) (p : Passed g s due row t stamp i) where
-  pub passed-more : (c : ℕ) (r : Found) → c ≡ getD row i 0 → r ≡ Found.Nothing → Finds (By g s due (point c t)) (Stamped g s stamp) r → Passed g s due row t stamp (i + 1)
-  passed-more c r e f h k l = go (decLt k i)
+module _ (g : Grid) (s due row : List ℕ) (t stamp i : ℕ) (p : RowMarked g s due row t stamp i) where
+  pub row-more : (c : ℕ) (r : Found) → c ≡ getD row i 0 → r ≡ Found.Nothing → Finds (By g s due (point c t)) (Stamped g s stamp) r → RowMarked g s due row t stamp (i + 1)
+  row-more c r e f h k l = go (decLt k i)
     where
       go : Dec (k < i) → Finds (By g s due (point (getD row k 0) t)) (Stamped g s stamp) Found.Nothing
       go (yes m) = p k m
       go (no m) = let q : i ≡ k = omega arith in rw q at (rw e at (rw f at h))
 
-  pub passed-all : i ≡ length row → Finds (ByRow g s due row t) (Stamped g s stamp) Found.Nothing
-  passed-all e y via (c, m, b) = let (k, l, f) = in-place c row 0 m in p k (omega arith) y via (rw f at b)
+  pub row-all : i ≡ length row → Finds (ByRow g s due row t) (Stamped g s stamp) Found.Nothing
+  row-all e y via (c, m, b) = let (k, l, f) = in-place c row 0 m in p k (omega arith) y via (rw f at b)
 
 -- What the code reads of a plane at v, where w stands.
 module _ (f : ℕ → ℕ) {v w a b : ℕ} (ev : v ≡ w) (ea : a ≡ f v) where

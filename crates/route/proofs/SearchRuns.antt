@@ -22,7 +22,7 @@ use Rattle.network.specs.Links.{backLink, onLink}
 use Rattle.network.specs.Holds.{Holds, SameFlow}
 use Rattle.network.proofs.Points.{point-eq}
 use Rattle.network.proofs.StoreBytes.{idx-one, idx-below}
-use Rattle.network.proofs.PlaneLaws.{Wrote, Pushed}
+use Rattle.network.proofs.PlaneLaws.{SetAt, Pushed}
 use Rattle.network.proofs.HoldsLaws.{back-same, on-same, holds-same}
 use Rattle.route.specs.Stack.{byWay}
 use Rattle.route.specs.Search.{MarksOr, Fresh, Searched}
@@ -66,7 +66,7 @@ module _ (j : Job) {s t u : List ℕ} where
 marks-then : (j : Job) (s t u : List ℕ) (b : ℕ) → MarksOr (gridOf j) s t b → MarksOr (gridOf j) t u b → MarksOr (gridOf j) s u b
 marks-then j s t u b m n v h = ⊎-elim (λ e. ⊎-elim (λ f. inl (e ∙ f)) (λ f. inr (e ∙ f)) (m v h)) inr (n v h)
 
-wrote-marks : (j : Job) (s t : List ℕ) (w b : ℕ) → Wrote (nodes j) w b (markAt (gridOf j) s) (markAt (gridOf j) t) → MarksOr (gridOf j) s t b
+wrote-marks : (j : Job) (s t : List ℕ) (w b : ℕ) → SetAt (nodes j) w b (markAt (gridOf j) s) (markAt (gridOf j) t) → MarksOr (gridOf j) s t b
 wrote-marks j s t w b p v h = go (ℕ-discrete v w)
   where
     go : Dec (v ≡ w) → (markAt (gridOf j) t v ≡ markAt (gridOf j) s v) ⊎ (markAt (gridOf j) t v ≡ b)

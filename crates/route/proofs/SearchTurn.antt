@@ -11,7 +11,7 @@ use lib.ListN.{getD}
 use borrow.Author.Tests.{eqb-true, eqb-false, not-true, not-false}
 use Rattle.model.specs.Job.{Job}
 use Rattle.model.specs.Choke.{Point, Known}
-use Rattle.model.proofs.Agree.{within}
+use Rattle.model.proofs.Written.{few-steps}
 use Rattle.model.proofs.Lists.{in-getD}
 use Rattle.floor.specs.Tables.{rowOf}
 use Rattle.flow.specs.Flow.{Link}
@@ -66,7 +66,7 @@ pub first-needs : {j : Job} {near begin due cart-on hint s : List ℕ} {g : Grid
 first-needs {j} h =
     let f = h .holds .ready .fit in
     let p = place-below (h .holds) (h .known) in
-    ((h .holds .room, omega arith), p, omega (arith, h .known .0, f .few-cells), omega (arith, h .known .1, within j f .few-steps), omega arith)
+    ((h .holds .room, omega arith), p, omega (arith, h .known .0, f .few-cells), omega (arith, h .known .1, few-steps j f), omega arith)
 
 -- From the first push on.
 module _ {j : Job} {near begin due cart-on hint s s₁ : List ℕ} {g : Grid} {x : Point} (stamp : ℕ) (e : s₁ ≡ pushed g s 0 x 0 stamp)
@@ -186,7 +186,7 @@ module _ {j : Job} {near begin due cart-on hint : List ℕ} {g : Grid} {s₁ s :
           (stands (k .turn) .0 .room, rw (k .turn .for .holds .grid) deep),
           place-below (stands (k .turn) .0) a,
           omega (arith, a .0, f .few-cells),
-          omega (arith, a .1, within j f .few-steps),
+          omega (arith, a .1, few-steps j f),
           omega (arith, via-small, f .few-cells),
         )
 

@@ -16,7 +16,7 @@ use Rattle.model.specs.Text.{isDigit, startsWith, onField, fieldsOf, numberFrom
 use Rattle.model.proofs.Basics.{and-right}
 use Rattle.text.specs.declared.scan.Scan.{Scan}
 use Rattle.text.specs.declared.scan.Scan.the-variants.{Value, Fault}
-use Rattle.text.specs.Scan.{lineOf, fieldOf, scanned, mayFollow, ended}
+use Rattle.text.specs.Scan.{lineOf, fieldOf, scanned, mayGoOn, ended}
 use Rattle.text.proofs.Numbers.{fields-some, fields-tab}
 
 -- A line's end.
@@ -67,7 +67,7 @@ or-true : (x y : Bool) → (x || y) ≡ true → (x ≡ true) ⊎ (y ≡ true)
 or-true true y e = inl refl
 or-true false y e = inr e
 
-pub may-small : (n v : ℕ) → (n ≡ 0 → v ≡ 0) → mayFollow n v ≡ true → v < 100
+pub may-small : (n v : ℕ) → (n ≡ 0 → v ≡ 0) → mayGoOn n v ≡ true → v < 100
 may-small n v z e =
     ⊎-elim
     (λ w. omega (arith, z (eqb-true _ _ w)))
@@ -79,7 +79,7 @@ unfoldable pub scanFrom : ℕ → ℕ → ℕ → List ℕ → Scan
 scanFrom at n v [] = ended at n v
 scanFrom at n v (b ∷ l) =
     cond (eqb b 9) (ended at n v)
-    (cond (isDigit b) (cond (mayFollow n v) (scanFrom (at + 1) 1 (v * 10 + (b - 48)) l) Fault) Fault)
+    (cond (isDigit b) (cond (mayGoOn n v) (scanFrom (at + 1) 1 (v * 10 + (b - 48)) l) Fault) Fault)
 
 module _ (s : List ℕ) (i n v : ℕ) where
   pub scan-end : length s ≤ i → scanFrom i n v (drop i s) ≡ ended i n v
@@ -95,11 +95,11 @@ module _ (s : List ℕ) (i n v : ℕ) where
     unfolding scanFrom
     scan-bad d = rw (drop-cons s i 0) (simp (ne-eqb _ _ t, d))
 
-    pub scan-long : isDigit (getD s i 0) ≡ true → mayFollow n v ≡ false → scanFrom i n v (drop i s) ≡ Fault
+    pub scan-long : isDigit (getD s i 0) ≡ true → mayGoOn n v ≡ false → scanFrom i n v (drop i s) ≡ Fault
     unfolding scanFrom
     scan-long d e = rw (drop-cons s i 0) (simp (ne-eqb _ _ t, d, e))
 
-    pub scan-step : isDigit (getD s i 0) ≡ true → mayFollow n v ≡ true → scanFrom i n v (drop i s) ≡ scanFrom (i + 1) 1 (v * 10 + (getD s i 0 - 48)) (drop (i + 1) s)
+    pub scan-step : isDigit (getD s i 0) ≡ true → mayGoOn n v ≡ true → scanFrom i n v (drop i s) ≡ scanFrom (i + 1) 1 (v * 10 + (getD s i 0 - 48)) (drop (i + 1) s)
     unfolding scanFrom
     scan-step d e = rw (drop-cons s i 0, add-one) (simp (ne-eqb _ _ t, d, e))
 

@@ -28,8 +28,8 @@ unfoldable pub numberAt : List ℕ → ℕ → Scan
 numberAt s at = scanned at (length (fieldOf (drop at s))) (numberOf (fieldOf (drop at s)))
 
 -- a further digit may follow none (n is 0), or digits with a value from 1 to 99
-abbrev pub mayFollow : ℕ → ℕ → Bool
-mayFollow n v = eqb n 0 || (ltb 0 v && ltb v 100)
+abbrev pub mayGoOn : ℕ → ℕ → Bool
+mayGoOn n v = eqb n 0 || (ltb 0 v && ltb v 100)
 
 -- the digits end before `at`: their value is v, and n is 0 where there are none
 abbrev pub ended : ℕ → ℕ → ℕ → Scan

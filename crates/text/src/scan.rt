@@ -4,7 +4,7 @@ ghost use mathlib.Core.Path.{_≡_};
 ghost use Prim.Native.Nat.{_+_, _≤_};
 ghost use lib.ListN.{length, drop};
 ghost use Rattle.model.specs.Text.{isDigit, startsWith, fieldsOf};
-ghost use Rattle.text.specs.Scan.{lineOf, numberAt, mayFollow, ended};
+ghost use Rattle.text.specs.Scan.{lineOf, numberAt, mayGoOn, ended};
 
 // A number and the place after it, or none.
 pub enum Scan {
@@ -83,8 +83,8 @@ fn digit(b: u8) -> bool
 }
 
 // Whether a further digit may follow n digits with the value v.
-fn may_follow(n: usize, v: usize) -> bool
-    ensures { λ r. ⌜ r ≡ mayFollow n v ⌝ }
+fn may_go_on(n: usize, v: usize) -> bool
+    ensures { λ r. ⌜ r ≡ mayGoOn n v ⌝ }
 {
     n == 0 || (0 < v && v < 100)
 }
@@ -113,7 +113,7 @@ pub fn number(s: &[u8], at: usize) -> Scan
         if !digit(b) {
             return Scan::Fault;
         }
-        if !may_follow(n, v) {
+        if !may_go_on(n, v) {
             return Scan::Fault;
         }
         v = v * 10 + (wide(b) - 48);

@@ -4,7 +4,7 @@ use Rattle.answer.specs.Full.{FullFlow}
 use Rattle.answer.specs.Trail.{HasCart}
 use Rattle.model.specs.Job.{Job}
 use Rattle.job.specs.Held.{Room}
-use Rattle.answer.proofs.PathPlan.{Written, call-known, can-follow, few, has-cart, right-plan, row-long, written-more, written-none}
+use Rattle.answer.proofs.PathPlan.{PathsTraced, call-known, can-follow, few, has-cart, right-plan, row-long, traced-more, traced-none}
 use Prim.Native.Nat.{_-_, _<_, _≤_}
 use native.Mathlib.Omega.{arith}
 use lib.ListN.{getD}
@@ -20,7 +20,7 @@ use Places.*
 abbrev Inv-loop : tie.InvT-loop
 Inv-loop lifts deadlines calls cart-on store grid first₀ second lasts₀ rows₀ i₀ first lasts rows i =
     (i ≤ calls) × (calls ≤ maxCalls) × Room first second lasts rows
-    × ((j : Job) → FullFlow j lifts deadlines calls cart-on second grid store → Written j second store first lasts rows i)
+    × ((j : Job) → FullFlow j lifts deadlines calls cart-on second grid store → PathsTraced j second store first lasts rows i)
 
 abbrev μ-loop : tie.MeasureT-loop
 μ-loop lifts deadlines calls cart-on store grid first₀ second lasts₀ rows₀ i₀ first lasts rows i = calls - i
@@ -29,7 +29,7 @@ abbrev Full : tie.Start Inv-loop μ-loop → Job → Type 0
 Full c j = FullFlow j (now (c .args .lifts)) (now (c .args .deadlines)) (c .args .calls) (now (c .args .cart-on)) (now (c .args .second)) (c .args .grid) (now (c .args .store))
 
 loop-holds : tie.Need-loop-holds Inv-loop μ-loop
-loop-holds c = (omega arith, few (slice-known3→start c .pre .0 .1), slice-known3→start c .pre .1, λ j g. written-none (slice-known3→start c .pre .1))
+loop-holds c = (omega arith, few (slice-known3→start c .pre .0 .1), slice-known3→start c .pre .1, λ j g. traced-none (slice-known3→start c .pre .1))
 
 known : (c : tie.After-wide Inv-loop μ-loop) → c .wide .result < maxCalls
 known c = let g = wide→start c .pre .0 .1 in omega (arith, call-known g (wide→in-loop c .loop-test .taken), few g, c .wide .ensures .0)
@@ -72,9 +72,9 @@ loop-again c =
     let (j, g) = lasts→start c .pre .0 in (
       omega arith,
       lasts→loop c .loop .inv .1,
-      written-more g (lasts→in-loop c .loop-test .taken) (lasts→wide c .wide .ensures .0) (lasts→wide2 c .wide2 .ensures .0) (lasts→wide3 c .wide3 .ensures .0)
+      traced-more g (lasts→in-loop c .loop-test .taken) (lasts→wide c .wide .ensures .0) (lasts→wide2 c .wide2 .ensures .0) (lasts→wide3 c .wide3 .ensures .0)
           (lasts→follow c .follow .ensures j (g .holds) (follows (lasts→wide3 c) j g)) (lasts→loop c .loop .inv .3 j g) (lasts→rows c .rows .given .0) .room,
-      λ j g. written-more g (lasts→in-loop c .loop-test .taken) (lasts→wide c .wide .ensures .0) (lasts→wide2 c .wide2 .ensures .0) (lasts→wide3 c .wide3 .ensures .0)
+      λ j g. traced-more g (lasts→in-loop c .loop-test .taken) (lasts→wide c .wide .ensures .0) (lasts→wide2 c .wide2 .ensures .0) (lasts→wide3 c .wide3 .ensures .0)
           (lasts→follow c .follow .ensures j (g .holds) (follows (lasts→wide3 c) j g)) (lasts→loop c .loop .inv .3 j g) (lasts→rows c .rows .given .0),
     )
 

@@ -20,11 +20,11 @@ abbrev Hit : List ℕ → List ℕ → ℕ → Type 0
 Hit lifts since k = 0 < getD since (getD lifts k 0) 0
 
 -- whatever calls the chains are of
-abbrev Looked : List ℕ → List ℕ → List ℕ → List ℕ → ℕ → ℕ → Type 0
-Looked lifts latest before since t h = (deadlines : List ℕ) → (calls : ℕ) → (calls ≤ maxCalls) × Chains deadlines calls latest before → Passed deadlines calls (Hit lifts since) t h
+abbrev ChainPassed : List ℕ → List ℕ → List ℕ → List ℕ → ℕ → ℕ → Type 0
+ChainPassed lifts latest before since t h = (deadlines : List ℕ) → (calls : ℕ) → (calls ≤ maxCalls) × Chains deadlines calls latest before → Passed deadlines calls (Hit lifts since) t h
 
 abbrev Inv-loop : tie.InvT-loop
-Inv-loop lifts latest before t since h₀ h = (t < maxSteps) × (length since ≡ maxCells) × (h ≤ maxCalls) × Looked lifts latest before since t h
+Inv-loop lifts latest before t since h₀ h = (t < maxSteps) × (length since ≡ maxCells) × (h ≤ maxCalls) × ChainPassed lifts latest before since t h
 
 abbrev μ-loop : tie.MeasureT-loop
 μ-loop lifts latest before t since h₀ h = h
@@ -58,7 +58,7 @@ loop-less c =
 
 -- the call that was looked at is not met
 next : (c : tie.After-wide3 Inv-loop μ-loop)
-    → let a = wide3→start c .args in Looked (now (a .lifts)) (now (a .latest)) (now (a .before)) (now (a .since)) (a .t) (c .wide3 .result)
+    → let a = wide3→start c .args in ChainPassed (now (a .lifts)) (now (a .latest)) (now (a .before)) (now (a .since)) (a .t) (c .wide3 .result)
 next c deadlines calls r =
     let l = wide3→loop c .loop in
     let a = wide3→start c .args in

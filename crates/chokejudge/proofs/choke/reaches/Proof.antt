@@ -3,7 +3,7 @@
 use Rattle.model.specs.Job.{horizon}
 use mathlib.Core.Path.{_∙_}
 use Rattle.model.proofs.Basics.{nope}
-use Rattle.chokejudge.proofs.StepLaws.{Holding, Reached, Unmet, holding-first, holding-next, met, older-known, roomy, unmet-more}
+use Rattle.chokejudge.proofs.StepLaws.{Holding, Unmet, holding-first, holding-next, call-in, older-known, roomy, unmet-more}
 use Prim.Native.Nat.{_+_, _-_, _<_, _≤_, ℕ}
 use native.Mathlib.Omega.{arith}
 use Rattle.chokejudge.proofs.ClearedLaws.{cursor-first}
@@ -12,6 +12,7 @@ use Rattle.model.specs.Limits.{maxCells}
 use denote.Ref.{now}
 use Rattle.job.proofs.Arrays.{latest-le}
 use Rattle.floor.proofs.TableLaws.{zeros}
+use Rattle.chokejudge.specs.ChokeLayers.{Reached}
 use borrow.Author.Needs.{needs}
 use Rattle.chokejudge.proofs.choke.reaches.Statement.{statement}
 use Rattle.chokejudge.proofs.choke.reaches.Tie as tie
@@ -48,7 +49,7 @@ has-due-requires c κs =
 returns : tie.Need-returns Inv-loop μ-loop
 returns c =
     let a = then1→start c .args in (
-      λ e. met (then1→loop c .loop .inv .1) (now (a .lifts)) (now (a .deadlines)) (a .calls)
+      λ e. call-in (then1→loop c .loop .inv .1) (now (a .lifts)) (now (a .deadlines)) (a .calls)
           (then1→has-due c .has-due .ensures (now (a .deadlines)) (a .calls) (then1→start c .pre .1, then1→chain c .chain .ensures) .0 (c .if1 .taken)),
       λ e. nope (cc),
     )

@@ -2,7 +2,7 @@
 -- added, and they come behind the end of the queue. The measure is what is left of the queue. Assumes nothing.
 use Rattle.chokejudge.specs.Grown.{Between, Grown, Older, Roomy}
 use mathlib.Core.List.{List}
-use Rattle.chokejudge.proofs.Ranges.{Side}
+use Rattle.chokejudge.specs.ChokeLayers.{Side}
 use Prim.Native.Nat.{_+_, _-_, _≤_, _<_, ℕ}
 use mathlib.Core.Path.{_∙_, _≡_}
 use native.Mathlib.Omega.{arith}
@@ -17,12 +17,12 @@ mod Places
 use Places.*
 
 -- what u leads to, where it is older
-abbrev Ahead : List ℕ → List ℕ → List ℕ → ℕ → ℕ → ℕ → Type 0
-Ahead near begin l s u v = Older l s u × Side near begin u v
+abbrev Spreads : List ℕ → List ℕ → List ℕ → ℕ → ℕ → ℕ → Type 0
+Spreads near begin l s u v = Older l s u × Side near begin u v
 
 abbrev Inv-loop : tie.InvT-loop
 Inv-loop near begin since₀ queue₀ head end tail stamp at₀ i₀ since queue at i =
-    (head ≤ i) × (i ≤ end) × Grown stamp (Each queue₀ head i (Ahead near begin since₀ stamp)) since₀ queue₀ tail since queue at × Roomy since queue at
+    (head ≤ i) × (i ≤ end) × Grown stamp (Each queue₀ head i (Spreads near begin since₀ stamp)) since₀ queue₀ tail since queue at × Roomy since queue at
 
 abbrev μ-loop : tie.MeasureT-loop
 μ-loop near begin since₀ queue₀ head end tail stamp at₀ i₀ since queue at i = end - i
@@ -73,7 +73,7 @@ loop-again c =
     let u = c .before .before .before .wide in
     let e : u .result ≡ getD (now (a .queue)) (l .i) 0 = u .ensures .0 ∙ g .front (l .i) (omega (arith, joined1→start c .pre .3)) in
     let o = c .before .is-older .ensures in
-    let S = Ahead (now (a .near)) (now (a .begin)) (now (a .since)) (a .stamp) in
+    let S = Spreads (now (a .near)) (now (a .begin)) (now (a .since)) (a .stamp) in
     ⊎-elim
     (λ w. (
       omega arith,

@@ -1,6 +1,6 @@
 -- `grow` adds the choke points again, then what the queue leads to. The queue has its old cells still, and the same cells are older. Assumes nothing.
 use Rattle.chokejudge.specs.Grown.{Again}
-use Rattle.chokejudge.proofs.Ranges.{Side}
+use Rattle.chokejudge.specs.ChokeLayers.{Side}
 use Rattle.chokejudge.proofs.GrownLaws.{both, older-same, still-roomy}
 use denote.Ref.{now}
 use borrow.Author.Needs.{needs}

@@ -1,9 +1,8 @@
 -- `rejoin` adds each of the points whose row has an older cell. Invariant: those from `opens` to before k were looked at. What is older stays so, since only cells of this stamp
 -- are added. The measure is what is left of the points. Assumes nothing.
-use Rattle.floor.proofs.OrderLaws.{same}
 use Rattle.chokejudge.specs.Grown.{Between, Grown, Older, Roomy}
 use mathlib.Core.List.{List}
-use Rattle.chokejudge.proofs.Ranges.{Side}
+use Rattle.chokejudge.specs.ChokeLayers.{Side}
 use Prim.Native.Nat.{_+_, _-_, _≤_, _<_, ℕ}
 use mathlib.Core.Path.{_≡_}
 use native.Mathlib.Omega.{arith}

@@ -3,7 +3,7 @@
 use native.Mathlib.Omega.{arith}
 use Rattle.planjudge.proofs.PlanSteps.{denied, same-answer}
 use Rattle.planjudge.proofs.PlanRight.{Given, known-call, known-cart, right-ordered, plan-led, plan-clear, tests-right}
-use Rattle.job.specs.Lines.{pairsBelow}
+use Rattle.job.specs.Bits.{pairsBelow}
 use Rattle.model.specs.Limits.{maxCells}
 use Rattle.job.proofs.BitLaws.{no-bits}
 use Rattle.job.proofs.Arrays.{long, whole, last-deadline}

@@ -7,8 +7,7 @@ use Prim.Native.Nat.{_-_, _*_, _≤_}
 use mathlib.Core.Path.{_≡_, ap, _∙_}
 use lib.ListN.{length, getD}
 use Rattle.model.specs.Limits.{maxCells}
-use Rattle.job.specs.Lines.{pairsBelow}
-use Rattle.job.specs.Bits.{withBit}
+use Rattle.job.specs.Bits.{pairsBelow, withBit}
 use Rattle.job.proofs.BitLaws.{bits-length}
 use Rattle.job.proofs.Triangle.{pair-small}
 use borrow.Author.Needs.{needs}

@@ -3,7 +3,7 @@
 use Prim.Native.Nat.{_+_}
 use mathlib.Core.Path.{_∙_, _≡_, ap, sym}
 use native.Mathlib.Omega.{arith}
-use Rattle.planjudge.proofs.PlanSteps.{by-equal, denied, Met, met, trades-of}
+use Rattle.planjudge.proofs.PlanSteps.{by-equal, denied, Facing, facing, trades-of}
 use Rattle.planjudge.specs.PlanTests.{cellOf, Trades}
 use lib.ListN.{getD}
 use denote.Ref.{now}
@@ -18,10 +18,10 @@ seen : (c : tie.After-wide) → c .wide .result ≡ getD (now (wide→start c .a
 seen c = c .wide .ensures .0 ∙ ap (λ x. getD (now (wide→start c .args .on)) x 0) (wide→cell c .cell .ensures .0)
 
 found : (c : tie.After-wide) → let a = wide→start c .args in
-    Trades (now (a .lasts)) (now (a .rows)) (a .n) (a .t) (a .k) → Met (now (a .lasts)) (now (a .rows)) (a .t) (a .k) (c .wide .result)
+    Trades (now (a .lasts)) (now (a .rows)) (a .n) (a .t) (a .k) → Facing (now (a .lasts)) (now (a .rows)) (a .t) (a .k) (c .wide .result)
 found c =
     let a = wide→start c .args in
-    met (now (a .lasts)) (now (a .rows)) (a .t) (a .n) (a .k) (now (a .on)) (wide→start c .pre .0 .few) (wide→start c .pre .3) (c .wide .result) (seen c)
+    facing (now (a .lasts)) (now (a .rows)) (a .t) (a .n) (a .k) (now (a .on)) (wide→start c .pre .0 .few) (wide→start c .pre .3) (c .wide .result) (seen c)
 
 returns : tie.Need-returns
 returns c = denied (λ m. omega (arith, found (then1→wide c) m .known))

@@ -2,7 +2,7 @@
 use native.Mathlib.Omega.{arith}
 use denote.Ref.{now}
 use Rattle.network.specs.Store.{asPoint}
-use Rattle.route.proofs.LayHop.{Read, read, early, via-byte, here, between, there, room-kept, all-set}
+use Rattle.route.proofs.LayHop.{HopRead, hop-read, early, via-byte, here, between, there, room-kept, all-set}
 use borrow.Author.Needs.{needs}
 use Rattle.route.proofs.augment.lay.Statement.{statement}
 use Rattle.route.proofs.augment.lay.Tie as tie
@@ -10,10 +10,10 @@ mod Places
 use Places.*
 
 read-off : (c : tie.After-by-way)
-    → Read (by-way→start c .args .grid) (now (by-way→start c .args .store)) (by-way→start c .args .i) (asPoint (by-way→position c .position .result)) (asPoint (c .by-way .result))
+    → HopRead (by-way→start c .args .grid) (now (by-way→start c .args .store)) (by-way→start c .args .i) (asPoint (by-way→position c .position .result)) (asPoint (c .by-way .result))
     (asPoint (by-way→position2 c .position2 .result))
 read-off c =
-    read (by-way→via c .via .result) (by-way→start c .pre) (by-way→position c .position .ensures .0) (by-way→position c .position .ensures .1) (by-way→position2 c .position2 .ensures .0)
+    hop-read (by-way→via c .via .result) (by-way→start c .pre) (by-way→position c .position .ensures .0) (by-way→position c .position .ensures .1) (by-way→position2 c .position2 .ensures .0)
     (by-way→position2 c .position2 .ensures .1)
     (by-way→via c .via .ensures .0) (c .by-way .ensures)
 

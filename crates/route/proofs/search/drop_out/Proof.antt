@@ -1,7 +1,7 @@
 -- `drop_out` answers the successor of a used node, unless it is marked; a call's node has none. Where a used node leads is known (HoldsLaws). Assumes nothing.
 use native.Mathlib.Omega.{arith}
 use denote.Ref.{now}
-use Rattle.model.proofs.Agree.{within}
+use Rattle.model.proofs.Written.{few-steps}
 use Rattle.network.specs.Store.{usedAt}
 use Rattle.network.proofs.HoldsLaws.{place-below}
 use Rattle.route.proofs.SearchFinds.{told, after-known, down-none, down-push}
@@ -21,7 +21,7 @@ returns : tie.Need-returns
 returns c = λ y via b. absurd (b .1 (told (usedAt (then1→start c .args .grid) (now (then1→start c .args .store))) (then1→place c .place .ensures) (then1→used c .used .ensures .0) (c .if1 .taken)))
 
 add-step : tie.Need-add-step
-add-step c = let (j, h) = struct-known→start c .pre in omega (arith, h .2 .1, within j (h .0 .ready .fit) .few-steps)
+add-step c = let (j, h) = struct-known→start c .pre in omega (arith, h .2 .1, few-steps j (h .0 .ready .fit))
 
 cast-if2 : tie.Need-cast-if2
 cast-if2 c = omega (arith, c .shared-slice-known3 .given (shared-slice-known3→start c .args .node .cell))

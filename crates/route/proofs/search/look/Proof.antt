@@ -3,7 +3,7 @@ use mathlib.Core.Path.{refl}
 use mathlib.Core.Logic.{inl, inr}
 use native.Mathlib.Omega.{arith}
 use denote.Ref.{now}
-use Rattle.model.proofs.Agree.{within}
+use Rattle.model.proofs.Written.{few-steps}
 use Rattle.network.specs.Store.{asPoint, usedAt, markAt}
 use Rattle.network.proofs.HoldsLaws.{place-below}
 use Rattle.route.proofs.SearchFinds.{told, untold, by-none, by-down}
@@ -32,7 +32,7 @@ cast-if3 : tie.Need-cast-if3
 cast-if3 c = omega (arith, c .shared-slice-known3 .given (shared-slice-known3→start c .args .node .cell))
 
 add-if3 : tie.Need-add-if3
-add-if3 c = let (j, h) = struct-known→start c .pre in omega (arith, h .2 .1, within j (h .0 .ready .fit) .few-steps)
+add-if3 c = let (j, h) = struct-known→start c .pre in omega (arith, h .2 .1, few-steps j (h .0 .ready .fit))
 
 returns-2 : tie.Need-returns-2
 returns-2 c =

@@ -4,7 +4,7 @@ use native.Mathlib.Omega.{arith}
 use denote.Ref.{now}
 use lib.ListN.{length}
 use Rattle.model.specs.Lists.{In}
-use Rattle.route.proofs.SearchFinds.{Passed, found-more, in-at, passed-more, passed-all}
+use Rattle.route.proofs.SearchFinds.{RowMarked, found-more, in-at, row-more, row-all}
 use borrow.Author.Needs.{needs}
 use Rattle.route.proofs.search.scan.Statement.{statement}
 use Rattle.route.proofs.search.scan.Tie as tie
@@ -12,7 +12,7 @@ mod Places
 use Places.*
 
 abbrev Inv-loop : tie.InvT-loop
-Inv-loop store row due grid step stamp i₀ i = (i ≤ length row) × Passed grid store due row step stamp i
+Inv-loop store row due grid step stamp i₀ i = (i ≤ length row) × RowMarked grid store due row step stamp i
 
 abbrev μ-loop : tie.MeasureT-loop
 μ-loop store row due grid step stamp i₀ i = length row - i
@@ -45,7 +45,7 @@ loop-again c =
     let a = enum-told2→start c .args in
     let l = enum-told2→loop c .loop in (
       omega arith,
-      passed-more (a .grid) (now (a .store)) (now (a .due)) (now (a .row)) (a .step) (a .stamp) (l .i) (l .inv .1) (enum-told2→wide c .wide .result) (enum-told2→look c .look .result)
+      row-more (a .grid) (now (a .store)) (now (a .due)) (now (a .row)) (a .step) (a .stamp) (l .i) (l .inv .1) (enum-told2→wide c .wide .result) (enum-told2→look c .look .result)
           (enum-told2→wide c .wide .ensures .0)
           (c .enum-told2 .given .1) (enum-told2→look c .look .ensures),
     )
@@ -54,7 +54,7 @@ returns-2 : tie.Need-returns-2 Inv-loop μ-loop
 returns-2 c =
     let a = after-loop→start c .args in
     let l = after-loop→loop c .loop in
-    passed-all (a .grid) (now (a .store)) (now (a .due)) (now (a .row)) (a .step) (a .stamp) (l .i) (l .inv .1) (omega arith)
+    row-all (a .grid) (now (a .store)) (now (a .due)) (now (a .row)) (a .step) (a .stamp) (l .i) (l .inv .1) (omega arith)
 
 pub scan-spec : {M : Type 1} → statement M
 scan-spec =

@@ -8,7 +8,7 @@ use lib.ListN.{drop, getD, length}
 use mathlib.Core.Bool.{false, true}
 use Rattle.model.specs.Text.{isDigit}
 use Rattle.text.proofs.Steps.{may-small, scan-bad, scan-end, scan-field, scan-long, scan-step, scan-tab, scanFrom}
-use Rattle.text.specs.Scan.{mayFollow, numberAt}
+use Rattle.text.specs.Scan.{mayGoOn, numberAt}
 use borrow.Author.Needs.{needs}
 use borrow.Author.Tests.{not-false, not-true}
 use denote.Ref.{now}
@@ -44,14 +44,14 @@ returns-3 c =
     let l = then3→loop c .loop in
     let s = now (then3→start c .args .s) in
     let d : isDigit (getD s (l .i) 0) ≡ true = sym (then3→digit c .digit .ensures) ∙ not-false (then3→digit c .digit .result) (then3→else2 c .if2 .left) in
-    let e : mayFollow (l .n) (l .v) ≡ false = sym (then3→may-follow c .may-follow .ensures) ∙ not-true (then3→may-follow c .may-follow .result) (c .if3 .taken) in
+    let e : mayGoOn (l .n) (l .v) ≡ false = sym (then3→may-go-on c .may-go-on .ensures) ∙ not-true (then3→may-go-on c .may-go-on .result) (c .if3 .taken) in
     sym (scan-long s (l .i) (l .n) (l .v) (then3→in-loop c .loop-test .taken) (then3→else1 c .if1 .left) d e) ∙ l .inv .2
 
 is-digit : (c : tie.After-wide Inv-loop μ-loop) → isDigit (getD (now (wide→start c .args .s)) (wide→loop c .loop .i) 0) ≡ true
 is-digit c = sym (wide→digit c .digit .ensures) ∙ not-false (wide→digit c .digit .result) (wide→else2 c .if2 .left)
 
-may : (c : tie.After-wide Inv-loop μ-loop) → mayFollow (wide→loop c .loop .n) (wide→loop c .loop .v) ≡ true
-may c = sym (wide→may-follow c .may-follow .ensures) ∙ not-false (wide→may-follow c .may-follow .result) (wide→else3 c .if3 .left)
+may : (c : tie.After-wide Inv-loop μ-loop) → mayGoOn (wide→loop c .loop .n) (wide→loop c .loop .v) ≡ true
+may c = sym (wide→may-go-on c .may-go-on .ensures) ∙ not-false (wide→may-go-on c .may-go-on .result) (wide→else3 c .if3 .left)
 
 low : (c : tie.After-wide Inv-loop μ-loop) → (48 ≤ c .wide .result) × (c .wide .result < 58)
 low c = rw (c .wide .ensures .0) (digit-low _ (is-digit c))

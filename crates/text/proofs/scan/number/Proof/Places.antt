@@ -2,10 +2,10 @@
 -- Made of the code by proof-names, which reads the lists below when the code has changed.
 -- All places in the code's order, each behind the one in front of it; where it is behind another, `X<Y` names that:
 -- Start After-shared-slice-known At-loop In-loop After-loop<At-loop After-shared-slice-known2<In-loop Then1 After-finish Else1<After-shared-slice-known2 After-digit Then2
--- Else2<After-digit After-may-follow Then3 Else3<After-may-follow After-wide After-finish2<After-loop
+-- Else2<After-digit After-may-go-on Then3 Else3<After-may-go-on After-wide After-finish2<After-loop
 -- The needs, each with its place:
 -- loop-holds@After-shared-slice-known shared-slice-read-b@After-shared-slice-known2 finish-requires@Then1 returns@After-finish digit-requires@Else1 returns-2@Then2
--- may-follow-requires@Else2 returns-3@Then3 mul-v@Else3 wide-requires@Else3 sub-v@After-wide add-v@After-wide add-i@After-wide loop-less@After-wide loop-again@After-wide
+-- may-go-on-requires@Else2 returns-3@Then3 mul-v@Else3 wide-requires@Else3 sub-v@After-wide add-v@After-wide add-i@After-wide loop-less@After-wide loop-again@After-wide
 -- finish-requires-2@After-loop returns-4@After-finish2
 use Rattle.text.proofs.scan.number.Tie as tie
 
@@ -40,11 +40,11 @@ module _ {Inv : tie.InvT-loop} {μ : tie.MeasureT-loop} where
   abbrev pub then2→start : tie.Then2 Inv μ → tie.Start Inv μ
   then2→start c = then2→loop c .before .before
 
-  abbrev pub then3→may-follow : tie.Then3 Inv μ → tie.After-may-follow Inv μ
-  then3→may-follow c = c .before
+  abbrev pub then3→may-go-on : tie.Then3 Inv μ → tie.After-may-go-on Inv μ
+  then3→may-go-on c = c .before
 
   abbrev pub then3→else2 : tie.Then3 Inv μ → tie.Else2 Inv μ
-  then3→else2 c = then3→may-follow c .before
+  then3→else2 c = then3→may-go-on c .before
 
   abbrev pub then3→digit : tie.Then3 Inv μ → tie.After-digit Inv μ
   then3→digit c = then3→else2 c .before
@@ -64,11 +64,11 @@ module _ {Inv : tie.InvT-loop} {μ : tie.MeasureT-loop} where
   abbrev pub wide→else3 : tie.After-wide Inv μ → tie.Else3 Inv μ
   wide→else3 c = c .before
 
-  abbrev pub wide→may-follow : tie.After-wide Inv μ → tie.After-may-follow Inv μ
-  wide→may-follow c = wide→else3 c .before
+  abbrev pub wide→may-go-on : tie.After-wide Inv μ → tie.After-may-go-on Inv μ
+  wide→may-go-on c = wide→else3 c .before
 
   abbrev pub wide→else2 : tie.After-wide Inv μ → tie.Else2 Inv μ
-  wide→else2 c = wide→may-follow c .before
+  wide→else2 c = wide→may-go-on c .before
 
   abbrev pub wide→digit : tie.After-wide Inv μ → tie.After-digit Inv μ
   wide→digit c = wide→else2 c .before

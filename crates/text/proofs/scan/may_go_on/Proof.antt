@@ -1,8 +1,8 @@
--- `may_follow` says whether a digit may follow: its tests are those of `mayFollow`, in their order. Assumes nothing.
+-- `may_go_on` says whether a digit may follow: its tests are those of `mayGoOn`, in their order. Assumes nothing.
 use native.Mathlib.Omega.{arith}
 use borrow.Author.Tests.{lt-ltb, le-ltb, eq-eqb, ne-eqb}
-use Rattle.text.proofs.scan.may_follow.Statement.{statement}
-use Rattle.text.proofs.scan.may_follow.Tie as tie
+use Rattle.text.proofs.scan.may_go_on.Statement.{statement}
+use Rattle.text.proofs.scan.may_go_on.Tie as tie
 
 returns : tie.Need-returns
 returns c = simp (eq-eqb _ _ (c .if1 .taken))
@@ -13,5 +13,5 @@ returns-2 c = simp (ne-eqb _ _ (c .before .if1 .left), lt-ltb 0 (c .before .befo
 returns-3 : tie.Need-returns-3
 returns-3 c = simp (ne-eqb _ _ (c .before .if1 .left), le-ltb 0 (c .before .before .args .v) (omega arith))
 
-pub may-follow-spec : {M : Type 1} → statement M
-may-follow-spec = tie.close (tie.spec returns returns-2 returns-3)
+pub may-go-on-spec : {M : Type 1} → statement M
+may-go-on-spec = tie.close (tie.spec returns returns-2 returns-3)
