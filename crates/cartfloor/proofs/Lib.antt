@@ -1,3 +1,2 @@
 pub mod Verdicts
-pub mod Sheets
 pub mod Rule3

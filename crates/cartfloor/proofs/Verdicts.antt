@@ -23,10 +23,8 @@ use Rattle.reader.specs.declared.read.Verdict.the-variants.{Accepted, Refused}
 use Rattle.reader.specs.declared.read.Reading.{Reading}
 use Rattle.job.specs.Arrays.{jobOf}
 use Rattle.reader.specs.Reading.{verdictOf, Read}
-use Rattle.sheet.specs.declared.Form as form
-use Rattle.sheet.specs.Form.{formOf}
 use Rattle.cartfloor.specs.Admitted.{Admitted}
-use Rattle.cartfloor.specs.Written.{Written}
+use Rattle.planner.specs.Written.{Written}
 
 -- The text, by the reader's verdict, and the store's length.
 module _ (text : List ℕ) (n : ℕ) (r : Reading) (read : Read text r) where
@@ -121,11 +119,3 @@ module _ (text store sheet : List ℕ) (r : ℕ) where
     sheet-after = w .text;
     store-after = z ∙ ap (λ v. storeAfter v store) (sym e);
   }
-
--- What the sheet is read as, by the variant that its reader answers.
-module _ (j : Job) (first second lasts rows sheet : List ℕ) (f g : form.Form) (e : f ≡ g) (q : formOf j f first second lasts rows ≡ readSheet j sheet) where
-  pub read-as : readSheet j sheet ≡ formOf j g first second lasts rows
-  read-as = sym q ∙ ap (λ x. formOf j x first second lasts rows) e
-
-  pub judged-as : (r : ℕ) → Judged j (formOf j g first second lasts rows) r → Judged j (readSheet j sheet) r
-  judged-as r h = subst (λ s. Judged j s r) (sym read-as) h

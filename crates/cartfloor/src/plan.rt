@@ -1,44 +1,12 @@
 // The planner: every refusal is decided before a byte is written.
 use crate::refuse;
 use job::size::sheet_least;
-use job::state::Job;
-use model::Limits;
 use model::answer::Answer;
 use model::answer::packed;
 use model::bytes::clear;
-use planner::solve;
-use planner::solve::Solution;
+use planner::plan::plan_job;
 use reader::read::Verdict;
-ghost use mathlib.Core.Path.{_≡_};
-ghost use Prim.Native.Nat.{_≤_};
-ghost use lib.ListN.{length};
-ghost use Rattle.model.specs.Job.{storeLeast, sheetLeast};
-ghost use Rattle.model.specs.Ready.{Ready};
 ghost use Rattle.model.specs.Contracts.{Planned};
-ghost use Rattle.job.specs.Arrays.{jobOf, Sized};
-ghost use Rattle.cartfloor.specs.Written.{Written};
-
-// The answer, packed with the bytes of the sheet.
-fn plan_job(job: Job, store: &mut [u8], sheet: &mut [u8]) -> u64
-    requires { ⌜ Ready (jobOf job) × Sized job × (storeLeast (jobOf job) ≤ length (now store)) × (sheetLeast (jobOf job) ≤ length (now sheet)) ⌝ }
-    ensures { λ r. ⌜ (length (now (store .exit)) ≡ length (now (store .entry))) × Written (jobOf job) (now (sheet .entry)) (now (sheet .exit)) r ⌝ }
-{
-    let mut first = [0u8; Limits::CALLS];
-    let mut second = [0u8; Limits::CALLS];
-    let mut lasts = [0u8; Limits::CALLS];
-    let mut rows = [0u8; Limits::CALLS * Limits::STEPS];
-    let solution = solve::solve(job, store, &mut first, &mut second, &mut lasts, &mut rows);
-    match solution {
-        Solution::Plan => {
-            let n = sheetwriter::put_plan(job, &first, &second, &lasts, &rows, sheet);
-            return packed(Answer::Plan, n as u64);
-        }
-        Solution::Cannot { points } => {
-            let n = sheetwriter::put_cannot(job, &first, &second, points, sheet);
-            return packed(Answer::Cannot, n as u64);
-        }
-    }
-}
 
 #[no_mangle]
 pub extern "C" fn cartfloor_plan(text: &[u8], store: &mut [u8], sheet: &mut [u8]) -> u64

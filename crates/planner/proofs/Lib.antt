@@ -1,2 +1,3 @@
 pub mod SolveLaws
 pub mod SolveParts
+pub mod Sheets

@@ -7,20 +7,18 @@ use native.Mathlib.Nat.{mul-le-mul-left}
 use native.Mathlib.Omega.{arith}
 use lib.ListN.{length}
 use Rattle.model.specs.Job.{Job, horizon, storeLeast}
-use Rattle.model.specs.Ready.{Ready}
 use Rattle.job.specs.Arrays.{jobOf}
 use Rattle.job.specs.declared.state.Job as arrays
 use Rattle.job.proofs.Arrays.{Whole}
 use Rattle.floor.specs.Tables.{Tables}
-use Rattle.floor.specs.Order.{Sorted}
-use Rattle.floor.proofs.JobTables.{calls-of, order-of}
+use Rattle.floor.proofs.JobTables.{calls-of}
 use Rattle.network.specs.declared.planes.Grid.{Grid}
-use Rattle.network.specs.Store.{gridOf, Spacious, Blank}
+use Rattle.network.specs.Store.{gridOf, Spacious}
 use Rattle.route.specs.declared.serve.Served.{Served}
 use Rattle.route.specs.declared.serve.Served.the-variants.{Yes, No}
 use Rattle.answer.specs.Cut.{Failed}
 use Rattle.answer.specs.Full.{FullFlow}
-use Rattle.planner.specs.Solved.{Begun, ServedAll, Finished}
+use Rattle.planner.specs.Solved.{Wiped, Begun, ServedAll, Finished}
 
 -- The grid that is made of the last step.
 abbrev pub gridTo : Job → ℕ → Grid
@@ -36,10 +34,10 @@ roomy j s e room =
 
 module _ (a : arrays.Job) (w : Whole a) where
   -- Serving the calls can begin.
-  pub begun : Ready (jobOf a) → {near begin due cartOn order s : List ℕ} {g : Grid} → Tables (jobOf a) near begin due cartOn → Sorted (a .lifts) (a .deadlines) (a .calls) order
-      → g ≡ gridOf (jobOf a) → storeLeast (jobOf a) ≤ length s → Blank g s → Begun (jobOf a) (a .lifts) (a .deadlines) (a .calls) near begin due cartOn order s g
-  begun ready {s = s} tables sorted grid room blank =
-      record { ready = ready; listed = calls-of a w; tables = tables; ordered = order-of a w sorted; grid = grid; room = roomy (jobOf a) s grid room; blank = blank }
+  pub begun : {near begin due cartOn order s : List ℕ} {g : Grid} → Tables (jobOf a) near begin due cartOn → Wiped (jobOf a) order s g
+      → Begun (jobOf a) (a .lifts) (a .deadlines) (a .calls) near begin due cartOn order s g
+  begun tables h =
+      record { ready = h .ready; listed = calls-of a w; tables = tables; ordered = h .ordered; grid = h .grid; room = h .room; blank = h .blank }
 
   module _ {cartOn order : List ℕ} {g : Grid} {s : List ℕ} {r : Served} (f : Finished (jobOf a) cartOn order g s r) where
     -- All calls are served.

@@ -22,6 +22,14 @@ use Rattle.route.specs.declared.serve.Served.the-variants.{Yes, No}
 use Rattle.planner.specs.declared.solve.Solution.{Solution}
 use Rattle.planner.specs.declared.solve.Solution.the-variants.{Plan, Cannot}
 
+-- The order is the job's. The store has room for it, and no node is used or marked.
+pub record Wiped (j : Job) (order s : List ℕ) (g : Grid) : Type 0 where
+  pub ready : Ready j
+  pub ordered : Order j order
+  pub grid : g ≡ gridOf j
+  pub room : Spacious g s
+  pub blank : Blank g s
+
 -- The arrays, the tables and the order are the job's. The store has room for it, and no node is used or marked.
 pub record Begun (j : Job) (lifts deadlines : List ℕ) (calls : ℕ) (near begin due cartOn order s : List ℕ) (g : Grid) : Type 0 where
   pub ready : Ready j

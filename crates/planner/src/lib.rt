@@ -1,2 +1,3 @@
 // The planner: a plan, or a true choke list.
+pub mod plan;
 pub mod solve;

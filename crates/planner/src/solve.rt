@@ -17,7 +17,7 @@ ghost use Rattle.job.specs.Arrays.{jobOf, Sized};
 ghost use Rattle.job.specs.Held.{Room};
 ghost use Rattle.floor.specs.Tables.{nearSize, Tables};
 ghost use Rattle.network.specs.Holds.{Holds};
-ghost use Rattle.planner.specs.Solved.{Begun, ServedAll, Finished, Solved};
+ghost use Rattle.planner.specs.Solved.{Wiped, Begun, ServedAll, Finished, Solved};
 
 // A plan, or how many choke points show that there is none.
 pub enum Solution {
@@ -82,6 +82,29 @@ fn serve_all<'a>(
     Served::Yes(stamp)
 }
 
+// Fills the tables of the job's floor, and serves its calls over them. The table of carts is lent, since the paths need it too.
+fn serve_job(job: Job, cart_on: &mut [u8], order: &[u8], store: &mut [u8], grid: Grid) -> Served
+    requires { ⌜ Sized job × (length (now «cart_on») ≡ maxCells) × Wiped (jobOf job) (now order) (now store) grid ⌝ }
+    ensures { λ r. ⌜ (length (now (store .exit)) ≡ length (now (store .entry))) × Finished (jobOf job) (now («cart_on» .exit)) (now (order .entry)) grid (now (store .exit)) r ⌝ }
+{
+    let mut near = [0u8; Limits::CELLS + 2 * Limits::TRACKS];
+    let mut begin = [0u16; Limits::CELLS + 1];
+    let mut due = [0u16; Limits::CELLS];
+    fill_tables(job, &mut near, &mut begin, &mut due, cart_on);
+    serve_all(
+        &job.lifts,
+        &job.deadlines,
+        job.calls,
+        &near,
+        &begin,
+        &due,
+        cart_on,
+        order,
+        store,
+        grid,
+    )
+}
+
 // The numbers of each PATH or CHOKE line go into first and second, the last step of the i-th path into lasts, and its cells into row i. The calls in their order stand in second.
 fn write_answer(
     job: Job,
@@ -139,29 +162,12 @@ pub fn solve(
 {
     let cells = job.cells;
     let last = job::size::last_step(job);
-    let grid = Grid {
-        cells,
-        nodes: (last + 1) * cells,
-    };
+    let nodes = (last + 1) * cells;
+    let grid = Grid { cells, nodes };
     wipe(store, grid);
-    let mut near = [0u8; Limits::CELLS + 2 * Limits::TRACKS];
-    let mut begin = [0u16; Limits::CELLS + 1];
-    let mut due = [0u16; Limits::CELLS];
-    let mut cart_on = [0u8; Limits::CELLS];
-    fill_tables(job, &mut near, &mut begin, &mut due, &mut cart_on);
     floor::order::by_deadline(&job.lifts, &job.deadlines, job.calls, second);
-    let served = serve_all(
-        &job.lifts,
-        &job.deadlines,
-        job.calls,
-        &near,
-        &begin,
-        &due,
-        &cart_on,
-        second,
-        store,
-        grid,
-    );
+    let mut cart_on = [0u8; Limits::CELLS];
+    let served = serve_job(job, &mut cart_on, second, store, grid);
     write_answer(
         job,
         &cart_on,

@@ -11,7 +11,7 @@
 -- slice-aggregate-put-plan-4@After-rows3 put-plan-requires@After-put-plan-arg packed-requires@After-slice-known4 same-length@After-packed same-length-2@After-packed
 -- returns@After-packed enum-known-solution@At-match-keys2 slice-aggregate-put-cannot@After-first4 slice-aggregate-put-cannot-2@After-second4
 -- put-cannot-requires@After-put-cannot-arg packed-requires-2@After-slice-known5 same-length-3@After-packed2 same-length-4@After-packed2 returns-2@After-packed2
-use Rattle.cartfloor.proofs.plan.plan_job.Tie as tie
+use Rattle.planner.proofs.plan.plan_job.Tie as tie
 
 abbrev pub solve→start : tie.After-solve → tie.Start
 solve→start c = c .before .before .before .before .before .before .before .before

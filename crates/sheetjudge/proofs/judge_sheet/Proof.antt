@@ -1,7 +1,7 @@
--- `check::judge_sheet` judges what the sheet is read as. A sheet that is read has known paths, or known points fewer than the calls, so the two tests may be
+-- `judge_sheet` judges what the sheet is read as. A sheet that is read has known paths, or known points fewer than the calls, so the two tests may be
 -- asked; each decides its case. Assumes nothing.
 use Prim.Native.Nat.{ℕ, _+_, _≤_}
-use mathlib.Core.Path.{_≡_, subst}
+use mathlib.Core.Path.{_≡_, sym, ap, subst, _∙_}
 use mathlib.Core.List.{List}
 use mathlib.Core.Logic.{inl, inr}
 use native.Mathlib.Omega.{arith}
@@ -20,12 +20,19 @@ use Rattle.job.proofs.Pairs.{pairs-count}
 use Rattle.sheet.specs.declared.Form.{Form}
 use Rattle.sheet.specs.declared.Form.the-variants.{Bad, Plan, Cannot}
 use Rattle.sheet.specs.Form.{formOf, LineFits}
-use Rattle.cartfloor.proofs.Verdicts.{read-as, judged-as}
 use borrow.Author.Needs.{needs}
-use Rattle.cartfloor.proofs.check.judge_sheet.Statement.{statement}
-use Rattle.cartfloor.proofs.check.judge_sheet.Tie as tie
+use Rattle.sheetjudge.proofs.judge_sheet.Statement.{statement}
+use Rattle.sheetjudge.proofs.judge_sheet.Tie as tie
 mod Places
 use Places.*
+
+-- What the sheet is read as, by the variant that its reader answers.
+module _ (j : Job) (first second lasts rows sheet : List ℕ) (f g : Form) (e : f ≡ g) (q : formOf j f first second lasts rows ≡ readSheet j sheet) where
+  read-as : readSheet j sheet ≡ formOf j g first second lasts rows
+  read-as = sym q ∙ ap (λ x. formOf j x first second lasts rows) e
+
+  judged-as : (r : ℕ) → Judged j (formOf j g first second lasts rows) r → Judged j (readSheet j sheet) r
+  judged-as r h = subst (λ s. Judged j s r) (sym read-as) h
 
 -- What is read: three lists, the rows, and what they are as a sheet.
 module _ (c : tie.After-read-sheet) where

@@ -26,7 +26,7 @@ use Rattle.job.specs.Held.{pointsOf}
 use Rattle.job.proofs.Pairs.{pairs-count}
 use Rattle.text.specs.Wrote.{Wrote}
 use Rattle.text.proofs.Wrote.{wrote-whole, line-room, lines-room}
-use Rattle.cartfloor.specs.Written.{Written}
+use Rattle.planner.specs.Written.{Written}
 
 module _ (j : Job) (f : Fit j) where
   path-short : (p : Path) → Leads j p → length (line pathWord (pathNumbers p)) ≤ length pathWord + 4 * (maxSteps + 2) + 1

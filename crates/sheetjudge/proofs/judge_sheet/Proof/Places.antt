@@ -12,7 +12,7 @@
 -- returns-2@After-packed2 packed-requires-3@Else1 returns-3@After-packed3 enum-known-form-2@At-match-keys3 slice-aggregate-is-choke-list@After-first4
 -- slice-aggregate-is-choke-list-2@After-second4 is-choke-list-requires@After-second4 packed-requires-4@Then2 returns-4@After-packed4 packed-requires-5@Else2
 -- returns-5@After-packed5
-use Rattle.cartfloor.proofs.check.judge_sheet.Tie as tie
+use Rattle.sheetjudge.proofs.judge_sheet.Tie as tie
 
 abbrev pub read-sheet→start : tie.After-read-sheet → tie.Start
 read-sheet→start c = c .before .before .before .before .before .before

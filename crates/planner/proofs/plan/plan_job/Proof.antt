@@ -14,13 +14,13 @@ use Rattle.model.proofs.Floor.{path-known}
 use Rattle.job.specs.Arrays.{jobOf}
 use Rattle.job.specs.Held.{pathsTo, pointsOf}
 use Rattle.job.proofs.Arrays.{long, whole, calls-count}
 use Rattle.planner.specs.declared.solve.Solution.{Solution}
 use Rattle.planner.specs.declared.solve.Solution.the-variants.{Plan, Cannot}
 use Rattle.planner.specs.Solved.{Solved}
-use Rattle.cartfloor.proofs.Sheets.{plan-short, chokes-short, points-few, plan-written, chokes-written}
+use Rattle.planner.proofs.Sheets.{plan-short, chokes-short, points-few, plan-written, chokes-written}
 use borrow.Author.Needs.{needs}
-use Rattle.cartfloor.proofs.plan.plan_job.Statement.{statement}
-use Rattle.cartfloor.proofs.plan.plan_job.Tie as tie
+use Rattle.planner.proofs.plan.plan_job.Statement.{statement}
+use Rattle.planner.proofs.plan.plan_job.Tie as tie
 mod Places
 use Places.*
 
