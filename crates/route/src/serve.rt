@@ -8,12 +8,36 @@ ghost use lib.ListN.{length};
 ghost use Rattle.model.specs.Job as model;
 ghost use Rattle.network.specs.Store.{asPoint};
 ghost use Rattle.network.specs.Holds.{Holds};
-ghost use Rattle.route.specs.Serve.{Serving, ServedBy};
+ghost use Rattle.route.specs.Search.{Searching};
+ghost use Rattle.route.specs.Serve.{Sought, Serving, ServedBy};
 
 // With the stamp of the last search.
 pub enum Served {
     Yes(u8),
     No(u8),
+}
+
+// Searches, and lays the way that is found. Whether there was one.
+fn seek(
+    near: &[u8],
+    begin: &[u16],
+    due: &[u16],
+    cart_on: &[u8],
+    hint: &[u8],
+    store: &mut [u8],
+    grid: Grid,
+    node: Node,
+    stamp: u8,
+) -> bool
+    requires { ⌜ ((j : model.Job) × Searching j (now near) (now begin) (now due) (now «cart_on») (now hint) (now store) grid (asPoint node)) ⌝ }
+    ensures { λ r. ⌜ ((j : model.Job) → Searching j (now (near .entry)) (now (begin .entry)) (now (due .entry)) (now («cart_on» .entry)) (now (hint .entry)) (now (store .entry)) grid (asPoint node) → Sought j grid (now (store .entry)) (now (store .exit)) stamp (asPoint node) r) ⌝ }
+{
+    let depth = search::search(near, begin, due, cart_on, hint, store, grid, node, stamp);
+    if depth == 0 {
+        return false;
+    }
+    augment::augment(store, grid, depth);
+    true
 }
 
 // Marks are kept from search to search, since what they rule out seldom comes back. Only a search on fresh marks is final: one that fails on old
@@ -33,18 +57,14 @@ pub fn serve(
     requires { ⌜ ((j : model.Job) × Serving j (now near) (now begin) (now due) (now «cart_on») (now hint) (now store) grid (asPoint node) stamp fresh) ⌝ }
     ensures { λ r. ⌜ (length (now (store .exit)) ≡ length (now (store .entry))) × ((j : model.Job) → Serving j (now (near .entry)) (now (begin .entry)) (now (due .entry)) (now («cart_on» .entry)) (now (hint .entry)) (now (store .entry)) grid (asPoint node) stamp fresh → Holds j grid (now (store .exit)) × ServedBy j (now (store .entry)) (now (store .exit)) stamp (asPoint node) r) ⌝ }
 {
-    let depth = search::search(near, begin, due, cart_on, hint, store, grid, node, stamp);
-    if 0 < depth {
-        augment::augment(store, grid, depth);
+    if seek(near, begin, due, cart_on, hint, store, grid, node, stamp) {
         return Served::Yes(stamp);
     }
     if fresh {
         return Served::No(stamp);
     }
     let again = stamp + 1;
-    let depth = search::search(near, begin, due, cart_on, hint, store, grid, node, again);
-    if 0 < depth {
-        augment::augment(store, grid, depth);
+    if seek(near, begin, due, cart_on, hint, store, grid, node, again) {
         return Served::Yes(again);
     }
     Served::No(again)
