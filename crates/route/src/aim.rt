@@ -1,5 +1,5 @@
 // A guess that only saves time: over the floor alone, along a shortest way from a call's cell to a free cart, where to look first.
-use crate::rows::row;
+use floor::tables::row;
 use model::Limits;
 use model::bytes::wide;
 use network::planes::Grid;

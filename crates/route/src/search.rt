@@ -1,5 +1,5 @@
 // One search: from a call's node back in time to a free cart, depth first, with the way so far as a stack in the store.
-use crate::rows::row;
+use floor::tables::row;
 use model::bytes::wide;
 use network::planes::Grid;
 use network::planes::Node;
