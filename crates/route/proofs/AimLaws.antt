@@ -5,8 +5,7 @@ use mathlib.Core.List.{List}
 use native.Mathlib.Omega.{arith}
 use lib.ListN.{length, getD, set, replicate, length-set, length-replicate}
 use Rattle.model.specs.Limits.{maxCells}
-use Rattle.floor.specs.Tables.{Rows, rowOf}
-use Rattle.route.specs.Finds.{Cells}
+use Rattle.floor.specs.Tables.{rowOf, Cells, Rows}
 use Rattle.route.specs.Queue.{Queue}
 use Rattle.floor.proofs.TableLaws.{AfterSet, new, old, after-set}
 

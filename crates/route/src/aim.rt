@@ -8,9 +8,8 @@ ghost use mathlib.Core.Path.{_≡_};
 ghost use Prim.Native.Nat.{_<_, _≤_};
 ghost use lib.ListN.{length};
 ghost use Rattle.model.specs.Limits.{maxCells};
-ghost use Rattle.floor.specs.Tables.{Rows};
+ghost use Rattle.floor.specs.Tables.{Cells, Rows};
 ghost use Rattle.network.specs.Store.{Spacious, Within};
-ghost use Rattle.route.specs.Finds.{Cells};
 ghost use Rattle.route.specs.Queue.{Queue};
 
 // Whether a cart stands on the cell at step 0, where a node's place is its cell, that no call has yet.
