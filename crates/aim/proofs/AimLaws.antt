@@ -6,7 +6,7 @@ use native.Mathlib.Omega.{arith}
 use lib.ListN.{length, getD, set, replicate, length-set, length-replicate}
 use Rattle.model.specs.Limits.{maxCells}
 use Rattle.floor.specs.Tables.{rowOf, Cells, Rows}
-use Rattle.route.specs.Queue.{Queue}
+use Rattle.aim.specs.Queue.{Queue}
 use Rattle.floor.proofs.TableLaws.{AfterSet, new, old, after-set}
 
 pub queue-more : {cells : ℕ} {queue : List ℕ} {end : ℕ} (b : ℕ) → end < cells → b < cells → Queue cells queue end → Queue cells (set queue end b) (end + 1)

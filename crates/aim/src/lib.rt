@@ -10,7 +10,7 @@ ghost use lib.ListN.{length};
 ghost use Rattle.model.specs.Limits.{maxCells};
 ghost use Rattle.floor.specs.Tables.{Cells, Rows};
 ghost use Rattle.network.specs.Store.{Spacious, Within};
-ghost use Rattle.route.specs.Queue.{Queue};
+ghost use Rattle.aim.specs.Queue.{Queue};
 
 // Whether a cart stands on the cell at step 0, where a node's place is its cell, that no call has yet.
 fn is_free(cart_on: &[u8], store: &[u8], grid: Grid, c: usize) -> bool
