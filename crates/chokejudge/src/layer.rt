@@ -1,5 +1,6 @@
 // The cells that a cart can be on at a step without having stood on a choke point: since[v] is one more than the step at which v was added, or 0. The cells that were
 // added stand in a queue, so that each is spread from once, at the next step.
+use floor::tables::row;
 use model::Limits;
 use model::bytes::wide;
 ghost use mathlib.Core.Path.{_≡_};
@@ -98,9 +99,7 @@ fn rejoin(
     let mut at = tail;
     for k in opens..end {
         let c = wide(cells[k]);
-        let a = begin[c] as usize;
-        let e = begin[c + 1] as usize;
-        if borders(&near[a..e], since, stamp) {
+        if borders(row(near, begin, c), since, stamp) {
             at = add(since, queue, at, cells[k], stamp);
         }
     }
@@ -125,9 +124,7 @@ fn advance(
     for i in head..end {
         let u = wide(queue[i]);
         if is_older(since[u], stamp) {
-            let a = begin[u] as usize;
-            let e = begin[u + 1] as usize;
-            at = spread(&near[a..e], since, queue, at, stamp);
+            at = spread(row(near, begin, u), since, queue, at, stamp);
         }
     }
     at

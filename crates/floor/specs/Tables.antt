@@ -17,6 +17,10 @@ nearSize = maxCells + 2 * maxTracks
 abbrev pub rowOf : List ℕ → List ℕ → ℕ → List ℕ
 rowOf near begin c = take (getD begin (c + 1) 0 - getD begin c 0) (drop (getD begin c 0) near)
 
+-- The row has cells below n.
+abbrev pub Cells : ℕ → List ℕ → Type 0
+Cells n row = (x : ℕ) → In x row → x < n
+
 -- The rows of the first n cells can be read: each is a part of the table, no longer than there can be cells, and its cells are below n.
 pub record Rows (n : ℕ) (near begin : List ℕ) : Type 0 where
   pub size : length near ≡ nearSize

@@ -58,7 +58,7 @@ fn serve_all<'a>(
         let q = wide(order[i]);
         let cell = wide(lifts[q]);
         let step = wide(deadlines[q]);
-        route::aim::aim(near, begin, cart_on, store, grid, cell, &mut hint);
+        aim::aim(near, begin, cart_on, store, grid, cell, &mut hint);
         let fresh = i == 0;
         let node = Node { cell, step };
         let served = route::serve::serve(

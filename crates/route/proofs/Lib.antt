@@ -10,4 +10,3 @@ pub mod SearchRuns
 pub mod SearchTurn
 pub mod ServeLaws
 pub mod LayHop
-pub mod AimLaws

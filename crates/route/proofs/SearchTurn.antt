@@ -13,7 +13,7 @@ use Rattle.model.specs.Job.{Job}
 use Rattle.model.specs.Choke.{Point, Known}
 use Rattle.model.proofs.Written.{few-steps}
 use Rattle.model.proofs.Lists.{in-getD}
-use Rattle.floor.specs.Tables.{rowOf}
+use Rattle.floor.specs.Tables.{rowOf, Cells}
 use Rattle.flow.specs.Flow.{Link}
 use Rattle.network.specs.Graph.{graph}
 use Rattle.network.specs.Store.{nodes, gridOf, idx, asPoint, placeAt, cellAt, stepAt, markAt, Spacious, Within}
@@ -28,7 +28,7 @@ use Rattle.route.specs.declared.search.Found.{Found}
 use Rattle.route.specs.Stack.{byWay}
 use Rattle.route.specs.Lay.{pushed}
 use Rattle.route.specs.Search.{Searching, Searched}
-use Rattle.route.specs.Finds.{Stands, Cells, From, Stamped, Finds}
+use Rattle.route.specs.Finds.{Stands, From, Stamped, Finds}
 use Rattle.route.proofs.Stack.{posIn}
 use Rattle.route.proofs.SearchHops.{HopTo, found-hop, hop-found}
 use Rattle.route.proofs.SearchCount.{unmarked, unmarked-some}

@@ -17,10 +17,6 @@ use Rattle.route.specs.declared.search.Found.{Found}
 abbrev pub Stands : Job → Grid → List ℕ → List ℕ → Point → Type 0
 Stands j g s due x = Holds j g s × Due j due × Known j x
 
--- The row has cells below n.
-abbrev pub Cells : ℕ → List ℕ → Type 0
-Cells n row = (x : ℕ) → In x row → x < n
-
 -- The node x is used and no call's, and y its successor.
 abbrev pub Down : Grid → List ℕ → List ℕ → Point → Point → ℕ → Type 0
 Down g s due x y via =

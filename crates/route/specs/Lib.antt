@@ -3,4 +3,3 @@ pub mod Lay
 pub mod Finds
 pub mod Search
 pub mod Serve
-pub mod Queue

@@ -1,6 +1,4 @@
 // Serving calls one by one: a search back in time for a free cart, and the way it finds laid into the flow.
-pub mod aim;
 pub mod augment;
-pub mod rows;
 pub mod search;
 pub mod serve;

@@ -1,5 +1,5 @@
 // One search: from a call's node back in time to a free cart, depth first, with the way so far as a stack in the store.
-use crate::rows::row;
+use floor::tables::row;
 use model::bytes::wide;
 use network::planes::Grid;
 use network::planes::Node;
@@ -13,12 +13,12 @@ use network::planes::used;
 ghost use mathlib.Core.Path.{_≡_};
 ghost use Prim.Native.Nat.{_<_, _≤_};
 ghost use Rattle.model.specs.Job as model;
-ghost use Rattle.floor.specs.Tables.{Due};
+ghost use Rattle.floor.specs.Tables.{Cells, Due};
 ghost use Rattle.network.specs.Store.{Within, placeAt, asPoint};
 ghost use Rattle.network.specs.Holds.{Holds};
 ghost use Rattle.route.specs.Lay.{pushed};
 ghost use Rattle.route.specs.Search.{Searching, Searched};
-ghost use Rattle.route.specs.Finds.{Stands, Cells, By, ByRow, Down, From, Stamped, Finds, Guesses};
+ghost use Rattle.route.specs.Finds.{Stands, By, ByRow, Down, From, Stamped, Finds, Guesses};
 
 // Where a position leads: nowhere new, or to another position, by way of a cell.
 pub enum Found {

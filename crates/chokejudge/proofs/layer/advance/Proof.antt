@@ -1,14 +1,15 @@
 -- `advance` spreads from each cell of the queue that is older. Invariant: those from `head` to before i were looked at. What is older stays so, since only cells of this stamp are
 -- added, and they come behind the end of the queue. The measure is what is left of the queue. Assumes nothing.
-use Rattle.chokejudge.specs.Grown.{Between, Grown, Older, Roomy}
+use Rattle.chokejudge.specs.Grown.{Grown, Older, Roomy}
 use mathlib.Core.List.{List}
 use Rattle.chokejudge.specs.ChokeLayers.{Side}
-use Prim.Native.Nat.{_+_, _-_, _≤_, _<_, ℕ}
+use Prim.Native.Nat.{_-_, _≤_, _<_, ℕ}
 use mathlib.Core.Path.{_∙_, _≡_}
 use native.Mathlib.Omega.{arith}
 use Rattle.chokejudge.proofs.GrownLaws.{Each, each-more, grown-as, grown-none, older-same, still-roomy, in-queue}
 use lib.ListN.{getD}
 use denote.Ref.{now}
+use Rattle.floor.proofs.JobTables.{rows-bounded}
 use mathlib.Core.Logic.{⊎-elim}
 use borrow.Author.Needs.{needs}
 use Rattle.chokejudge.proofs.layer.advance.Statement.{statement}
@@ -35,35 +36,14 @@ loop-holds c =
 slice-read-wide : tie.Need-slice-read-wide Inv-loop μ-loop
 slice-read-wide c = omega (arith, in-queue (slice-known3→loop c .loop .inv .3), slice-known3→loop c .loop .inv .2 .more, slice-known3→start c .pre .3, slice-known3→in-loop c .loop-test .taken)
 
-shared-slice-read-a : tie.Need-shared-slice-read-a Inv-loop μ-loop
-shared-slice-read-a c = omega (arith, shared-slice-known3→wide c .wide .ensures .1, shared-slice-known3→start c .pre .4 .1 .begins)
+known : (c : tie.Then1 Inv-loop μ-loop) → then1→wide c .wide .result < then1→start c .pre .4 .0
+known c = then1→start c .pre .4 .2 (then1→wide c .wide .result) (older-same (then1→loop c .loop .inv .2) (then1→wide c .wide .result) .0 (then1→is-older c .is-older .ensures .0 (c .if1 .taken)))
 
-cast-a : tie.Need-cast-a Inv-loop μ-loop
-cast-a c = omega (arith, c .shared-slice-known3 .given (shared-slice-known3→wide c .wide .result))
-
-shared-slice-read-e : tie.Need-shared-slice-read-e Inv-loop μ-loop
-shared-slice-read-e c = omega (arith, shared-slice-known4→wide c .wide .ensures .1, shared-slice-known4→start c .pre .4 .1 .begins)
-
-cast-e : tie.Need-cast-e Inv-loop μ-loop
-cast-e c = omega (arith, c .shared-slice-known4 .given (shared-slice-known4→wide c .wide .result + 1))
-
-known : (c : tie.After-shared-slice-known4 Inv-loop μ-loop) → shared-slice-known4→wide c .wide .result < shared-slice-known4→start c .pre .4 .0
-known c =
-    shared-slice-known4→start c .pre .4 .2 (shared-slice-known4→wide c .wide .result)
-    (older-same (shared-slice-known4→loop c .loop .inv .2) (shared-slice-known4→wide c .wide .result) .0
-    (shared-slice-known4→is-older c .is-older .ensures .0 (shared-slice-known4→then1 c .if1 .taken)))
-
-sub-spread : tie.Need-sub-spread Inv-loop μ-loop
-sub-spread c = omega (arith, shared-slice-known4→start c .pre .4 .1 .climbs _ (known c), shared-slice-known4→start c .pre .4 .1 .fits _ (known c), shared-slice-known4→start c .pre .4 .1 .size)
-
-part-spread-start : tie.Need-part-spread-start Inv-loop μ-loop
-part-spread-start c = omega (arith, shared-slice-known4→start c .pre .4 .1 .climbs _ (known c), shared-slice-known4→start c .pre .4 .1 .fits _ (known c), shared-slice-known4→start c .pre .4 .1 .size)
-
-part-spread-end : tie.Need-part-spread-end Inv-loop μ-loop
-part-spread-end c = omega (arith, shared-slice-known4→start c .pre .4 .1 .climbs _ (known c), shared-slice-known4→start c .pre .4 .1 .fits _ (known c), shared-slice-known4→start c .pre .4 .1 .size)
+row-requires : tie.Need-row-requires Inv-loop μ-loop
+row-requires c κs = rows-bounded (then1→start c .pre .4 .1) (λ i. omega (arith, then1→shared-slice-known c .shared-slice-known .given i)) (known c) (then1→wide c .wide .ensures .1)
 
 spread-requires : tie.Need-spread-requires Inv-loop μ-loop
-spread-requires c κs = (spread-arg3→start c .pre .0, spread-arg3→loop c .loop .inv .3)
+spread-requires c κs = (spread-arg2→start c .pre .0, spread-arg2→loop c .loop .inv .3)
 
 loop-again : tie.Need-loop-again Inv-loop μ-loop
 loop-again c =
@@ -78,10 +58,10 @@ loop-again c =
     (λ w. (
       omega arith,
       omega arith,
-      rw (w .11, w .12, w .13)
+      rw (w .9, w .10, w .11)
           (each-more (now (a .queue)) S (a .head) (l .i) (l .inv .0) g
-          (grown-as (λ v. (λ q. (rw e at (older-same g (u .result) .0 (o .0 (w .0 .taken))), rw e at q), λ q. rw e (q .1))) (w .6 .ensures))),
-      rw (w .11, w .12, w .13) (still-roomy (w .6 .ensures) (l .inv .3)),
+          (grown-as (λ v. (λ q. (rw e at (older-same g (u .result) .0 (o .0 (w .0 .taken))), rw (w .1 .ensures, e) at q), λ q. rw (w .1 .ensures, e) (q .1))) (w .4 .ensures))),
+      rw (w .9, w .10, w .11) (still-roomy (w .4 .ensures) (l .inv .3)),
     ))
     (λ w. (
       omega arith,
@@ -102,6 +82,5 @@ pub advance-spec : {M : Type 1} → statement M
 advance-spec =
     tie.close
     (tie.spec
-    Inv-loop μ-loop loop-holds slice-read-wide (λ c κs. search needs) (λ c. search needs) (λ c. search needs) (λ c κs. search needs) (λ c. search needs) shared-slice-read-a cast-a
-    (λ c. search needs) (λ c. search needs) shared-slice-read-e cast-e sub-spread part-spread-start part-spread-end spread-requires (λ c. search needs) (λ c. search needs)
-    loop-again (λ c. search needs) (λ c. search needs) returns)
+    Inv-loop μ-loop loop-holds slice-read-wide (λ c κs. search needs) (λ c. search needs) (λ c. search needs) (λ c κs. search needs) row-requires spread-requires
+    (λ c. search needs) (λ c. search needs) loop-again (λ c. search needs) (λ c. search needs) returns)

@@ -3,12 +3,14 @@
 use Rattle.chokejudge.specs.Grown.{Between, Grown, Older, Roomy}
 use mathlib.Core.List.{List}
 use Rattle.chokejudge.specs.ChokeLayers.{Side}
-use Prim.Native.Nat.{_+_, _-_, _≤_, _<_, ℕ}
-use mathlib.Core.Path.{_≡_}
+use Prim.Native.Nat.{_-_, _≤_, _<_, ℕ}
+use mathlib.Core.Path.{_≡_, _∙_, ap}
 use native.Mathlib.Omega.{arith}
 use Rattle.chokejudge.proofs.GrownLaws.{Each, each-more, grown-as, grown-none, older-some, still-roomy, themselves}
 use lib.ListN.{getD}
 use denote.Ref.{now}
+use Rattle.floor.specs.Tables.{rowOf}
+use Rattle.floor.proofs.JobTables.{rows-bounded}
 use mathlib.Core.Logic.{⊎-elim}
 use borrow.Author.Needs.{needs}
 use Rattle.chokejudge.proofs.layer.rejoin.Statement.{statement}
@@ -32,42 +34,24 @@ loop-holds c =
     let a = slice-known2→start c .args in
     (omega arith, slice-known2→start c .pre .2, grown-none (a .stamp) (now (a .since)) (now (a .queue)) (a .tail) (λ v p. absurd (omega (arith, p .1 .1, p .1 .2))), slice-known2→start c .pre .1)
 
-shared-slice-read-a : tie.Need-shared-slice-read-a Inv-loop μ-loop
-shared-slice-read-a c = omega (arith, shared-slice-known5→wide c .wide .ensures .1, shared-slice-known5→start c .pre .4 .1 .begins)
+known : (c : tie.After-wide Inv-loop μ-loop) → c .wide .result < wide→start c .pre .4 .0
+known c = omega (arith, c .wide .ensures .0, wide→start c .pre .4 .2 (wide→loop c .loop .k) (wide→in-loop c .loop-test .taken))
 
-cast-a : tie.Need-cast-a Inv-loop μ-loop
-cast-a c = omega (arith, c .shared-slice-known5 .given (shared-slice-known5→wide c .wide .result))
-
-shared-slice-read-e : tie.Need-shared-slice-read-e Inv-loop μ-loop
-shared-slice-read-e c = omega (arith, shared-slice-known6→wide c .wide .ensures .1, shared-slice-known6→start c .pre .4 .1 .begins)
-
-cast-e : tie.Need-cast-e Inv-loop μ-loop
-cast-e c = omega (arith, c .shared-slice-known6 .given (shared-slice-known6→wide c .wide .result + 1))
-
-known : (c : tie.After-shared-slice-known6 Inv-loop μ-loop) → shared-slice-known6→wide c .wide .result < shared-slice-known6→start c .pre .4 .0
-known c = omega (arith, shared-slice-known6→wide c .wide .ensures .0, shared-slice-known6→start c .pre .4 .2 (shared-slice-known6→loop c .loop .k) (shared-slice-known6→in-loop c .loop-test .taken))
-
-sub-borders : tie.Need-sub-borders Inv-loop μ-loop
-sub-borders c = omega (arith, shared-slice-known6→start c .pre .4 .1 .climbs _ (known c), shared-slice-known6→start c .pre .4 .1 .fits _ (known c), shared-slice-known6→start c .pre .4 .1 .size)
-
-part-borders-start : tie.Need-part-borders-start Inv-loop μ-loop
-part-borders-start c = omega (arith, shared-slice-known6→start c .pre .4 .1 .climbs _ (known c), shared-slice-known6→start c .pre .4 .1 .fits _ (known c), shared-slice-known6→start c .pre .4 .1 .size)
-
-part-borders-end : tie.Need-part-borders-end Inv-loop μ-loop
-part-borders-end c = omega (arith, shared-slice-known6→start c .pre .4 .1 .climbs _ (known c), shared-slice-known6→start c .pre .4 .1 .fits _ (known c), shared-slice-known6→start c .pre .4 .1 .size)
+row-requires : tie.Need-row-requires Inv-loop μ-loop
+row-requires c κs = rows-bounded (wide→start c .pre .4 .1) (λ i. omega (arith, wide→shared-slice-known c .shared-slice-known .given i)) (known c) (c .wide .ensures .1)
 
 borders-requires : tie.Need-borders-requires Inv-loop μ-loop
-borders-requires c κs = borders-arg2→loop c .loop .inv .3 .cells
+borders-requires c κs = borders-arg→loop c .loop .inv .3 .cells
 
 add-requires : tie.Need-add-requires Inv-loop μ-loop
-add-requires c κs = (shared-slice-known7→start c .pre .0, shared-slice-known7→loop c .loop .inv .3)
+add-requires c κs = (shared-slice-known5→start c .pre .0, shared-slice-known5→loop c .loop .inv .3)
 
 loop-again : tie.Need-loop-again Inv-loop μ-loop
 loop-again c =
     let a = joined1→start c .args in
     let l = joined1→loop c .loop in
     let g = l .inv .2 in
-    let e = joined1→wide c .wide .ensures .0 in
+    let e = joined1→row c .row .ensures ∙ ap (rowOf (now (a .near)) (now (a .begin))) (joined1→wide c .wide .ensures .0) in
     let b = rw e at (c .before .borders .ensures) in
     let S = Back (now (a .near)) (now (a .begin)) (now (a .since)) (a .stamp) in
     let same = older-some g (Side (now (a .near)) (now (a .begin)) (getD (now (a .cells)) (l .k) 0)) in
@@ -100,6 +84,5 @@ pub rejoin-spec : {M : Type 1} → statement M
 rejoin-spec =
     tie.close
     (tie.spec
-    Inv-loop μ-loop loop-holds (λ c. search needs) (λ c κs. search needs) (λ c. search needs) shared-slice-read-a cast-a (λ c. search needs) (λ c. search needs) shared-slice-read-e
-    cast-e sub-borders part-borders-start part-borders-end borders-requires (λ c. search needs) add-requires (λ c. search needs) (λ c. search needs) loop-again (λ c. search needs)
-    (λ c. search needs) returns)
+    Inv-loop μ-loop loop-holds (λ c. search needs) (λ c κs. search needs) row-requires borders-requires (λ c. search needs) add-requires (λ c. search needs) (λ c. search needs)
+    loop-again (λ c. search needs) (λ c. search needs) returns)

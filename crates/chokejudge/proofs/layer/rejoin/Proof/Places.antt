@@ -2,14 +2,12 @@
 -- Made of the code by proof-names, which reads the lists below when the code has changed.
 -- All places in the code's order, each behind the one in front of it; where it is behind another, `X<Y` names that:
 -- Start After-shared-slice-known After-shared-slice-known2 After-shared-slice-known3 After-slice-known After-slice-known2 At-loop In-loop After-loop<At-loop
--- After-shared-slice-known4<In-loop After-wide After-shared-slice-known5 After-shared-slice-known6 After-borders-arg After-borders-arg2 After-borders Then1 After-add-arg
--- After-add-arg2 After-shared-slice-known7 After-add After-since After-slice-known3 After-queue After-slice-known4 Else1<After-borders Joined1<After-borders
+-- After-shared-slice-known4<In-loop After-wide After-row After-borders-arg After-borders Then1 After-add-arg After-add-arg2 After-shared-slice-known5 After-add After-since
+-- After-slice-known3 After-queue After-slice-known4 Else1<After-borders Joined1<After-borders
 -- The needs, each with its place:
--- loop-holds@After-slice-known2 shared-slice-read-wide@After-shared-slice-known4 wide-requires@After-shared-slice-known4 mul-a@After-wide
--- shared-slice-read-a@After-shared-slice-known5 cast-a@After-shared-slice-known5 add-e@After-shared-slice-known5 mul-e@After-shared-slice-known5
--- shared-slice-read-e@After-shared-slice-known6 cast-e@After-shared-slice-known6 sub-borders@After-shared-slice-known6 part-borders-start@After-shared-slice-known6
--- part-borders-end@After-shared-slice-known6 borders-requires@After-borders-arg2 shared-slice-read-add@After-shared-slice-known7 add-requires@After-shared-slice-known7
--- add-k@Joined1 loop-less@Joined1 loop-again@Joined1 same-length@After-loop same-length-2@After-loop returns@After-loop
+-- loop-holds@After-slice-known2 shared-slice-read-wide@After-shared-slice-known4 wide-requires@After-shared-slice-known4 row-requires@After-wide borders-requires@After-borders-arg
+-- shared-slice-read-add@After-shared-slice-known5 add-requires@After-shared-slice-known5 add-k@Joined1 loop-less@Joined1 loop-again@Joined1 same-length@After-loop
+-- same-length-2@After-loop returns@After-loop
 use Rattle.chokejudge.proofs.layer.rejoin.Tie as tie
 
 module _ {Inv : tie.InvT-loop} {μ : tie.MeasureT-loop} where
@@ -22,38 +20,35 @@ module _ {Inv : tie.InvT-loop} {μ : tie.MeasureT-loop} where
   abbrev pub after-loop→start : tie.After-loop Inv μ → tie.Start Inv μ
   after-loop→start c = slice-known2→start (c .before .before)
 
-  abbrev pub shared-slice-known5→wide : tie.After-shared-slice-known5 Inv μ → tie.After-wide Inv μ
-  shared-slice-known5→wide c = c .before
+  abbrev pub wide→in-loop : tie.After-wide Inv μ → tie.In-loop Inv μ
+  wide→in-loop c = c .before .before
+
+  abbrev pub wide→loop : tie.After-wide Inv μ → tie.At-loop Inv μ
+  wide→loop c = wide→in-loop c .before
+
+  abbrev pub wide→shared-slice-known : tie.After-wide Inv μ → tie.After-shared-slice-known Inv μ
+  wide→shared-slice-known c = wide→loop c .before .before .before .before .before
+
+  abbrev pub wide→start : tie.After-wide Inv μ → tie.Start Inv μ
+  wide→start c = wide→shared-slice-known c .before
+
+  abbrev pub borders-arg→loop : tie.After-borders-arg Inv μ → tie.At-loop Inv μ
+  borders-arg→loop c = wide→loop (c .before .before)
+
+  abbrev pub shared-slice-known5→loop : tie.After-shared-slice-known5 Inv μ → tie.At-loop Inv μ
+  shared-slice-known5→loop c = borders-arg→loop (c .before .before .before .before .before)
 
   abbrev pub shared-slice-known5→start : tie.After-shared-slice-known5 Inv μ → tie.Start Inv μ
-  shared-slice-known5→start c = slice-known2→start (c .before .before .before .before .before)
+  shared-slice-known5→start c = shared-slice-known5→loop c .before .before .before .before .before .before
 
-  abbrev pub shared-slice-known6→wide : tie.After-shared-slice-known6 Inv μ → tie.After-wide Inv μ
-  shared-slice-known6→wide c = shared-slice-known5→wide (c .before)
-
-  abbrev pub shared-slice-known6→in-loop : tie.After-shared-slice-known6 Inv μ → tie.In-loop Inv μ
-  shared-slice-known6→in-loop c = shared-slice-known6→wide c .before .before
-
-  abbrev pub shared-slice-known6→loop : tie.After-shared-slice-known6 Inv μ → tie.At-loop Inv μ
-  shared-slice-known6→loop c = shared-slice-known6→in-loop c .before
-
-  abbrev pub shared-slice-known6→start : tie.After-shared-slice-known6 Inv μ → tie.Start Inv μ
-  shared-slice-known6→start c = shared-slice-known5→start (c .before)
-
-  abbrev pub borders-arg2→loop : tie.After-borders-arg2 Inv μ → tie.At-loop Inv μ
-  borders-arg2→loop c = shared-slice-known6→loop (c .before .before)
-
-  abbrev pub shared-slice-known7→loop : tie.After-shared-slice-known7 Inv μ → tie.At-loop Inv μ
-  shared-slice-known7→loop c = borders-arg2→loop (c .before .before .before .before .before)
-
-  abbrev pub shared-slice-known7→start : tie.After-shared-slice-known7 Inv μ → tie.Start Inv μ
-  shared-slice-known7→start c = shared-slice-known7→loop c .before .before .before .before .before .before
+  abbrev pub joined1→row : tie.Joined1 Inv μ → tie.After-row Inv μ
+  joined1→row c = c .before .before .before
 
   abbrev pub joined1→wide : tie.Joined1 Inv μ → tie.After-wide Inv μ
-  joined1→wide c = shared-slice-known6→wide (c .before .before .before .before)
+  joined1→wide c = joined1→row c .before
 
   abbrev pub joined1→loop : tie.Joined1 Inv μ → tie.At-loop Inv μ
-  joined1→loop c = borders-arg2→loop (c .before .before)
+  joined1→loop c = wide→loop (joined1→wide c)
 
   abbrev pub joined1→start : tie.Joined1 Inv μ → tie.Start Inv μ
-  joined1→start c = shared-slice-known6→start (c .before .before .before .before)
+  joined1→start c = wide→start (joined1→wide c)

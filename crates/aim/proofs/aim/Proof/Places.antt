@@ -9,7 +9,7 @@
 -- wide-requires@In-loop is-free-requires@After-wide slice-write-hint@Then1 trace-requires@After-place same-length@After-slice-known2 returns@After-slice-known2
 -- array-read-wide-2@Else1 wide-requires-2@Else1 row-requires@After-wide2 expand-requires@After-place2 add-head@After-expand loop-less@After-expand loop-again@After-expand
 -- same-length-2@After-loop returns-2@After-loop
-use Rattle.route.proofs.aim.aim.Tie as tie
+use Rattle.aim.proofs.aim.Tie as tie
 
 module _ {Inv : tie.InvT-loop} {μ : tie.MeasureT-loop} where
   abbrev pub slice-known→start : tie.After-slice-known Inv μ → tie.Start Inv μ

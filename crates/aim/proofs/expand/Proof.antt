@@ -5,12 +5,12 @@ use native.Mathlib.Omega.{arith}
 use denote.Ref.{now}
 use lib.ListN.{length, getD}
 use Rattle.model.proofs.Lists.{in-getD}
-use Rattle.route.specs.Queue.{Queue}
-use Rattle.route.proofs.AimLaws.{queue-more}
+use Rattle.aim.specs.Queue.{Queue}
+use Rattle.aim.proofs.AimLaws.{queue-more}
 use borrow.Author.Needs.{needs}
 use borrow.Author.Tests.{ltb-true}
-use Rattle.route.proofs.aim.expand.Statement.{statement}
-use Rattle.route.proofs.aim.expand.Tie as tie
+use Rattle.aim.proofs.expand.Statement.{statement}
+use Rattle.aim.proofs.expand.Tie as tie
 mod Places
 use Places.*
 

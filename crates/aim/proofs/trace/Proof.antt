@@ -4,8 +4,8 @@ use mathlib.Core.Path.{_≡_}
 use lib.ListN.{length}
 use Rattle.model.specs.Limits.{maxCells}
 use borrow.Author.Needs.{needs}
-use Rattle.route.proofs.aim.trace.Statement.{statement}
-use Rattle.route.proofs.aim.trace.Tie as tie
+use Rattle.aim.proofs.trace.Statement.{statement}
+use Rattle.aim.proofs.trace.Tie as tie
 
 abbrev Inv-loop : tie.InvT-loop
 Inv-loop hint₀ to place cells c cell x₀ counter₀ hint x counter = (counter ≤ cells) × (length hint ≡ maxCells) × (x < maxCells)

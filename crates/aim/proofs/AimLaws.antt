@@ -5,9 +5,8 @@ use mathlib.Core.List.{List}
 use native.Mathlib.Omega.{arith}
 use lib.ListN.{length, getD, set, replicate, length-set, length-replicate}
 use Rattle.model.specs.Limits.{maxCells}
-use Rattle.floor.specs.Tables.{Rows, rowOf}
-use Rattle.route.specs.Finds.{Cells}
-use Rattle.route.specs.Queue.{Queue}
+use Rattle.floor.specs.Tables.{rowOf, Cells, Rows}
+use Rattle.aim.specs.Queue.{Queue}
 use Rattle.floor.proofs.TableLaws.{AfterSet, new, old, after-set}
 
 pub queue-more : {cells : ℕ} {queue : List ℕ} {end : ℕ} (b : ℕ) → end < cells → b < cells → Queue cells queue end → Queue cells (set queue end b) (end + 1)

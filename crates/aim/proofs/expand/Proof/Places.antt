@@ -7,7 +7,7 @@
 -- loop-holds@After-shared-slice-known3 shared-slice-read-b@After-shared-slice-known4 wide-requires@After-shared-slice-known4 element-copy-out-if1@After-wide
 -- element-write-seen@Then2 cast-to@Then2 element-write-to@Then2 cast-place@Then2 element-write-place@Then2 element-write-queue@Then2 add-tail@Then2 is-free-requires@Then2
 -- returns@Then3 add-i@Joined1-2 loop-less@Joined1-2 loop-again@Joined1-2 returns-2@After-loop
-use Rattle.route.proofs.aim.expand.Tie as tie
+use Rattle.aim.proofs.expand.Tie as tie
 
 module _ {Inv : tie.InvT-loop} {μ : tie.MeasureT-loop} where
   abbrev pub shared-slice-known3→start : tie.After-shared-slice-known3 Inv μ → tie.Start Inv μ

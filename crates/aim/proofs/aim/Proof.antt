@@ -5,11 +5,11 @@ use mathlib.Core.Path.{_≡_}
 use native.Mathlib.Omega.{arith}
 use lib.ListN.{length}
 use Rattle.model.specs.Limits.{maxCells}
-use Rattle.route.specs.Queue.{Queue}
-use Rattle.route.proofs.AimLaws.{queue-first, row-cells}
+use Rattle.aim.specs.Queue.{Queue}
+use Rattle.aim.proofs.AimLaws.{queue-first, row-cells}
 use borrow.Author.Needs.{needs}
-use Rattle.route.proofs.aim.aim.Statement.{statement}
-use Rattle.route.proofs.aim.aim.Tie as tie
+use Rattle.aim.proofs.aim.Statement.{statement}
+use Rattle.aim.proofs.aim.Tie as tie
 mod Places
 use Places.*
 

@@ -1,5 +1,5 @@
 // A guess that only saves time: over the floor alone, along a shortest way from a call's cell to a free cart, where to look first.
-use crate::rows::row;
+use floor::tables::row;
 use model::Limits;
 use model::bytes::wide;
 use network::planes::Grid;
@@ -8,10 +8,9 @@ ghost use mathlib.Core.Path.{_≡_};
 ghost use Prim.Native.Nat.{_<_, _≤_};
 ghost use lib.ListN.{length};
 ghost use Rattle.model.specs.Limits.{maxCells};
-ghost use Rattle.floor.specs.Tables.{Rows};
+ghost use Rattle.floor.specs.Tables.{Cells, Rows};
 ghost use Rattle.network.specs.Store.{Spacious, Within};
-ghost use Rattle.route.specs.Finds.{Cells};
-ghost use Rattle.route.specs.Queue.{Queue};
+ghost use Rattle.aim.specs.Queue.{Queue};
 
 // Whether a cart stands on the cell at step 0, where a node's place is its cell, that no call has yet.
 fn is_free(cart_on: &[u8], store: &[u8], grid: Grid, c: usize) -> bool
