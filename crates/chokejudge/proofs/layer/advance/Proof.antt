@@ -1,12 +1,12 @@
 -- `advance` spreads from each cell of the queue that is older. Invariant: those from `head` to before i were looked at. What is older stays so, since only cells of this stamp are
 -- added, and they come behind the end of the queue. The measure is what is left of the queue. Assumes nothing.
-use Rattle.chokejudge.specs.Grown.{Between, Grown, Older, Roomy}
+use Rattle.chokejudge.specs.Grown.{Grown, Older, Roomy}
 use mathlib.Core.List.{List}
 use Rattle.chokejudge.specs.ChokeLayers.{Side}
 use Prim.Native.Nat.{_+_, _-_, _≤_, _<_, ℕ}
-use mathlib.Core.Path.{_∙_, _≡_}
+use mathlib.Core.Path.{_∙_, _≡_, subst, sym}
 use native.Mathlib.Omega.{arith}
-use Rattle.chokejudge.proofs.GrownLaws.{Each, each-more, grown-as, grown-none, older-same, still-roomy, in-queue}
+use Rattle.chokejudge.proofs.GrownLaws.{Each, grown-as, grown-none, older-same, in-queue, each-turn}
 use lib.ListN.{getD}
 use denote.Ref.{now}
 use mathlib.Core.Logic.{⊎-elim}
@@ -54,7 +54,7 @@ known c =
     (shared-slice-known4→is-older c .is-older .ensures .0 (shared-slice-known4→then1 c .if1 .taken)))
 
 sub-spread : tie.Need-sub-spread Inv-loop μ-loop
-sub-spread c = omega (arith, shared-slice-known4→start c .pre .4 .1 .climbs _ (known c), shared-slice-known4→start c .pre .4 .1 .fits _ (known c), shared-slice-known4→start c .pre .4 .1 .size)
+sub-spread c = shared-slice-known4→start c .pre .4 .1 .climbs _ (known c)
 
 part-spread-start : tie.Need-part-spread-start Inv-loop μ-loop
 part-spread-start c = omega (arith, shared-slice-known4→start c .pre .4 .1 .climbs _ (known c), shared-slice-known4→start c .pre .4 .1 .fits _ (known c), shared-slice-known4→start c .pre .4 .1 .size)
@@ -65,6 +65,11 @@ part-spread-end c = omega (arith, shared-slice-known4→start c .pre .4 .1 .clim
 spread-requires : tie.Need-spread-requires Inv-loop μ-loop
 spread-requires c κs = (spread-arg3→start c .pre .0, spread-arg3→loop c .loop .inv .3)
 
+-- an older cell's row is what it spreads to
+spreads-as : (O : ℕ → Type 0) (S : ℕ → ℕ → Type 0) {l queue l′ queue′ : List ℕ} {s u w n n′ : ℕ} → u ≡ w → O u
+    → Grown s (S u) l queue n l′ queue′ n′ → Grown s (λ v. O w × S w v) l queue n l′ queue′ n′
+spreads-as O S e o g = grown-as (λ v. (λ q. (rw e at o, rw e at q), λ q. rw e (q .1))) g
+
 loop-again : tie.Need-loop-again Inv-loop μ-loop
 loop-again c =
     let a = joined1→start c .args in
@@ -73,24 +78,14 @@ loop-again c =
     let u = c .before .before .before .wide in
     let e : u .result ≡ getD (now (a .queue)) (l .i) 0 = u .ensures .0 ∙ g .front (l .i) (omega (arith, joined1→start c .pre .3)) in
     let o = c .before .is-older .ensures in
+    let O = Older (now (a .since)) (a .stamp) in
     let S = Spreads (now (a .near)) (now (a .begin)) (now (a .since)) (a .stamp) in
+    let below = joined1→in-loop c .loop-test .taken in
     ⊎-elim
-    (λ w. (
-      omega arith,
-      omega arith,
-      rw (w .11, w .12, w .13)
-          (each-more (now (a .queue)) S (a .head) (l .i) (l .inv .0) g
-          (grown-as (λ v. (λ q. (rw e at (older-same g (u .result) .0 (o .0 (w .0 .taken))), rw e at q), λ q. rw e (q .1))) (w .6 .ensures))),
-      rw (w .11, w .12, w .13) (still-roomy (w .6 .ensures) (l .inv .3)),
-    ))
-    (λ w. (
-      omega arith,
-      omega arith,
-      rw (w .1, w .2, w .3)
-          (each-more (now (a .queue)) S (a .head) (l .i) (l .inv .0) g
-          (grown-none (a .stamp) (l .since) (l .queue) (l .at) (λ v q. absurd (o .1 (w .0 .left) (older-same g (u .result) .1 (rw e (q .0))))))),
-      rw (w .1, w .2, w .3) (l .inv .3),
-    ))
+    (λ w. each-turn (now (a .queue)) S (l .inv .0) below g (l .inv .3)
+    (spreads-as O (Side (now (a .near)) (now (a .begin))) e (older-same g (u .result) .0 (o .0 (w .0 .taken))) (w .6 .ensures)) (w .11) (w .12) (w .13))
+    (λ w. each-turn (now (a .queue)) S (l .inv .0) below g (l .inv .3)
+    (grown-none (a .stamp) (l .since) (l .queue) (l .at) (λ v q. absurd (o .1 (w .0 .left) (older-same g (u .result) .1 (subst O (sym e) (q .0)))))) (w .1) (w .2) (w .3))
     (c .if1 .came)
 
 returns : tie.Need-returns Inv-loop μ-loop

@@ -58,8 +58,11 @@ module _ {Inv : tie.InvT-loop} {μ : tie.MeasureT-loop} where
   abbrev pub spread-arg3→start : tie.After-spread-arg3 Inv μ → tie.Start Inv μ
   spread-arg3→start c = shared-slice-known4→start (c .before .before .before)
 
+  abbrev pub joined1→in-loop : tie.Joined1 Inv μ → tie.In-loop Inv μ
+  joined1→in-loop c = slice-known3→in-loop (c .before .before .before .before)
+
   abbrev pub joined1→loop : tie.Joined1 Inv μ → tie.At-loop Inv μ
-  joined1→loop c = slice-known3→loop (c .before .before .before .before)
+  joined1→loop c = joined1→in-loop c .before
 
   abbrev pub joined1→start : tie.Joined1 Inv μ → tie.Start Inv μ
   joined1→start c = slice-known3→start (c .before .before .before .before)

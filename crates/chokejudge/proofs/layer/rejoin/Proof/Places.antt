@@ -52,8 +52,11 @@ module _ {Inv : tie.InvT-loop} {μ : tie.MeasureT-loop} where
   abbrev pub joined1→wide : tie.Joined1 Inv μ → tie.After-wide Inv μ
   joined1→wide c = shared-slice-known6→wide (c .before .before .before .before)
 
+  abbrev pub joined1→in-loop : tie.Joined1 Inv μ → tie.In-loop Inv μ
+  joined1→in-loop c = joined1→wide c .before .before
+
   abbrev pub joined1→loop : tie.Joined1 Inv μ → tie.At-loop Inv μ
-  joined1→loop c = borders-arg2→loop (c .before .before)
+  joined1→loop c = joined1→in-loop c .before
 
   abbrev pub joined1→start : tie.Joined1 Inv μ → tie.Start Inv μ
   joined1→start c = shared-slice-known6→start (c .before .before .before .before)
