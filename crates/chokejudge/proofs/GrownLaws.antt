@@ -136,6 +136,12 @@ pub themselves : (B R : ℕ → Type 0) {s : ℕ} {l queue l′ queue′ : List 
     → Grown s (λ v. (u : ℕ) × B u × (R u × (v ≡ u))) l queue n l′ queue′ n′ → Grown s (λ v. B v × R v) l queue n l′ queue′ n′
 themselves B R g = grown-as (λ v. (λ p. let e = sym (p .2 .1) in (subst B e (p .1), subst R e (p .2 .0)), λ p. (v, p .0, (p .1, refl)))) g
 
+-- A turn of a loop over the entries a to e of a list: one entry's cells more.
+pub each-turn : (list : List ℕ) (S : ℕ → ℕ → Type 0) {a i e s : ℕ} {l queue l′ queue′ l₁ queue₁ l″ queue″ : List ℕ} {n n′ n₁ n″ : ℕ} → a ≤ i → i < e
+    → Grown s (Each list a i S) l queue n l′ queue′ n′ → Roomy l′ queue′ n′ → Grown s (S (getD list i 0)) l′ queue′ n′ l₁ queue₁ n₁ → l″ ≡ l₁ → queue″ ≡ queue₁ → n″ ≡ n₁
+    → (a ≤ i + 1) × (i + 1 ≤ e) × Grown s (Each list a (i + 1) S) l queue n l″ queue″ n″ × Roomy l″ queue″ n″
+each-turn list S {a} {i} h below g r g′ x y z = (omega arith, omega arith, rw (x, y, z) (each-more list S a i h g g′), rw (x, y, z) (still-roomy g′ r))
+
 -- Some cells, and then what the older cells of the queue lead to: the queue has its old cells still, and those that are older are the same.
 pub both : (P : ℕ → Type 0) (S : ℕ → ℕ → Type 0) (head : ℕ) {s : ℕ} {l queue l′ queue′ l″ queue″ : List ℕ} {tail n′ n″ : ℕ} → Grown s P l queue tail l′ queue′ n′
     → Grown s (λ v. (u : ℕ) × Between queue′ head tail u × (Older l′ s u × S u v)) l′ queue′ n′ l″ queue″ n″

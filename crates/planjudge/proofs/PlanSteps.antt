@@ -3,35 +3,19 @@ use Prim.Native.Nat.{ℕ, zero, suc, _+_, _*_, _≤_, _<_}
 use mathlib.Core.Path.{_≡_, sym, _∙_, ap}
 use mathlib.Core.List.{List}
 use mathlib.Core.Logic.{inl, inr, _⊎_, ⊎-elim}
-use mathlib.Core.Bool.{Bool, true, false, false≢true}
+use mathlib.Core.Bool.{true, false, false≢true}
 use native.Mathlib.Omega.{arith}
 use native.Mathlib.Numerals.{add-one}
-use lib.Dec.{eqb}
 use lib.ListN.{length, getD, set}
 use lib.Seq.{getD-set-same, getD-set-other}
 use borrow.Author.Count.{below-more}
-use borrow.Author.Tests.{eqb-true, eqb-false}
 use Rattle.model.specs.Limits.{maxCells, maxCalls}
 use Rattle.model.proofs.Decide.{dec-eq}
 use Rattle.floor.specs.Order.{SoonerIn}
 use Rattle.job.specs.Bits.{bitAt, withBit, pairsBelow, pairAt}
-use Rattle.job.specs.Held.{Decides}
 use Rattle.job.proofs.BitLaws.{bit-set, bit-other}
 use Rattle.job.proofs.Triangle.{pair-small, pair-same}
 use Rattle.planjudge.specs.PlanTests.{cellOf, Ordered, PairIn, Marks, Goes, Unshared, Trades, Standing}
-
--- Answers.
-pub told : {P : Type 0} → P → Decides true P
-told p = ((λ e. p), λ e. absurd (false≢true (sym e)))
-
-pub denied : {P : Type 0} → (P → ⊥) → Decides false P
-denied n = ((λ e. absurd (false≢true e)), λ e. n)
-
-pub by-equal : {P : Type 0} (a b : ℕ) → (a ≡ b → P) → (P → a ≡ b) → Decides (eqb a b) P
-by-equal a b f g = ((λ e. f (eqb-true a b e)), λ e p. eqb-false a b e (g p))
-
-pub same-answer : {P Q : Type 0} {r : Bool} → (P → Q) → (Q → P) → Decides r P → Decides r Q
-same-answer f g d = ((λ e. f (d .0 e)), λ e q. d .1 e (g q))
 
 -- what holds of two numbers holds of those that they are equal to
 pub at-both : (F : ℕ → ℕ → Type 0) {x y p q : ℕ} → x ≡ p → y ≡ q → F x y → F p q

@@ -1,6 +1,6 @@
 -- `has_due` goes along the chain of the deadline t. Invariant: h is a call of the chain, and those behind it, which were looked at, are not met. The measure is h. Assumes nothing.
+use Rattle.job.proofs.Answers.{denied, told}
 use native.Mathlib.Omega.{arith}
-use Rattle.model.proofs.Basics.{nope}
 use denote.Ref.{now}
 use Rattle.chokejudge.proofs.Numbers.{above}
 use Rattle.chokejudge.specs.Chains.{Chains}
@@ -43,7 +43,7 @@ returns c =
     let l = then1→loop c .loop in
     let b = then1→in-loop c .loop-test .taken in
     λ deadlines calls r. let q = l .inv .3 deadlines calls r in
-    (λ e. (l .h - 1, omega (arith, q .few), (q .is b, above (rw (then1→wide2 c .wide2 .ensures .0) at (c .if1 .taken)))), λ e. nope (cc))
+    told (l .h - 1, omega (arith, q .few), (q .is b, above (rw (then1→wide2 c .wide2 .ensures .0) at (c .if1 .taken))))
 
 loop-less : tie.Need-loop-less Inv-loop μ-loop
 loop-less c =
@@ -75,7 +75,7 @@ returns-2 : tie.Need-returns-2 Inv-loop μ-loop
 returns-2 c =
     let l = after-loop→loop c .loop in
     λ deadlines calls r. let q = l .inv .3 deadlines calls r in
-    (λ e. nope (cc), λ e p. q .none (p .0) (p .1) (omega arith) (p .2 .0) (p .2 .1))
+    denied (λ p. q .none (p .0) (p .1) (omega arith) (p .2 .0) (p .2 .1))
 
 pub has-due-spec : {M : Type 1} → statement M
 has-due-spec =

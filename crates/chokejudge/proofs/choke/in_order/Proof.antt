@@ -1,10 +1,10 @@
 -- `in_order` compares each choke point with the one before it. Invariant: those before i rise. The measure is what is left of the n points. Assumes nothing.
+use Rattle.job.proofs.Answers.{denied, told}
 use Rattle.model.specs.Choke.{Rises}
 use Prim.Native.Nat.{_-_, _<_, _≤_, ℕ}
 use native.Mathlib.Omega.{arith}
 use borrow.Author.Count.{below-more}
 use Rattle.chokejudge.proofs.OrderLaws.{in-order, pointAt}
-use Rattle.model.proofs.Basics.{nope}
 use borrow.Author.Tests.{not-false, not-true}
 use denote.Ref.{now}
 use borrow.Author.Needs.{needs}
@@ -24,11 +24,11 @@ loop-holds c = (search needs, λ k l g. absurd (omega arith))
 
 returns : tie.Need-returns Inv-loop μ-loop
 returns c =
-    let a = then1→start c .args in (
-      λ e. nope (cc),
-      λ e o. then1→rises c .rises .ensures .1 (not-true _ (c .if1 .taken))
-          (in-order (now (a .cells)) (now (a .steps)) (a .n) (omega arith) (omega arith) .0 o (then1→loop c .loop .i) (omega arith) (omega arith)),
-    )
+    let a = then1→start c .args in
+    let p = then1→start c .pre in
+    let l = then1→loop c .loop in
+    denied
+    (λ o. then1→rises c .rises .ensures .1 (not-true _ (c .if1 .taken)) (in-order (now (a .cells)) (now (a .steps)) (a .n) (p .0) (p .1) .0 o (l .i) (then1→in-loop c .loop-test .taken) (l .inv .0)))
 
 loop-again : tie.Need-loop-again Inv-loop μ-loop
 loop-again c = (omega arith, below-more _ _ (else1→loop c .loop .inv .1) (λ l. else1→rises c .rises .ensures .0 (not-false _ (c .if1 .left))))
@@ -36,7 +36,8 @@ loop-again c = (omega arith, below-more _ _ (else1→loop c .loop .inv .1) (λ l
 returns-2 : tie.Need-returns-2 Inv-loop μ-loop
 returns-2 c =
     let a = after-loop→start c .args in
-    (λ e. in-order (now (a .cells)) (now (a .steps)) (a .n) (omega arith) (omega arith) .1 (λ k l. after-loop→loop c .loop .inv .1 k (omega arith)), λ e. nope (cc))
+    let p = after-loop→start c .pre in
+    told (in-order (now (a .cells)) (now (a .steps)) (a .n) (p .0) (p .1) .1 (λ k l. after-loop→loop c .loop .inv .1 k (omega arith)))
 
 pub in-order-spec : {M : Type 1} → statement M
 in-order-spec =

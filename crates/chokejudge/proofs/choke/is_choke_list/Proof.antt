@@ -1,4 +1,5 @@
 -- `is_choke_list` decides what no walk gets round: the points are in order, and no call is reached without standing on one. Assumes nothing.
+use Rattle.job.proofs.Answers.{denied}
 use Rattle.job.specs.Arrays.{jobOf}
 use Rattle.job.proofs.Arrays.{Whole, long, whole}
 use Prim.Native.Nat.{_≤_}
@@ -6,7 +7,6 @@ use native.Mathlib.Omega.{arith}
 use Rattle.chokejudge.proofs.ChokeLayers.{carts-known, chokes-right, chokes-wrong, points-known}
 use Rattle.chokejudge.proofs.OrderLaws.{climbs, in-order}
 use lib.ListN.{length}
-use Rattle.model.proofs.Basics.{nope}
 use borrow.Author.Tests.{not-false, not-true}
 use denote.Ref.{now}
 use Rattle.floor.proofs.JobTables.{tracks-of, near-of}
@@ -26,7 +26,7 @@ enough-steps : (c : tie.Start) → c .args .n ≤ length (now (c .args .steps))
 enough-steps c = omega (arith, c .pre .1 .calls, c .pre .3, c .pre .4)
 
 returns : tie.Need-returns
-returns c = (λ e. nope (cc), λ e r. then1→in-order c .in-order .ensures .1 (not-true _ (c .if1 .taken)) (r .1))
+returns c = denied (λ r. then1→in-order c .in-order .ensures .1 (not-true _ (c .if1 .taken)) (r .1))
 
 neighbours-requires : tie.Need-neighbours-requires
 neighbours-requires c κs =

@@ -1,15 +1,16 @@
 -- `reaches` holds the layer of one step after the other. Invariant: the table is the layer of step t, and no call with a deadline before t was reached. The measure is what is
 -- left of the steps. Assumes nothing.
 use Rattle.model.specs.Job.{horizon}
-use mathlib.Core.Path.{_∙_}
-use Rattle.model.proofs.Basics.{nope}
+use mathlib.Core.Path.{_≡_, refl, _∙_}
 use Rattle.chokejudge.proofs.StepLaws.{Holding, Unmet, holding-first, holding-next, call-in, older-known, roomy, unmet-more}
 use Prim.Native.Nat.{_+_, _-_, _<_, _≤_, ℕ}
 use native.Mathlib.Omega.{arith}
+use native.Mathlib.Nat.{not-suc-le-zero}
 use Rattle.chokejudge.proofs.ClearedLaws.{cursor-first}
 use lib.ListN.{getD}
 use Rattle.model.specs.Limits.{maxCells}
 use denote.Ref.{now}
+use Rattle.job.proofs.Answers.{denied, told}
 use Rattle.job.proofs.Arrays.{latest-le}
 use Rattle.floor.proofs.TableLaws.{zeros}
 use Rattle.chokejudge.specs.ChokeLayers.{Reached}
@@ -36,7 +37,7 @@ close-requires c κs =
     (p .3, p .4, since3→place c .place .ensures .cells, p .5, cursor-first (now (since3→start c .args .steps)) (since3→start c .args .n))
 
 loop-holds : tie.Need-loop-holds Inv-loop μ-loop
-loop-holds c = (omega arith, holding-first (zeros maxCells) (search needs) (search needs) (since4→place c .place .ensures) (since4→close c .close .ensures), λ k h l. absurd (omega arith))
+loop-holds c = (omega arith, holding-first (zeros maxCells) (search needs) (search needs) (since4→place c .place .ensures) (since4→close c .close .ensures), λ k h l. absurd (not-suc-le-zero l))
 
 has-due-requires : tie.Need-has-due-requires Inv-loop μ-loop
 has-due-requires c κs =
@@ -48,11 +49,10 @@ has-due-requires c κs =
 
 returns : tie.Need-returns Inv-loop μ-loop
 returns c =
-    let a = then1→start c .args in (
-      λ e. call-in (then1→loop c .loop .inv .1) (now (a .lifts)) (now (a .deadlines)) (a .calls)
-          (then1→has-due c .has-due .ensures (now (a .deadlines)) (a .calls) (then1→start c .pre .1, then1→chain c .chain .ensures) .0 (c .if1 .taken)),
-      λ e. nope (cc),
-    )
+    let a = then1→start c .args in
+    told
+    (call-in (then1→loop c .loop .inv .1) (now (a .lifts)) (now (a .deadlines)) (a .calls)
+    (then1→has-due c .has-due .ensures (now (a .deadlines)) (a .calls) (then1→start c .pre .1, then1→chain c .chain .ensures) .0 (c .if1 .taken)))
 
 grow-requires : tie.Need-grow-requires Inv-loop μ-loop
 grow-requires c κs =
@@ -72,28 +72,40 @@ close-requires-2 c κs =
     let h = since8→loop c .loop .inv .1 in
     (p .3, p .4, since8→grow c .grow .ensures .cells ∙ h .size, p .5, h .to)
 
+turned : {t last : ℕ} → t ≤ last → t + 1 ≤ last + 1
+turned h = omega arith
+
+fewer : {t last : ℕ} → t ≤ last → last + 1 - (t + 1) < last + 1 - t
+fewer h = omega arith
+
+loop-less : tie.Need-loop-less Inv-loop μ-loop
+loop-less c = fewer (since9→in-loop c .loop-test .taken)
+
 loop-again : tie.Need-loop-again Inv-loop μ-loop
 loop-again c =
     let a = since9→start c .args in
     let p = since9→start c .pre in
     let l = since9→loop c .loop in
     let h = l .inv .1 in (
-      omega (arith, since9→in-loop c .loop-test .taken),
+      turned (since9→in-loop c .loop-test .taken),
       holding-next h (p .6 .1) (p .6 .2) (p .6 .3) (since9→grow c .grow .ensures) (since9→close2 c .close2 .ensures),
       unmet-more h (now (a .lifts)) (now (a .deadlines)) (a .calls)
           (since9→has-due c .has-due .ensures (now (a .deadlines)) (a .calls) (p .1, since9→chain c .chain .ensures) .1 (since9→else1 c .if1 .left)) (l .inv .2),
     )
 
+passed : {x y last t : ℕ} → x ≤ y → last ≡ y → last < t → x < t
+passed h e l = omega arith
+
 returns-2 : tie.Need-returns-2 Inv-loop μ-loop
 returns-2 c =
     let a = after-loop→start c .args in
     let l = after-loop→loop c .loop in
-    (λ e. nope (cc), λ e m. l .inv .2 (m .0) (m .1) (omega (arith, latest-le (now (a .deadlines)) (a .calls) (m .0) (m .1), after-loop→horizon c .horizon .ensures .0, c .loop-test .left)) (m .2))
+    denied (λ m. l .inv .2 (m .0) (m .1) (passed (latest-le (now (a .deadlines)) (a .calls) (m .0) (m .1)) (after-loop→horizon c .horizon .ensures .0) (c .loop-test .left)) (m .2))
 
 pub reaches-spec : {M : Type 1} → statement M
 reaches-spec =
     tie.close
     (tie.spec
-    Inv-loop μ-loop (λ c κs. search needs) (λ c. search needs) (λ c. search needs) (λ c κs. search needs) (λ c. search needs) (λ c. search needs) place-requires (λ c. search needs)
+    Inv-loop μ-loop (λ c κs. search needs) (λ c. refl) (λ c. refl) (λ c κs. search needs) (λ c. refl) (λ c. refl) place-requires (λ c. search needs)
     close-requires loop-holds (λ c. search needs) (λ c. search needs) (λ c. search needs) has-due-requires returns (λ c. search needs) (λ c. search needs) (λ c. search needs)
-    (λ c. search needs) (λ c. search needs) grow-requires (λ c. search needs) close-requires-2 (λ c. search needs) loop-again returns-2)
+    (λ c. search needs) (λ c. search needs) grow-requires (λ c. search needs) close-requires-2 loop-less loop-again returns-2)

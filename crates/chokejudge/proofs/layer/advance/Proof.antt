@@ -4,11 +4,13 @@ use Rattle.chokejudge.specs.Grown.{Grown, Older, Roomy}
 use mathlib.Core.List.{List}
 use Rattle.chokejudge.specs.ChokeLayers.{Side}
 use Prim.Native.Nat.{_-_, _≤_, _<_, ℕ}
-use mathlib.Core.Path.{_∙_, _≡_}
+use mathlib.Core.Path.{_∙_, _≡_, subst, sym}
 use native.Mathlib.Omega.{arith}
-use Rattle.chokejudge.proofs.GrownLaws.{Each, each-more, grown-as, grown-none, older-same, still-roomy, in-queue}
+use Rattle.chokejudge.proofs.GrownLaws.{Each, grown-as, grown-none, older-same, in-queue, each-turn}
 use lib.ListN.{getD}
 use denote.Ref.{now}
+use Rattle.model.specs.Lists.{In}
+use Rattle.floor.specs.Tables.{rowOf}
 use Rattle.floor.proofs.JobTables.{rows-bounded}
 use mathlib.Core.Logic.{⊎-elim}
 use borrow.Author.Needs.{needs}
@@ -45,32 +47,27 @@ row-requires c κs = rows-bounded (then1→start c .pre .4 .1) (λ i. omega (ari
 spread-requires : tie.Need-spread-requires Inv-loop μ-loop
 spread-requires c κs = (spread-arg2→start c .pre .0, spread-arg2→loop c .loop .inv .3)
 
+-- an older cell's row is what it spreads to
+spreads-as : (O : ℕ → Type 0) (near begin : List ℕ) {row l queue l′ queue′ : List ℕ} {s u w n n′ : ℕ} → u ≡ w → O u → row ≡ rowOf near begin u
+    → Grown s (λ x. In x row) l queue n l′ queue′ n′ → Grown s (λ v. O w × Side near begin w v) l queue n l′ queue′ n′
+spreads-as O near begin e o f g = grown-as (λ v. (λ q. (rw e at o, rw (f, e) at q), λ q. rw (f, e) (q .1))) g
+
 loop-again : tie.Need-loop-again Inv-loop μ-loop
 loop-again c =
     let a = joined1→start c .args in
     let l = joined1→loop c .loop in
     let g = l .inv .2 in
-    let u = c .before .before .before .wide in
+    let u = joined1→wide c .wide in
     let e : u .result ≡ getD (now (a .queue)) (l .i) 0 = u .ensures .0 ∙ g .front (l .i) (omega (arith, joined1→start c .pre .3)) in
-    let o = c .before .is-older .ensures in
+    let o = joined1→is-older c .is-older .ensures in
+    let O = Older (now (a .since)) (a .stamp) in
     let S = Spreads (now (a .near)) (now (a .begin)) (now (a .since)) (a .stamp) in
+    let below = joined1→in-loop c .loop-test .taken in
     ⊎-elim
-    (λ w. (
-      omega arith,
-      omega arith,
-      rw (w .9, w .10, w .11)
-          (each-more (now (a .queue)) S (a .head) (l .i) (l .inv .0) g
-          (grown-as (λ v. (λ q. (rw e at (older-same g (u .result) .0 (o .0 (w .0 .taken))), rw (w .1 .ensures, e) at q), λ q. rw (w .1 .ensures, e) (q .1))) (w .4 .ensures))),
-      rw (w .9, w .10, w .11) (still-roomy (w .4 .ensures) (l .inv .3)),
-    ))
-    (λ w. (
-      omega arith,
-      omega arith,
-      rw (w .1, w .2, w .3)
-          (each-more (now (a .queue)) S (a .head) (l .i) (l .inv .0) g
-          (grown-none (a .stamp) (l .since) (l .queue) (l .at) (λ v q. absurd (o .1 (w .0 .left) (older-same g (u .result) .1 (rw e (q .0))))))),
-      rw (w .1, w .2, w .3) (l .inv .3),
-    ))
+    (λ w. each-turn (now (a .queue)) S (l .inv .0) below g (l .inv .3)
+    (spreads-as O (now (a .near)) (now (a .begin)) e (older-same g (u .result) .0 (o .0 (w .0 .taken))) (w .1 .ensures) (w .4 .ensures)) (w .9) (w .10) (w .11))
+    (λ w. each-turn (now (a .queue)) S (l .inv .0) below g (l .inv .3)
+    (grown-none (a .stamp) (l .since) (l .queue) (l .at) (λ v q. absurd (o .1 (w .0 .left) (older-same g (u .result) .1 (subst O (sym e) (q .0)))))) (w .1) (w .2) (w .3))
     (c .if1 .came)
 
 returns : tie.Need-returns Inv-loop μ-loop

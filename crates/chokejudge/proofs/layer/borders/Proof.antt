@@ -1,12 +1,11 @@
 -- `borders` looks at each cell of a row. Invariant: none of the first i is older than the stamp. The measure is what is left of the row. Assumes nothing.
+use Rattle.job.proofs.Answers.{denied, told}
 use borrow.Author.Needs.{needs}
-use mathlib.Core.Bool.{cond}
 use borrow.Author.Count.{below-more}
-use Rattle.model.proofs.Basics.{nope}
 use Rattle.model.proofs.Lists.{in-getD, in-place}
 use Rattle.chokejudge.specs.Grown.{Older}
 use Prim.Native.Nat.{_-_, _<_, _≤_, ℕ}
-use mathlib.Core.Path.{sym, ap, subst}
+use mathlib.Core.Path.{sym, subst}
 use native.Mathlib.Omega.{arith}
 use lib.ListN.{length, getD}
 use denote.Ref.{now}
@@ -26,10 +25,8 @@ loop-holds c = (omega arith, λ k h. absurd (omega arith))
 
 returns : tie.Need-returns Inv-loop μ-loop
 returns c =
-    let e = then1→wide c .wide .ensures .0 in (
-      λ z. (then1→wide c .wide .result, rw e (in-getD (now (then1→start c .args .row)) (then1→loop c .loop .i) 0 (omega arith)), then1→is-older c .is-older .ensures .0 (c .if1 .taken)),
-      λ z. nope (ap (λ b. cond b 0 1) z),
-    )
+    let e = then1→wide c .wide .ensures .0 in
+    told (then1→wide c .wide .result, rw e (in-getD (now (then1→start c .args .row)) (then1→loop c .loop .i) 0 (omega arith)), then1→is-older c .is-older .ensures .0 (c .if1 .taken))
 
 loop-again : tie.Need-loop-again Inv-loop μ-loop
 loop-again c =
@@ -42,7 +39,7 @@ loop-again c =
 returns-2 : tie.Need-returns-2 Inv-loop μ-loop
 returns-2 c =
     let l = after-loop→loop c .loop in
-    (λ e. nope (cc), λ e p. let (k, h, q) = in-place (p .0) (now (after-loop→start c .args .row)) 0 (p .1) in l .inv .1 k (omega arith) (rw q at (p .2)))
+    denied (λ p. let (k, h, q) = in-place (p .0) (now (after-loop→start c .args .row)) 0 (p .1) in l .inv .1 k (omega arith) (rw q at (p .2)))
 
 pub borders-spec : {M : Type 1} → statement M
 borders-spec =

@@ -6,7 +6,7 @@ use Rattle.chokejudge.specs.ChokeLayers.{Side}
 use Prim.Native.Nat.{_-_, _≤_, _<_, ℕ}
 use mathlib.Core.Path.{_≡_, _∙_, ap}
 use native.Mathlib.Omega.{arith}
-use Rattle.chokejudge.proofs.GrownLaws.{Each, each-more, grown-as, grown-none, older-some, still-roomy, themselves}
+use Rattle.chokejudge.proofs.GrownLaws.{Each, grown-as, grown-none, older-some, themselves, each-turn}
 use lib.ListN.{getD}
 use denote.Ref.{now}
 use Rattle.floor.specs.Tables.{rowOf}
@@ -55,23 +55,11 @@ loop-again c =
     let b = rw e at (c .before .borders .ensures) in
     let S = Back (now (a .near)) (now (a .begin)) (now (a .since)) (a .stamp) in
     let same = older-some g (Side (now (a .near)) (now (a .begin)) (getD (now (a .cells)) (l .k) 0)) in
+    let below = joined1→in-loop c .loop-test .taken in
     ⊎-elim
-    (λ w. (
-      omega arith,
-      omega arith,
-      rw (w .9, w .10, w .11)
-          (each-more (now (a .cells)) S (a .opens) (l .k) (l .inv .0) g
-          (grown-as (λ v. (λ q. (same .0 (b .0 (w .0 .taken)), q), λ q. q .1)) (w .4 .ensures))),
-      rw (w .9, w .10, w .11) (still-roomy (w .4 .ensures) (l .inv .3)),
-    ))
-    (λ w. (
-      omega arith,
-      omega arith,
-      rw (w .1, w .2, w .3)
-          (each-more (now (a .cells)) S (a .opens) (l .k) (l .inv .0) g
-          (grown-none (a .stamp) (l .since) (l .queue) (l .at) (λ v q. absurd (b .1 (w .0 .left) (same .1 (q .0)))))),
-      rw (w .1, w .2, w .3) (l .inv .3),
-    ))
+    (λ w. each-turn (now (a .cells)) S (l .inv .0) below g (l .inv .3) (grown-as (λ v. (λ q. (same .0 (b .0 (w .0 .taken)), q), λ q. q .1)) (w .4 .ensures)) (w .9) (w .10) (w .11))
+    (λ w. each-turn (now (a .cells)) S (l .inv .0) below g (l .inv .3)
+    (grown-none (a .stamp) (l .since) (l .queue) (l .at) (λ v q. absurd (b .1 (w .0 .left) (same .1 (q .0))))) (w .1) (w .2) (w .3))
     (c .if1 .came)
 
 returns : tie.Need-returns Inv-loop μ-loop

@@ -4,7 +4,8 @@ use Rattle.planjudge.specs.PlanTests.{Standing, cellOf}
 use Prim.Native.Nat.{_-_, _≤_}
 use mathlib.Core.Path.{_≡_, _∙_, ap}
 use native.Mathlib.Omega.{arith}
-use Rattle.planjudge.proofs.PlanSteps.{denied, standing-unshared, standing-none, standing-taken, told, standing-left, standing-more}
+use Rattle.job.proofs.Answers.{denied, told}
+use Rattle.planjudge.proofs.PlanSteps.{standing-unshared, standing-none, standing-taken, standing-left, standing-more}
 use mathlib.Core.Bool.{false≢true}
 use lib.ListN.{getD, length, length-set, set}
 use Rattle.model.specs.Limits.{maxCells, maxCalls}

@@ -19,8 +19,11 @@ module _ {Inv : tie.InvT-loop} {μ : tie.MeasureT-loop} where
   abbrev pub then1→rises : tie.Then1 Inv μ → tie.After-rises Inv μ
   then1→rises c = c .before
 
+  abbrev pub then1→in-loop : tie.Then1 Inv μ → tie.In-loop Inv μ
+  then1→in-loop c = then1→rises c .before .before .before .before .before
+
   abbrev pub then1→loop : tie.Then1 Inv μ → tie.At-loop Inv μ
-  then1→loop c = then1→rises c .before .before .before .before .before .before
+  then1→loop c = then1→in-loop c .before
 
   abbrev pub then1→start : tie.Then1 Inv μ → tie.Start Inv μ
   then1→start c = then1→loop c .before .before .before

@@ -50,8 +50,17 @@ module _ {Inv : tie.InvT-loop} {μ : tie.MeasureT-loop} where
   abbrev pub spread-arg2→start : tie.After-spread-arg2 Inv μ → tie.Start Inv μ
   spread-arg2→start c = then1→start (c .before .before .before)
 
+  abbrev pub joined1→is-older : tie.Joined1 Inv μ → tie.After-is-older Inv μ
+  joined1→is-older c = c .before
+
+  abbrev pub joined1→wide : tie.Joined1 Inv μ → tie.After-wide Inv μ
+  joined1→wide c = joined1→is-older c .before .before
+
+  abbrev pub joined1→in-loop : tie.Joined1 Inv μ → tie.In-loop Inv μ
+  joined1→in-loop c = joined1→wide c .before .before
+
   abbrev pub joined1→loop : tie.Joined1 Inv μ → tie.At-loop Inv μ
-  joined1→loop c = slice-known3→loop (c .before .before .before .before)
+  joined1→loop c = joined1→in-loop c .before
 
   abbrev pub joined1→start : tie.Joined1 Inv μ → tie.Start Inv μ
   joined1→start c = slice-known3→start (c .before .before .before .before)

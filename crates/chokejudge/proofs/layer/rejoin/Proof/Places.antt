@@ -47,6 +47,9 @@ module _ {Inv : tie.InvT-loop} {μ : tie.MeasureT-loop} where
   abbrev pub joined1→wide : tie.Joined1 Inv μ → tie.After-wide Inv μ
   joined1→wide c = joined1→row c .before
 
+  abbrev pub joined1→in-loop : tie.Joined1 Inv μ → tie.In-loop Inv μ
+  joined1→in-loop c = wide→in-loop (joined1→wide c)
+
   abbrev pub joined1→loop : tie.Joined1 Inv μ → tie.At-loop Inv μ
   joined1→loop c = wide→loop (joined1→wide c)
 
