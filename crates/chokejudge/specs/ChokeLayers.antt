@@ -1,5 +1,5 @@
 -- What the check of a choke list decides, for lists and numbers: layer by layer, the cells that a cart can be on at a step without having stood on a choke point.
-use Prim.Native.Nat.{ℕ, zero, suc, _<_}
+use Prim.Native.Nat.{ℕ, zero, suc}
 use mathlib.Core.Path.{_≡_}
 use mathlib.Core.List.{List}
 use lib.ListN.{getD}

@@ -1,5 +1,5 @@
 -- The check passes every sheet that the planner may write. Assumes nothing.
-use Prim.Native.Nat.{ℕ, _+_, _*_, _<_}
+use Prim.Native.Nat.{ℕ, _+_, _*_}
 use mathlib.Core.Path.{_≡_, refl, ap, _∙_}
 use mathlib.Core.List.{List}
 use mathlib.Core.Logic.{inl, inr}
@@ -7,13 +7,12 @@ use lib.ListN.{length}
 use Rattle.model.specs.declared.answer.Answer.{Answer}
 use Rattle.model.specs.declared.answer.Answer.the-variants as answer
 use Rattle.model.specs.Answers.{number}
-use Rattle.model.specs.Limits.{maxSteps}
-use Rattle.model.specs.Job.{Job, horizon}
+use Rattle.model.specs.Job.{Job}
 use Rattle.model.specs.Ready.{Fit}
 use Rattle.model.specs.ReadSheet.{Sheet, readSheet}
 use Rattle.model.specs.Contracts.{Answers, Judged}
 use Rattle.model.proofs.Floor.{path-known, known-test}
-use Rattle.model.proofs.Written.{few-steps, plan-read, cannot-read}
+use Rattle.model.proofs.Written.{plan-read, cannot-read}
 
 module _ (j : Job) (f : Fit j) where
   -- PLAN for a PLAN, CANNOT for a CANNOT

@@ -1,6 +1,6 @@
 -- What one line says, in plain lists: its numbers by the scans at its fields, the fields by the tests in their order, the line by the word that
 -- opens it. A field count of 1 or 2 leaves no other place for a tab, so the scans see every field. Assumes nothing.
-use Prim.Native.Nat.{ℕ, suc, _+_, _-_, _≤_, _<_}
+use Prim.Native.Nat.{ℕ, _+_, _-_, _<_}
 use mathlib.Core.Path.{_≡_, refl, sym, ap, _∙_}
 use mathlib.Core.List.{List, [], _∷_}
 use mathlib.Core.Logic.{_⊎_, inl, inr}
@@ -14,10 +14,9 @@ use borrow.Author.Tests.{ltb-true, ltb-false, eq-eqb, ne-eqb}
 use Rattle.model.specs.declared.answer.Answer.the-variants.{BadLine}
 use Rattle.model.specs.Job as model
 use Rattle.model.specs.Job.{track, call}
-use Rattle.model.specs.Text.{startsWith, fieldsOf, andNumber, numbersOf, opens, floorWord, trackWord, cartWord, callWord}
+use Rattle.model.specs.Text.{fieldsOf, andNumber, numbersOf, opens, floorWord, trackWord, cartWord, callWord}
 use Rattle.model.specs.ReadJob.{Said, wrong, floorLine, trackLine, cartLine, callLine, mayFollow, fieldCount, numbersSay, fieldsSay, lineSays}
 use Rattle.model.specs.ReadJob as read
-use Rattle.model.proofs.Basics.{nope}
 use Rattle.text.specs.declared.scan.Scan.the-variants as scan
 use Rattle.text.specs.Scan.{numberAt}
 use Rattle.text.proofs.Numbers.{number-none, number-last, number-more, count-last, count-more, fields-some}

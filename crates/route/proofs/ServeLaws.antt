@@ -1,7 +1,7 @@
 -- What a call's search and augmentation leave, put together: a search keeps the flow, so the next search or the augmentation may start from its store, and
 -- what is served is told from the store at entry. Marks stay at most the stamp, so that a larger one is on none of them. Assumes nothing.
 use Prim.Native.Nat.{ℕ, _<_, _≤_}
-use mathlib.Core.Path.{_≡_, sym, _∙_, subst, subst₂}
+use mathlib.Core.Path.{_≡_, _∙_, subst, subst₂}
 use mathlib.Core.List.{List}
 use mathlib.Core.Bool.{Bool, true, false}
 use mathlib.Core.Logic.{_⊎_, _↔_, ⊎-elim}
@@ -12,7 +12,6 @@ use Rattle.model.proofs.Basics.{nope}
 use Rattle.flow.specs.Flow.{Link, end}
 use Rattle.network.specs.Store.{gridOf}
 use Rattle.network.specs.Links.{onLink}
-use Rattle.network.specs.Holds.{SameFlow}
 use Rattle.network.specs.declared.planes.Grid.{Grid}
 use Rattle.network.proofs.HoldsLaws.{on-same, holds-same, holds-flow}
 use Rattle.route.specs.Stack.{posAt}

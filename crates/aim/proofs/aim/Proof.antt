@@ -34,7 +34,7 @@ known : (c : tie.After-wide2 Inv-loop μ-loop) → c .wide2 .result < wide2→st
 known c = omega (arith, c .wide2 .ensures .0, wide2→loop c .loop .inv .1 .known (wide2→loop c .loop .head) (wide2→in-loop c .loop-test .taken))
 
 row-requires : tie.Need-row-requires Inv-loop μ-loop
-row-requires c κs = let p = wide2→start c .pre in (wide2→start c .args .grid .cells, p .0, known c, p .1)
+row-requires c κs = let p = wide2→start c .pre in (wide2→start c .args .grid .cells, p .0, known c, omega (arith, known c))
 
 expand-requires : tie.Need-expand-requires Inv-loop μ-loop
 expand-requires c κs =

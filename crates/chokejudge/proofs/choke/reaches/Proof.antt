@@ -1,13 +1,11 @@
 -- `reaches` holds the layer of one step after the other. Invariant: the table is the layer of step t, and no call with a deadline before t was reached. The measure is what is
 -- left of the steps. Assumes nothing.
-use Rattle.model.specs.Job.{horizon}
 use mathlib.Core.Path.{_≡_, refl, _∙_}
 use Rattle.chokejudge.proofs.StepLaws.{Holding, Unmet, holding-first, holding-next, call-in, older-known, roomy, unmet-more}
 use Prim.Native.Nat.{_+_, _-_, _<_, _≤_, ℕ}
 use native.Mathlib.Omega.{arith}
 use native.Mathlib.Nat.{not-suc-le-zero}
 use Rattle.chokejudge.proofs.ClearedLaws.{cursor-first}
-use lib.ListN.{getD}
 use Rattle.model.specs.Limits.{maxCells}
 use denote.Ref.{now}
 use Rattle.job.proofs.Answers.{denied, told}

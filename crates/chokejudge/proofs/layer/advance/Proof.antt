@@ -11,7 +11,6 @@ use lib.ListN.{getD}
 use denote.Ref.{now}
 use Rattle.model.specs.Lists.{In}
 use Rattle.floor.specs.Tables.{rowOf}
-use Rattle.floor.proofs.JobTables.{rows-bounded}
 use mathlib.Core.Logic.{⊎-elim}
 use borrow.Author.Needs.{needs}
 use Rattle.chokejudge.proofs.layer.advance.Statement.{statement}
@@ -42,7 +41,7 @@ known : (c : tie.Then1 Inv-loop μ-loop) → then1→wide c .wide .result < then
 known c = then1→start c .pre .4 .2 (then1→wide c .wide .result) (older-same (then1→loop c .loop .inv .2) (then1→wide c .wide .result) .0 (then1→is-older c .is-older .ensures .0 (c .if1 .taken)))
 
 row-requires : tie.Need-row-requires Inv-loop μ-loop
-row-requires c κs = rows-bounded (then1→start c .pre .4 .1) (λ i. omega (arith, then1→shared-slice-known c .shared-slice-known .given i)) (known c) (then1→wide c .wide .ensures .1)
+row-requires c κs = let p = then1→start c .pre .4 in (p .0, p .1, known c, then1→wide c .wide .ensures .1)
 
 spread-requires : tie.Need-spread-requires Inv-loop μ-loop
 spread-requires c κs = (spread-arg2→start c .pre .0, spread-arg2→loop c .loop .inv .3)

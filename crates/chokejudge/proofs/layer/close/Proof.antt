@@ -8,7 +8,6 @@ use Prim.Native.Nat.{_+_, _-_, _<_, _≤_, ℕ}
 use mathlib.Core.Path.{_≡_, _∙_, sym}
 use native.Mathlib.Omega.{arith}
 use Rattle.chokejudge.proofs.ClearedLaws.{Alike, cleared-none, cursor-end, cleared-more, later}
-use lib.ListN.{getD}
 use denote.Ref.{now}
 use borrow.Author.Needs.{needs}
 use Rattle.chokejudge.proofs.layer.close.Statement.{statement}

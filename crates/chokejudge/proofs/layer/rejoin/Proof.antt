@@ -10,7 +10,6 @@ use Rattle.chokejudge.proofs.GrownLaws.{Each, grown-as, grown-none, old
 use lib.ListN.{getD}
 use denote.Ref.{now}
 use Rattle.floor.specs.Tables.{rowOf}
-use Rattle.floor.proofs.JobTables.{rows-bounded}
 use mathlib.Core.Logic.{⊎-elim}
 use borrow.Author.Needs.{needs}
 use Rattle.chokejudge.proofs.layer.rejoin.Statement.{statement}
@@ -38,7 +37,7 @@ known : (c : tie.After-wide Inv-loop μ-loop) → c .wide .result < wide→start
 known c = omega (arith, c .wide .ensures .0, wide→start c .pre .4 .2 (wide→loop c .loop .k) (wide→in-loop c .loop-test .taken))
 
 row-requires : tie.Need-row-requires Inv-loop μ-loop
-row-requires c κs = rows-bounded (wide→start c .pre .4 .1) (λ i. omega (arith, wide→shared-slice-known c .shared-slice-known .given i)) (known c) (c .wide .ensures .1)
+row-requires c κs = let p = wide→start c .pre .4 in (p .0, p .1, known c, c .wide .ensures .1)
 
 borders-requires : tie.Need-borders-requires Inv-loop μ-loop
 borders-requires c κs = borders-arg→loop c .loop .inv .3 .cells

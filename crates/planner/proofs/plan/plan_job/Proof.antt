@@ -1,6 +1,5 @@
 -- `plan::plan_job` meets its contract: what is solved can be written, and what is written is the answer. Its text is short, so the packed number fits.
 -- Assumes nothing.
-use Rattle.model.specs.ReadJob.{right}
 use Prim.Native.Nat.{ℕ}
 use mathlib.Core.List.{List}
 use mathlib.Core.Path.{_≡_, subst}

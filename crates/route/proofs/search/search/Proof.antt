@@ -90,7 +90,10 @@ returns c = λ j h.
     ends-some _ p h (w .going .run) (l .depth - 1) (omega arith) (is-goal w (then2→then1 c .if1 .taken) (c .if2 .taken))
 
 row-requires : tie.Need-row-requires Inv-loop μ-loop
-row-requires c κs = let (j, h) = one (joined1→push c) in (j .cells, h .tables .sides .rows, stands (turn (joined1→in-loop c) j h) .2 .0, h .holds .ready .fit .few-cells)
+row-requires c κs =
+    let (j, h) = one (joined1→push c) in
+    let known = stands (turn (joined1→in-loop c) j h) .2 .0 in
+    (j .cells, h .tables .sides .rows, known, omega (arith, known, h .holds .ready .fit .few-cells))
 
 shared-slice-read-wide : tie.Need-shared-slice-read-wide Inv-loop μ-loop
 shared-slice-read-wide c = let (j, h) = one (shared-slice-known7→push c) in omega (arith, stands (turn (shared-slice-known7→in-loop c) j h) .2 .0, h .hints, h .holds .ready .fit .few-cells)
