@@ -3,10 +3,10 @@
 use Rattle.model.specs.Limits.{maxCalls}
 use Rattle.model.specs.Job.{Job, horizon}
 use Prim.Native.Nat.{_-_, _<_, _≤_}
-use mathlib.Core.Path.{_∙_, _≡_, ap, sym}
+use mathlib.Core.Path.{_∙_, _≡_, ap, sym, subst}
 use native.Mathlib.Omega.{arith}
 use Rattle.model.specs.ReadSheet.{cannot, chokeLine}
-use Rattle.sheet.specs.Parts.{chokeRead}
+use Rattle.sheet.specs.Parts.{chokeRead, ChokeKnown}
 use lib.ListN.{length, length-set}
 use Rattle.model.specs.Choke.{point}
 use Rattle.job.proofs.Pairs.{pairs-more}
@@ -39,9 +39,8 @@ returns-2 c = (
   omega arith,
 )
 
-known : (c : tie.After-known-told Inv-loop μ-loop) → (c .before .cell .given .0 .0 < c .before .before .before .before .before .before .before .before .before .before .before .before .args .cells)
-    × (c .before .cell .given .0 .1 .0 ≤ c .before .before .before .before .before .before .before .before .before .before .before .before .args .latest)
-known c = rw (known-told→cell c .cell .given .1) at (c .before .before .before .choke-line .ensures .1)
+known : (c : tie.After-known-told Inv-loop μ-loop) → let v = known-told→cell c .cell .given .0 in let a = known-told→start c .args in (v .0 < a .cells) × (v .1 .0 ≤ a .latest)
+known c = let a = known-told→start c .args in subst (ChokeKnown (a .cells) (a .latest)) (known-told→cell c .cell .given .1) (known-told→choke-line c .choke-line .ensures .1)
 
 cast-first : tie.Need-cast-first Inv-loop μ-loop
 cast-first c = omega (arith, known c)

@@ -1,7 +1,7 @@
 -- `read_paths` reads the lines after PLAN. Invariant: what the rest of the lines says after the k paths that are held is what all of them say; their last
 -- steps are below 256, so that each keeps to its row. The measure is the number of lines left. Assumes nothing.
 use Prim.Native.Nat.{ℕ, _-_, _<_, _≤_}
-use mathlib.Core.Path.{_∙_, _≡_, ap, sym}
+use mathlib.Core.Path.{_∙_, _≡_, ap, sym, subst}
 use native.Mathlib.Omega.{arith}
 use lib.ListN.{getD, length}
 use Rattle.model.specs.Limits.{maxCalls, maxSteps}
@@ -9,7 +9,7 @@ use Rattle.model.specs.Job.{Job}
 use Rattle.model.specs.ReadSheet.{pathLine, plan}
 use Rattle.job.specs.Held.{Room, pathsTo}
 use Rattle.job.proofs.Rows.{paths-more, room-more, short-more}
-use Rattle.sheet.specs.Parts.{Tells, pathRead}
+use Rattle.sheet.specs.Parts.{Tells, pathRead, PathKnown}
 use Rattle.sheet.proofs.Lines.{Left, left-all, turn-bad, turn-cut, turn-good, turns-done, turns-over}
 use borrow.Author.Needs.{needs}
 use Rattle.sheet.proofs.read_paths.Statement.{statement}
@@ -43,10 +43,9 @@ returns-2 c =
       omega arith,
     )
 
-known : (c : tie.After-known-told Inv-loop μ-loop) → let v = c .before .cart .given .0 in
-    (v .0 < c .before .before .before .before .before .before .before .before .before .before .before .before .before .before .before .before .before .args .carts)
-    × (v .1 .0 < c .before .before .before .before .before .before .before .before .before .before .before .before .before .before .before .before .before .args .calls) × (v .1 .1 .0 < maxSteps)
-known c = rw (known-told→cart c .cart .given .1) at (c .before .before .before .before .before .path-line .ensures .1)
+known : (c : tie.After-known-told Inv-loop μ-loop) → let v = known-told→cart c .cart .given .0 in let a = known-told→start c .args in
+    (v .0 < a .carts) × (v .1 .0 < a .calls) × (v .1 .1 .0 < maxSteps)
+known c = let a = known-told→start c .args in subst (PathKnown (a .carts) (a .calls)) (known-told→cart c .cart .given .1) (known-told→path-line c .path-line .ensures .1)
 
 cast-first : tie.Need-cast-first Inv-loop μ-loop
 cast-first c = omega (arith, known c)

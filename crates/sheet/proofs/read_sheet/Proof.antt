@@ -1,7 +1,7 @@
 -- `read_sheet` reads the first line, and the lines after it by what that says. The arrays of the job hold what its counts promise, so the functions
 -- that read lines are told the job's numbers. Assumes nothing.
 use Prim.Native.Nat.{_<_}
-use mathlib.Core.Path.{_∙_, _≡_, refl, sym}
+use mathlib.Core.Path.{_∙_, _≡_, refl, sym, subst}
 use native.Mathlib.Omega.{arith}
 use denote.Ref.{now}
 use lib.ListN.{length, drop}
@@ -12,7 +12,7 @@ use Rattle.job.specs.Held.{Room, pathsTo, pointsOf}
 use Rattle.job.proofs.Arrays.{Whole, long, whole, calls-count, carts-count, deadline-at, last-deadline}
 use Rattle.sheet.specs.declared.Head.{Head}
 use Rattle.sheet.specs.declared.Head.the-variants.{Bad, Plan}
-use Rattle.sheet.specs.Parts.{headGoes, unlessBad}
+use Rattle.sheet.specs.Parts.{headGoes, unlessBad, HeadKnown}
 use Rattle.sheet.proofs.Whole.{goes-on, stops, whole-cut, whole-head}
 use borrow.Author.Needs.{needs}
 use Rattle.sheet.proofs.read_sheet.Statement.{statement}
@@ -57,8 +57,8 @@ returns-3 c = (stops _ _ (c .if2 .taken) ∙ plan-said (then2→read-paths c), t
 returns-4 : tie.Need-returns-4
 returns-4 c = (goes-on _ _ (c .if2 .left) ∙ plan-said (else2→read-paths c), else2→read-paths c .read-paths .ensures .1, tt)
 
-few : (c : tie.After-known-told) → c .before .head .given .0 .0 < c .before .before .before .before .before .before .before .before .before .before .before .before .args .t1 .calls
-few c = rw (known-told→head c .head .given .1) at (c .before .before .before .head-line .ensures .1)
+few : (c : tie.After-known-told) → known-told→head c .head .given .0 .0 < known-told→start c .args .t1 .calls
+few c = subst (HeadKnown (known-told→start c .args .t1 .calls)) (known-told→head c .head .given .1) (known-told→head-line c .head-line .ensures .1)
 
 read-chokes-requires : tie.Need-read-chokes-requires
 read-chokes-requires c κs =

@@ -1,11 +1,13 @@
 -- The calls are taken in the order of the sheet. The invariant: the paths so far are traced, for every job that the arrays and the store are of;
 -- the contract says that there is one, which keeps the indices in range. The measure is the number of calls left. Assumes nothing.
+use mathlib.Core.Path.{sym}
 use Rattle.answer.specs.Full.{FullFlow}
 use Rattle.answer.specs.Trail.{HasCart}
 use Rattle.model.specs.Job.{Job}
 use Rattle.job.specs.Held.{Room}
 use Rattle.answer.proofs.PathPlan.{PathsTraced, call-known, can-follow, few, has-cart, right-plan, row-long, traced-more, traced-none}
 use Prim.Native.Nat.{_-_, _<_, _≤_}
+use native.Mathlib.Nat.{le-of-eq, lt-of-lt-of-le}
 use native.Mathlib.Omega.{arith}
 use lib.ListN.{getD}
 use Rattle.model.specs.Limits.{maxCalls, maxCells}
@@ -48,7 +50,7 @@ follow-requires : tie.Need-follow-requires Inv-loop μ-loop
 follow-requires c κs =
     let (j, g) = follow-arg→start c .pre .0 in (
       (j, g .holds, follows (follow-arg→wide3 c) j g),
-      omega (arith, follow-arg→wide3 c .wide3 .ensures .1, row-long {i = follow-arg→loop c .loop .i} (follow-arg→loop c .loop .inv .2) (omega (arith, few g))),
+      lt-of-lt-of-le (follow-arg→wide3 c .wide3 .ensures .1) (le-of-eq (sym (row-long (follow-arg→loop c .loop .inv .2) (lt-of-lt-of-le (follow-arg→in-loop c .loop-test .taken) (few g))))),
     )
 
 -- Its path begins on a cart's cell.

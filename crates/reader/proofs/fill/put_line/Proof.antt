@@ -42,13 +42,13 @@ returns-2 c =
     let k : j .tracks < length (j .to) = omega (arith, s .pre .long .to) in
     record {
       adds = rw (c .enum-told2 .given .1, pairs-more track (j .from) (j .to) (j .tracks) (s .args .a) (s .args .b) h k);
-      sized = record { tracks = omega arith; carts = search needs; calls = search needs };
+      sized = record { tracks = omega arith; carts = s .pre .sized .carts; calls = s .pre .sized .calls };
       long = record {
         from = simp length-set (s .pre .long .from);
         to = simp length-set (s .pre .long .to);
-        starts = search needs;
-        lifts = search needs;
-        deadlines = search needs;
+        starts = s .pre .long .starts;
+        lifts = s .pre .long .lifts;
+        deadlines = s .pre .long .deadlines;
       };
     }
 
@@ -66,8 +66,8 @@ returns-3 c =
     let h : j .carts < length (j .starts) = omega (arith, s .pre .long .starts) in
     record {
       adds = rw (c .enum-told3 .given .1, first-more (j .starts) (j .carts) (s .args .a) h);
-      sized = record { tracks = search needs; carts = omega arith; calls = search needs };
-      long = record { from = search needs; to = search needs; starts = simp length-set (s .pre .long .starts); lifts = search needs; deadlines = search needs };
+      sized = record { tracks = s .pre .sized .tracks; carts = omega arith; calls = s .pre .sized .calls };
+      long = record { from = s .pre .long .from; to = s .pre .long .to; starts = simp length-set (s .pre .long .starts); lifts = s .pre .long .lifts; deadlines = s .pre .long .deadlines };
     }
 
 cast-lifts : tie.Need-cast-lifts
@@ -88,11 +88,11 @@ returns-4 c =
     let k : j .calls < length (j .deadlines) = omega (arith, s .pre .long .deadlines) in
     record {
       adds = rw (c .enum-told4 .given .1, pairs-more call (j .lifts) (j .deadlines) (j .calls) (s .args .a) (s .args .b) h k);
-      sized = record { tracks = search needs; carts = search needs; calls = omega arith };
+      sized = record { tracks = s .pre .sized .tracks; carts = s .pre .sized .carts; calls = omega arith };
       long = record {
-        from = search needs;
-        to = search needs;
-        starts = search needs;
+        from = s .pre .long .from;
+        to = s .pre .long .to;
+        starts = s .pre .long .starts;
         lifts = simp length-set (s .pre .long .lifts);
         deadlines = simp length-set (s .pre .long .deadlines);
       };

@@ -26,7 +26,7 @@ returns-2 : tie.Need-returns-2
 returns-2 c =
     let n = enum-told→field-count c in
     let a = field-count→start n .args in
-    let e : numberAt (now (a .fields)) 0 ≡ scan.Fault = cc in
+    let e : numberAt (now (a .fields)) 0 ≡ scan.Fault = sym (enum-told→number c .number .ensures) ∙ c .enum-told .given .1 in
     sym (numbers-none (now (a .fields)) (a .count) (sym (n .field-count .ensures) ∙ enum-told→else1 c .if1 .left) e)
 
 returns-3 : tie.Need-returns-3
@@ -35,7 +35,7 @@ returns-3 c =
     let s = now (field-count→start n .args .fields) in
     let v = then2→value c .value .given .0 in
     let one : length (fieldsOf s) ≡ 1 = sym (n .field-count .ensures) ∙ then2→else1 c .if1 .left ∙ c .if2 .taken in
-    let e : numberAt s 0 ≡ scan.Value (v .0) (v .1 .0) = cc in
+    let e : numberAt s 0 ≡ scan.Value (v .0) (v .1 .0) = sym (then2→number c .number .ensures) ∙ then2→value c .value .given .1 in
     rw (c .if2 .taken) (sym (numbers-one s (v .0) (v .1 .0) e one))
 
 -- Past the test for one field there are two, and the first is a number.
@@ -46,7 +46,7 @@ fields : (c : tie.Else2) → length (fieldsOf (now (else2→start c .args .field
 fields c = sym (else2→field-count c .field-count .ensures) ∙ else2→else1 c .if1 .left ∙ two c
 
 first : (c : tie.Else2) → numberAt (now (else2→start c .args .fields)) 0 ≡ scan.Value (else2→value c .value .given .0 .0) (else2→value c .value .given .0 .1 .0)
-first c = cc
+first c = sym (else2→number c .number .ensures) ∙ else2→value c .value .given .1
 
 add-number : tie.Need-add-number
 add-number c =
@@ -59,7 +59,7 @@ returns-4 c =
     let d = enum-told2→else2 c in
     let s = now (else2→start d .args .fields) in
     let v = else2→value d .value .given .0 in
-    let f : numberAt s (v .1 .0 + 1) ≡ scan.Fault = cc in
+    let f : numberAt s (v .1 .0 + 1) ≡ scan.Fault = sym (enum-told2→number2 c .number2 .ensures) ∙ c .enum-told2 .given .1 in
     rw (two d) (sym (numbers-second s (v .0) (v .1 .0) (first d) (fields d) f))
 
 returns-5 : tie.Need-returns-5
@@ -68,7 +68,7 @@ returns-5 c =
     let s = now (else2→start d .args .fields) in
     let v = else2→value d .value .given .0 in
     let w = known-told2→value2 c .value2 .given .0 in
-    let f : numberAt s (v .1 .0 + 1) ≡ scan.Value (w .0) (w .1 .0) = cc in
+    let f : numberAt s (v .1 .0 + 1) ≡ scan.Value (w .0) (w .1 .0) = sym (known-told2→number2 c .number2 .ensures) ∙ known-told2→value2 c .value2 .given .1 in
     rw (two d) (sym (numbers-two s (v .0) (v .1 .0) (first d) (fields d) (w .0) (w .1 .0) f))
 
 pub numbers-of-spec : {M : Type 1} → statement M

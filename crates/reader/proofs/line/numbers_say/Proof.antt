@@ -20,7 +20,7 @@ abbrev start : tie.After-passes → tie.Start
 start c = passes→start c
 
 returns : tie.Need-returns
-returns c = (tt, λ j q m. simp (sym (then1→passes c .passes .ensures j q) ∙ not-true _ (c .if1 .taken)))
+returns c = (tt, λ j q m. rw (sym (then1→passes c .passes .ensures j q) ∙ not-true _ (c .if1 .taken)))
 
 -- The numbers are in range, in any job with these counts, and so they are small.
 ranged : (c : tie.Else1) (j : model.Job) → let a = start (else1→passes c) .args in SameCounts (a .counts) j → inRange j (kindOf (a .kind)) (a .a) (a .b) ≡ true
@@ -33,7 +33,7 @@ small c =
     range-small j (a .kind) (a .a) (a .b) (omega arith) (ranged c j q)
 
 returns-2 : tie.Need-returns-2
-returns-2 c = (tt, λ j q m. simp (ranged (then2→else1 c) j q, sym (then2→passes2 c .passes2 .ensures j q) ∙ not-true _ (c .if2 .taken)))
+returns-2 c = (tt, λ j q m. rw (ranged (then2→else1 c) j q, sym (then2→passes2 c .passes2 .ensures j q) ∙ not-true _ (c .if2 .taken)))
 
 roomy : (c : tie.Else2) (j : model.Job) → let a = start (else2→passes c) .args in SameCounts (a .counts) j → hasRoom j (kindOf (a .kind)) ≡ true
 roomy c j q = sym (else2→passes2 c .passes2 .ensures j q) ∙ not-false _ (c .if2 .left)
@@ -44,13 +44,13 @@ passes-requires-3 c κs = (small (else2→else1 c), search needs)
 returns-3 : tie.Need-returns-3
 returns-3 c = (
   tt,
-  λ j q m. simp (ranged (then3→else1 c) j q, roomy (then3→else2 c) j q, sym (then3→passes3 c .passes3 .ensures j m) ∙ not-true _ (c .if3 .taken)),
+  λ j q m. rw (ranged (then3→else1 c) j q, roomy (then3→else2 c) j q, sym (then3→passes3 c .passes3 .ensures j m) ∙ not-true _ (c .if3 .taken)),
 )
 
 returns-4 : tie.Need-returns-4
 returns-4 c = (
   (small (else3→else1 c), roomy (else3→else2 c)),
-  λ j q m. simp (ranged (else3→else1 c) j q, roomy (else3→else2 c) j q, sym (else3→passes3 c .passes3 .ensures j m) ∙ not-false _ (c .if3 .left)),
+  λ j q m. rw (ranged (else3→else1 c) j q, roomy (else3→else2 c) j q, sym (else3→passes3 c .passes3 .ensures j m) ∙ not-false _ (c .if3 .left)),
 )
 
 pub numbers-say-spec : {M : Type 1} → statement M

@@ -38,6 +38,9 @@ module _ {Inv : tie.InvT-loop} {μ : tie.MeasureT-loop} where
   abbrev pub known-told→loop : tie.After-known-told Inv μ → tie.At-loop Inv μ
   known-told→loop c = known-told→in-loop c .before
 
+  abbrev pub known-told→start : tie.After-known-told Inv μ → tie.Start Inv μ
+  known-told→start c = known-told→loop c .before .before .before .before
+
   abbrev pub enum-told→choke-line : tie.After-enum-told Inv μ → tie.After-choke-line Inv μ
   enum-told→choke-line c = c .before .before
 

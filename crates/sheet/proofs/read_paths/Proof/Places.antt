@@ -45,6 +45,9 @@ module _ {Inv : tie.InvT-loop} {μ : tie.MeasureT-loop} where
   abbrev pub known-told→loop : tie.After-known-told Inv μ → tie.At-loop Inv μ
   known-told→loop c = known-told→in-loop c .before
 
+  abbrev pub known-told→start : tie.After-known-told Inv μ → tie.Start Inv μ
+  known-told→start c = known-told→loop c .before .before .before .before .before .before
+
   abbrev pub enum-told→rows : tie.After-enum-told Inv μ → tie.After-rows Inv μ
   enum-told→rows c = c .before .before .before
 

@@ -46,6 +46,12 @@ else2→read-paths c = c .before .before .before .before .before .before .before
 abbrev pub known-told→head : tie.After-known-told → tie.After-head
 known-told→head c = c .before
 
+abbrev pub known-told→head-line : tie.After-known-told → tie.After-head-line
+known-told→head-line c = known-told→head c .before .before
+
+abbrev pub known-told→start : tie.After-known-told → tie.Start
+known-told→start c = head-line→start (known-told→head-line c)
+
 abbrev pub read-chokes-arg2→horizon : tie.After-read-chokes-arg2 → tie.After-horizon
 read-chokes-arg2→horizon c = c .before .before
 
@@ -53,7 +59,7 @@ abbrev pub read-chokes-arg2→known-told : tie.After-read-chokes-arg2 → tie.Af
 read-chokes-arg2→known-told c = read-chokes-arg2→horizon c .before .before .before
 
 abbrev pub read-chokes-arg2→start : tie.After-read-chokes-arg2 → tie.Start
-read-chokes-arg2→start c = head-line→start (c .before .before .before .before .before .before .before .before)
+read-chokes-arg2→start c = known-told→start (read-chokes-arg2→known-told c)
 
 abbrev pub read-chokes→horizon : tie.After-read-chokes → tie.After-horizon
 read-chokes→horizon c = read-chokes-arg2→horizon (c .before)

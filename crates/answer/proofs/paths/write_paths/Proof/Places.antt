@@ -43,8 +43,11 @@ module _ {Inv : tie.InvT-loop} {μ : tie.MeasureT-loop} where
   abbrev pub follow-arg→wide3 : tie.After-follow-arg Inv μ → tie.After-wide3 Inv μ
   follow-arg→wide3 c = c .before
 
+  abbrev pub follow-arg→in-loop : tie.After-follow-arg Inv μ → tie.In-loop Inv μ
+  follow-arg→in-loop c = wide3→in-loop (follow-arg→wide3 c)
+
   abbrev pub follow-arg→loop : tie.After-follow-arg Inv μ → tie.At-loop Inv μ
-  follow-arg→loop c = follow-arg→wide3 c .before .before .before .before .before .before .before
+  follow-arg→loop c = follow-arg→in-loop c .before
 
   abbrev pub follow-arg→start : tie.After-follow-arg Inv μ → tie.Start Inv μ
   follow-arg→start c = wide3→start (follow-arg→wide3 c)

@@ -17,8 +17,11 @@ then1→field-count c = c .before
 abbrev pub then1→start : tie.Then1 → tie.Start
 then1→start c = field-count→start (then1→field-count c)
 
+abbrev pub enum-told→number : tie.After-enum-told → tie.After-number
+enum-told→number c = c .before .before
+
 abbrev pub enum-told→else1 : tie.After-enum-told → tie.Else1
-enum-told→else1 c = c .before .before .before
+enum-told→else1 c = enum-told→number c .before
 
 abbrev pub enum-told→field-count : tie.After-enum-told → tie.After-field-count
 enum-told→field-count c = enum-told→else1 c .before
@@ -26,8 +29,11 @@ enum-told→field-count c = enum-told→else1 c .before
 abbrev pub then2→value : tie.Then2 → tie.After-value
 then2→value c = c .before .before
 
+abbrev pub then2→number : tie.Then2 → tie.After-number
+then2→number c = then2→value c .before .before
+
 abbrev pub then2→else1 : tie.Then2 → tie.Else1
-then2→else1 c = then2→value c .before .before .before
+then2→else1 c = then2→number c .before
 
 abbrev pub then2→field-count : tie.Then2 → tie.After-field-count
 then2→field-count c = then2→else1 c .before
@@ -35,8 +41,11 @@ then2→field-count c = then2→else1 c .before
 abbrev pub else2→value : tie.Else2 → tie.After-value
 else2→value c = c .before .before
 
+abbrev pub else2→number : tie.Else2 → tie.After-number
+else2→number c = else2→value c .before .before
+
 abbrev pub else2→else1 : tie.Else2 → tie.Else1
-else2→else1 c = else2→value c .before .before .before
+else2→else1 c = else2→number c .before
 
 abbrev pub else2→field-count : tie.Else2 → tie.After-field-count
 else2→field-count c = else2→else1 c .before
@@ -47,8 +56,14 @@ else2→start c = field-count→start (else2→field-count c)
 abbrev pub known-told2→value2 : tie.After-known-told2 → tie.After-value2
 known-told2→value2 c = c .before
 
+abbrev pub known-told2→number2 : tie.After-known-told2 → tie.After-number2
+known-told2→number2 c = known-told2→value2 c .before .before
+
 abbrev pub known-told2→else2 : tie.After-known-told2 → tie.Else2
-known-told2→else2 c = known-told2→value2 c .before .before .before
+known-told2→else2 c = known-told2→number2 c .before
+
+abbrev pub enum-told2→number2 : tie.After-enum-told2 → tie.After-number2
+enum-told2→number2 c = c .before .before
 
 abbrev pub enum-told2→else2 : tie.After-enum-told2 → tie.Else2
-enum-told2→else2 c = c .before .before .before
+enum-told2→else2 c = enum-told2→number2 c .before
