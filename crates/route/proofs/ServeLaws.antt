@@ -56,3 +56,7 @@ module _ {j : Job} {s t : List ℕ} {g : Grid} {x : Point} {stamp : ℕ} {r : Bo
 
   pub serves-from : r ≡ false → {P : Type 0} (v : Point) → P ↔ ((onLink j t v ≡ end) ⊎ (v ≡ x)) → P ↔ ((onLink j s v ≡ end) ⊎ (v ≡ x))
   serves-from e {P} v = subst (λ (l : Point → Link Point). P ↔ ((l v ≡ end) ⊎ (v ≡ x))) (on-same j (k .same e))
+
+  -- Two of them, with a stamp that does not fall.
+  pub marks-both : {t′ : List ℕ} {x′ : Point} {stamp′ : ℕ} {r′ : Bool} → Sought j g t t′ stamp′ x′ r′ → stamp ≤ stamp′ → MarksUpTo j s stamp → MarksUpTo j t′ stamp′
+  marks-both {stamp′ = n} k′ l h = k′ .marks n (omega arith) (k .marks n l (λ v b. omega (arith, h v b)))

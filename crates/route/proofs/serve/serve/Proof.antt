@@ -1,9 +1,8 @@
 -- `serve` seeks with the caller's stamp, then with a new one. A search that fails is final if no mark had its stamp at the start: so the caller says, or the stamp
 -- is one above all marks that there are. One that finds nothing leaves the flow as it was, so the second starts where the first did. No loop. Assumes nothing.
-use Prim.Native.Nat.{_+_}
 use mathlib.Core.Path.{_∙_}
 use native.Mathlib.Omega.{arith}
-use Rattle.route.proofs.ServeLaws.{fresh-next, serves-from}
+use Rattle.route.proofs.ServeLaws.{fresh-next, serves-from, marks-both}
 use Rattle.route.proofs.SearchTurn.{may-search}
 use Rattle.route.proofs.serve.serve.Statement.{statement}
 use Rattle.route.proofs.serve.serve.Tie as tie
@@ -46,9 +45,7 @@ returns-3 c = (
       let k = then3→seek c .seek .ensures j (h .search) in
       let none = then3→else1 c .if1 .left in
       let k′ = then3→seek2 c .seek2 .ensures j (may-search (k .same none) (h .search)) in
-      let n = then3→start c .args .stamp + 1 in
-      let m = k′ .marks n (omega arith) (k .marks n (omega arith) (λ v b. omega (arith, h .marks v b))) in
-      (k′ .holds, (omega arith, omega arith, m, λ v. serves-from k none v (k′ .serves (c .if3 .taken) v))),
+      (k′ .holds, (omega arith, omega arith, marks-both k k′ (omega arith) (h .marks), λ v. serves-from k none v (k′ .serves (c .if3 .taken) v))),
 )
 
 same-length-4 : tie.Need-same-length-4
