@@ -33,10 +33,19 @@ pub fn names() -> BTreeSet<String> {
     let text = text();
     let all: Vec<&str> = words(&text).collect();
     let defined = all.windows(2).filter(|pair| pair[0] == "define").map(|pair| pair[1]);
-    let enums = text.split("enum").skip(1).filter_map(|behind| behind.split(['{', '}']).nth(1));
-    let constants = enums.flat_map(words).filter(|word| !word.starts_with(|c: char| c.is_ascii_digit()));
     let ours = all.iter().copied().filter(|word| is_ours(word));
-    defined.chain(constants).chain(ours).map(str::to_string).collect()
+    defined.chain(constants(&text)).chain(ours).map(str::to_string).collect()
+}
+
+/// The names of the enum constants, without their numbers.
+fn constants(text: &str) -> impl Iterator<Item = &str> {
+    let enums = text.split("enum").skip(1).filter_map(|behind| behind.split(['{', '}']).nth(1));
+    enums.flat_map(words).filter(|word| !word.starts_with(|c: char| c.is_ascii_digit()))
+}
+
+/// The header's name of each answer, without `CARTFLOOR_`.
+pub fn answers() -> Vec<String> {
+    constants(&text()).filter_map(|name| name.strip_prefix("CARTFLOOR_")).map(str::to_string).collect()
 }
 
 /// The names of a call's parameters, in the order of its prototype.
@@ -51,6 +60,13 @@ pub fn parameters(call: &str) -> Vec<String> {
 pub struct Row {
     statement: String,
     expected: String,
+}
+
+impl Row {
+    /// Whether the line has this word.
+    pub fn expects(&self, word: &str) -> bool {
+        words(&self.expected).any(|one| one == word)
+    }
 }
 
 pub fn row(statement: impl Into<String>, expected: impl ToString) -> Row {

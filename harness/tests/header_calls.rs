@@ -2,7 +2,7 @@
 //! of both calls in the order of their prototypes. Tabs are shown as spaces.
 
 use harness::examples::{A, B, D, F, F_TRADED, G};
-use harness::header::{assert_rows, parameters, row, Row};
+use harness::header::{answers, assert_rows, parameters, row, Row};
 
 const FOLDER: &str = env!("CARGO_TARGET_TMPDIR");
 
@@ -119,5 +119,8 @@ fn every_answer_by_its_name() {
     rows.extend(refused.iter().flat_map(|(job, name)| turned_back(job, name)));
     let carts: String = (0..65).map(|cell| format!("CART {cell}\n")).collect();
     rows.extend(turned_back(&format!("FLOOR 256\n{carts}"), "TOO_MANY 66"));
+    for answer in answers() {
+        assert!(rows.iter().any(|row| row.expects(&answer)), "no row has the answer {answer}");
+    }
     assert_rows(FOLDER, "answers", &rows);
 }

@@ -3,4 +3,4 @@ pub mod Pairs
 pub mod Arrays
 pub mod Triangle
 pub mod Rows
-pub mod Answers
+pub mod Tested

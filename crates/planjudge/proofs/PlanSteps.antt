@@ -13,7 +13,7 @@ use Rattle.model.specs.Limits.{maxCells, maxCalls}
 use Rattle.model.proofs.Decide.{dec-eq}
 use Rattle.floor.specs.Order.{SoonerIn}
 use Rattle.job.specs.Bits.{bitAt, withBit, pairsBelow, pairAt}
-use Rattle.job.proofs.BitLaws.{bit-set, bit-other}
+use Rattle.job.proofs.BitLaws.{bit-set, bit-other, bits-length}
 use Rattle.job.proofs.Triangle.{pair-small, pair-same}
 use Rattle.planjudge.specs.PlanTests.{cellOf, Ordered, PairIn, Marks, Goes, Unshared, Trades, Standing}
 
@@ -93,6 +93,12 @@ module _ (from to : List ℕ) where
 
     pub marks-more : Marks from to (i + 1) (withBit table at)
     marks-more = record { all = more-all; only = more-only }
+
+-- The same, of what the code has in locals.
+pub marks-turn : (from to : List ℕ) (i : ℕ) (table : List ℕ) {table′ : List ℕ} {u v p : ℕ} → u ≡ getD from i 0 → v ≡ getD to i 0 → p ≡ pairAt u v → table′ ≡ withBit table p
+    → u < maxCells → v < maxCells → 8 * length table ≡ pairsBelow maxCells → Marks from to i table → (8 * length table′ ≡ pairsBelow maxCells) × Marks from to (i + 1) table′
+marks-turn from to i table e f g h b d long m =
+    (ap (λ n. 8 * n) (ap length h ∙ bits-length table _) ∙ long, rw (h, g, e, f) (marks-more from to i table long (omega arith) (omega arith) m))
 
 -- Steps by the table: what is not the same cell is marked.
 pub no-go : (table : List ℕ) (u v : ℕ) → (u ≡ v → ⊥) → Goes table u v → bitAt table (pairAt u v) ≡ true

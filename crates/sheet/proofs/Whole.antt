@@ -1,17 +1,18 @@
 -- What the whole sheet says, by the end and the head of its first line and by what the lines after it say. Assumes nothing.
 use Prim.Native.Nat.{ℕ, _+_, _≤_, _<_}
 use mathlib.Core.Path.{_≡_, refl, sym, ap, _∙_}
-use mathlib.Core.List.{List}
+use mathlib.Core.List.{List, []}
 use mathlib.Core.Bool.{Bool, true, false}
 use lib.Dec.{ltb}
 use lib.ListN.{length, drop}
 use borrow.Author.Tests.{ltb-true, ltb-false, eq-eqb, ne-eqb}
 use Rattle.model.specs.Job.{Job}
 use Rattle.model.specs.Text.{Lines, more, linesOf}
-use Rattle.model.specs.ReadSheet.{Sheet, bad, headSays, readSheet}
+use Rattle.model.specs.ReadSheet.{Sheet, bad, headSays, readSheet, pathLine, plan, restSays}
 use Rattle.text.specs.Scan.{lineOf}
 use Rattle.text.proofs.LineLaws.{lines-done, next-cut, next-more}
 use Rattle.sheet.specs.declared.Head.{Head}
+use Rattle.sheet.specs.declared.Head.the-variants.{Plan}
 use Rattle.sheet.specs.Parts.{headGoes, unlessBad}
 
 pub stops : (l : ℕ) (x : Sheet) → (l ≡ 0 → ⊥) → bad l ≡ unlessBad l x
@@ -32,3 +33,8 @@ module _ (j : Job) (s : List ℕ) {line : List ℕ} {q : ℕ} (taken : (line ≡
   pub whole-head : q ≤ length s → (head r : Head) → ((ls : Lines) → headGoes j head ls ≡ headSays j (more line ls)) → head ≡ r → headGoes j r (linesOf (drop q s)) ≡ readSheet j s
   unfolding readSheet
   whole-head h head r said f = ap (λ x. headGoes j x (linesOf (drop q s))) (sym f) ∙ said (linesOf (drop q s)) ∙ ap (headSays j) (sym (next-more s 0 line q taken h))
+
+-- The lines of a plan are as many as the job's calls, whatever x says of that number.
+pub plan-whole : (j : Job) (ls : Lines) {s : Sheet} (x : ℕ → Sheet) {n : ℕ} → length (j .calls) ≡ n → x n ≡ restSays (pathLine j) plan [] n 2 ls → headGoes j Plan ls ≡ s
+    → x (length (j .calls)) ≡ s
+plan-whole j ls x e f g = rw e (f ∙ rw e at g)

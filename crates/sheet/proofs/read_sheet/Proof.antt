@@ -13,7 +13,7 @@ use Rattle.job.proofs.Arrays.{Whole, long, whole, calls-count, carts-count, dea
 use Rattle.sheet.specs.declared.Head.{Head}
 use Rattle.sheet.specs.declared.Head.the-variants.{Bad, Plan}
 use Rattle.sheet.specs.Parts.{headGoes, unlessBad, HeadKnown}
-use Rattle.sheet.proofs.Whole.{goes-on, stops, whole-cut, whole-head}
+use Rattle.sheet.proofs.Whole.{goes-on, plan-whole, stops, whole-cut, whole-head}
 use borrow.Author.Needs.{needs}
 use Rattle.sheet.proofs.read_sheet.Statement.{statement}
 use Rattle.sheet.proofs.read_sheet.Tie as tie
@@ -39,17 +39,16 @@ said c r e =
 returns-2 : tie.Need-returns-2
 returns-2 c = (said (enum-told→head-line c) Bad (c .enum-told .given .1), enum-told→start c .pre .2, omega arith)
 
-plan-said : (c : tie.After-read-paths) → let j =
-    jobOf (c .before .before .before .before .before .before .before .before .before .before .before .before .before .before .before .before .before .before .args .t1) in let l =
-    c .read-paths .last .1 .1 .1 .1 .1 .1 in
-    unlessBad (c .read-paths .result) (plan (pathsTo (l .0) (l .1 .0) (l .1 .1 .0) (l .1 .1 .1 .0) (length (j .calls)))) ≡ readSheet j
-    (now (c .before .before .before .before .before .before .before .before .before .before .before .before .before .before .before .before .before .before .args .sheet))
+plan-said : (c : tie.After-read-paths) → let j = jobOf (read-paths→start c .args .t1) in let l = c .read-paths .last .1 .1 .1 .1 .1 .1 in
+    unlessBad (c .read-paths .result) (plan (pathsTo (l .0) (l .1 .0) (l .1 .1 .0) (l .1 .1 .1 .0) (length (j .calls)))) ≡ readSheet j (now (read-paths→start c .args .sheet))
 plan-said c =
     let s = read-paths→start c .args .t1 in
     let w = arrays (read-paths→start c) in
     let n = counted (read-paths→start c) in
-    rw n (c .read-paths .ensures .0 (jobOf s) (record { cells-are = refl; carts-are = carts-count s w; calls-are = n; deadlines-are = deadline-at s w })
-    ∙ rw n at (said (c .before .before .before .before .before .before .before .before .before) Plan (c .before .before .before .before .before .before .before .enum-told2 .given .1)))
+    let l = c .read-paths .last .1 .1 .1 .1 .1 .1 in
+    plan-whole (jobOf s) _ (λ m. unlessBad (c .read-paths .result) (plan (pathsTo (l .0) (l .1 .0) (l .1 .1 .0) (l .1 .1 .1 .0) m))) n
+    (c .read-paths .ensures .0 (jobOf s) (record { cells-are = refl; carts-are = carts-count s w; calls-are = n; deadlines-are = deadline-at s w }))
+    (said (read-paths→head-line c) Plan (read-paths→enum-told2 c .enum-told2 .given .1))
 
 returns-3 : tie.Need-returns-3
 returns-3 c = (stops _ _ (c .if2 .taken) ∙ plan-said (then2→read-paths c), then2→read-paths c .read-paths .ensures .1, then2→read-paths c .read-paths .ensures .2)

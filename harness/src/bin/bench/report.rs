@@ -63,7 +63,7 @@ pub fn ratios(families: &[Measured], open_grid: &Measured) {
     row("best peer / plan, worst job", "at least 2", least(all().map(of_peer)));
     row("best peer / plan with LEMON tuned, geometric mean", "", geometric_mean(medians(of_tuned)));
     row("best peer / plan with LEMON tuned, worst job", "", least(all().map(of_tuned)));
-    row("plan / memset, open grid at the limits", "at most 1.7", open_grid.median(to_memset));
+    row("plan / memset, open grid at the limits", "at most 1.6", open_grid.median(to_memset));
     row("check / plan, worst family", "at most 1", most(medians(of_check)));
     row("check / plan, worst job", "", most(all().map(of_check)));
     row("plan / plan before, geometric mean of the families", "", geometric_mean(medians(of_before)));

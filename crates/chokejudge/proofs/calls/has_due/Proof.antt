@@ -1,5 +1,5 @@
 -- `has_due` goes along the chain of the deadline t. Invariant: h is a call of the chain, and those behind it, which were looked at, are not met. The measure is h. Assumes nothing.
-use Rattle.job.proofs.Answers.{denied, told}
+use Rattle.job.proofs.Tested.{denied, told}
 use native.Mathlib.Omega.{arith}
 use denote.Ref.{now}
 use Rattle.chokejudge.proofs.Numbers.{above}

@@ -1,5 +1,5 @@
 -- `in_order` compares each choke point with the one before it. Invariant: those before i rise. The measure is what is left of the n points. Assumes nothing.
-use Rattle.job.proofs.Answers.{denied, told}
+use Rattle.job.proofs.Tested.{denied, told}
 use Rattle.model.specs.Choke.{Rises}
 use Prim.Native.Nat.{_-_, _<_, _≤_, ℕ}
 use native.Mathlib.Omega.{arith}

@@ -1,5 +1,5 @@
 -- `is_choke_list` decides what no walk gets round: the points are in order, and no call is reached without standing on one. Assumes nothing.
-use Rattle.job.proofs.Answers.{denied}
+use Rattle.job.proofs.Tested.{denied}
 use Rattle.job.specs.Arrays.{jobOf}
 use Rattle.job.proofs.Arrays.{Whole, long, whole}
 use Prim.Native.Nat.{_≤_}

@@ -8,7 +8,7 @@ use native.Mathlib.Nat.{not-suc-le-zero}
 use Rattle.chokejudge.proofs.ClearedLaws.{cursor-first}
 use Rattle.model.specs.Limits.{maxCells}
 use denote.Ref.{now}
-use Rattle.job.proofs.Answers.{denied, told}
+use Rattle.job.proofs.Tested.{denied, told}
 use Rattle.job.proofs.Arrays.{latest-le}
 use Rattle.floor.proofs.TableLaws.{zeros}
 use Rattle.chokejudge.specs.ChokeLayers.{Reached}

@@ -1,5 +1,5 @@
 -- `borders` looks at each cell of a row. Invariant: none of the first i is older than the stamp. The measure is what is left of the row. Assumes nothing.
-use Rattle.job.proofs.Answers.{denied, told}
+use Rattle.job.proofs.Tested.{denied, told}
 use borrow.Author.Needs.{needs}
 use borrow.Author.Count.{below-more}
 use Rattle.model.proofs.Lists.{in-getD, in-place}

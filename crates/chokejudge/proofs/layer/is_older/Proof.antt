@@ -1,5 +1,5 @@
 -- `is_older` tests that an entry is above 0 and below the stamp. Assumes nothing.
-use Rattle.job.proofs.Answers.{denied}
+use Rattle.job.proofs.Tested.{denied}
 use native.Mathlib.Omega.{arith}
 use borrow.Author.Tests.{ltb-false, ltb-true}
 use Rattle.chokejudge.proofs.Numbers.{above}

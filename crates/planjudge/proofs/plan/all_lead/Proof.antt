@@ -5,7 +5,7 @@ use Rattle.planjudge.specs.PlanTests.{AllLed, Led}
 use Prim.Native.Nat.{ℕ, _-_, _≤_}
 use mathlib.Core.Path.{_∙_, ap, refl}
 use borrow.Author.Count.{below-more}
-use Rattle.job.proofs.Answers.{denied, told}
+use Rattle.job.proofs.Tested.{denied, told}
 use Rattle.planjudge.proofs.PlanSteps.{at-both}
 use native.Mathlib.Omega.{arith}
 use lib.ListN.{getD}

@@ -1,6 +1,6 @@
 -- `clear` decides whether the paths are in nobody's way at a step: first that they stand apart, then that none trades. Assumes nothing.
 use Rattle.planjudge.specs.PlanTests.{Unshared}
-use Rattle.job.proofs.Answers.{denied, same-answer}
+use Rattle.job.proofs.Tested.{denied, same-answer}
 use Rattle.model.specs.Limits.{maxCells, maxCalls}
 use lib.ListN.{getD-replicate, length-replicate}
 use borrow.Author.Tests.{not-false, not-true}

@@ -5,7 +5,7 @@ use mathlib.Core.Logic.{inl, inr}
 use native.Mathlib.Omega.{arith}
 use denote.Ref.{now}
 use Rattle.job.proofs.Triangle.{pair-small}
-use Rattle.job.proofs.Answers.{told}
+use Rattle.job.proofs.Tested.{told}
 use Rattle.planjudge.proofs.PlanSteps.{no-go}
 use borrow.Author.Needs.{needs}
 use Rattle.planjudge.proofs.plan.goes.Statement.{statement}

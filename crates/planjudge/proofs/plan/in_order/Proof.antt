@@ -7,7 +7,7 @@ use native.Mathlib.Omega.{arith}
 use borrow.Author.Count.{below-more}
 use denote.Ref.{now}
 use lib.ListN.{getD}
-use Rattle.job.proofs.Answers.{denied, told}
+use Rattle.job.proofs.Tested.{denied, told}
 use Rattle.planjudge.proofs.PlanSteps.{at-both}
 use Rattle.model.specs.Limits.{maxCalls}
 use borrow.Author.Needs.{needs}

@@ -1,7 +1,7 @@
 -- `is_plan` decides whether paths are a plan in the written order: they rise, each leads from its cart to its call, and at no step is one in
 -- another's way. PlanRight has both directions; the arrays' lengths are known from the job's type. Assumes nothing.
 use native.Mathlib.Omega.{arith}
-use Rattle.job.proofs.Answers.{denied, same-answer}
+use Rattle.job.proofs.Tested.{denied, same-answer}
 use Rattle.planjudge.proofs.PlanRight.{Given, known-call, known-cart, right-ordered, plan-led, plan-clear, tests-right}
 use Rattle.job.specs.Bits.{pairsBelow}
 use Rattle.model.specs.Limits.{maxCells}

@@ -1,6 +1,6 @@
 -- `leads` decides whether a path leads from one cell to another: by its first cell, its last and the steps between. Assumes nothing.
 use mathlib.Core.Path.{_∙_, sym}
-use Rattle.job.proofs.Answers.{denied, same-answer}
+use Rattle.job.proofs.Tested.{denied, same-answer}
 use borrow.Author.Needs.{needs}
 use Rattle.planjudge.proofs.plan.leads.Statement.{statement}
 use Rattle.planjudge.proofs.plan.leads.Tie as tie

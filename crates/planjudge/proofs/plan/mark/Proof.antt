@@ -1,14 +1,13 @@
 -- `mark` marks the tracks. Invariant: the table's bit is set for each track below i, and for no other pair. The measure is the tracks left. Assumes nothing.
 use native.Mathlib.Omega.{arith}
-use Rattle.planjudge.proofs.PlanSteps.{marks-more, marks-none}
+use Rattle.planjudge.proofs.PlanSteps.{marks-turn, marks-none}
 use denote.Ref.{now}
 use Rattle.planjudge.specs.PlanTests.{Marks}
 use Prim.Native.Nat.{_-_, _*_, _≤_}
-use mathlib.Core.Path.{_≡_, ap, _∙_}
-use lib.ListN.{length, getD}
+use mathlib.Core.Path.{_≡_}
+use lib.ListN.{length}
 use Rattle.model.specs.Limits.{maxCells}
-use Rattle.job.specs.Bits.{pairsBelow, withBit}
-use Rattle.job.proofs.BitLaws.{bits-length}
+use Rattle.job.specs.Bits.{pairsBelow}
 use Rattle.job.proofs.Triangle.{pair-small}
 use borrow.Author.Needs.{needs}
 use Rattle.planjudge.proofs.plan.mark.Statement.{statement}
@@ -35,18 +34,12 @@ add-requires c κs =
 
 loop-again : tie.Need-loop-again Inv-loop μ-loop
 loop-again c =
-    let p = c .before in
-    let a = p .before .before .before .before .before .before .before .before .args in
-    let l = p .before .before .before .before .before .before .before .loop in
-    let from = now (a .from) in
-    let to = now (a .to) in
-    let u : p .before .before .before .before .wide .result ≡ getD from (l .i) 0 = p .before .before .before .before .wide .ensures .0 in
-    let v : p .before .before .wide2 .result ≡ getD to (l .i) 0 = p .before .before .wide2 .ensures .0 in
-    let t : c .add .last .0 ≡ withBit (l .table) (p .pair .result) = c .add .ensures in (
-      omega arith,
-      ap (λ n. 8 * n) (ap length t ∙ bits-length (l .table) (p .pair .result)) ∙ l .inv .1,
-      rw (t, p .pair .ensures, u, v) (marks-more from to (l .i) (l .table) (l .inv .1) (omega arith) (omega arith) (l .inv .2)),
-    )
+    let a = add→start c .args in
+    let u = add→wide c .wide .ensures in
+    let v = add→wide2 c .wide2 .ensures in
+    let l = add→loop c .loop in
+    let (long, marks) = marks-turn (now (a .from)) (now (a .to)) (l .i) (l .table) (u .0) (v .0) (add→pair c .pair .ensures) (c .add .ensures) (u .1) (v .1) (l .inv .1) (l .inv .2) in
+    (omega arith, long, marks)
 
 returns : tie.Need-returns Inv-loop μ-loop
 returns c =

@@ -2,9 +2,9 @@
 -- each on its own cell. The measure is the paths left. Assumes nothing.
 use Rattle.planjudge.specs.PlanTests.{Standing, cellOf}
 use Prim.Native.Nat.{_-_, _≤_}
-use mathlib.Core.Path.{_≡_, _∙_, ap}
+use mathlib.Core.Path.{_≡_, _∙_, ap, subst}
 use native.Mathlib.Omega.{arith}
-use Rattle.job.proofs.Answers.{denied, told}
+use Rattle.job.proofs.Tested.{denied, told}
 use Rattle.planjudge.proofs.PlanSteps.{standing-unshared, standing-none, standing-taken, standing-left, standing-more}
 use mathlib.Core.Bool.{false≢true}
 use lib.ListN.{getD, length, length-set, set}
@@ -68,10 +68,10 @@ loop-again c =
 
 returns-2 : tie.Need-returns-2 Inv-loop μ-loop
 returns-2 c =
-    let a = c .before .before .before .before .args in
-    let l = c .before .loop in
+    let a = after-loop→start c .args in
+    let l = after-loop→loop c .loop in
     let e : l .k ≡ a .n = omega arith in
-    let s : Standing (now (a .lasts)) (now (a .rows)) (a .n) (a .t) (l .on) = rw e at (l .inv .2) in
+    let s = subst (λ n. Standing (now (a .lasts)) (now (a .rows)) n (a .t) (l .on)) e (l .inv .2) in
     (told (standing-unshared (now (a .lasts)) (now (a .rows)) (a .t) (a .n) (l .on) s), λ e. s)
 
 pub stand-spec : {M : Type 1} → statement M

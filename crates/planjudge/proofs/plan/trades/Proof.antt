@@ -3,7 +3,7 @@
 use Prim.Native.Nat.{_+_}
 use mathlib.Core.Path.{_∙_, _≡_, ap, sym}
 use native.Mathlib.Omega.{arith}
-use Rattle.job.proofs.Answers.{by-equal, denied}
+use Rattle.job.proofs.Tested.{by-equal, denied}
 use Rattle.planjudge.proofs.PlanSteps.{Facing, facing, trades-of}
 use Rattle.planjudge.specs.PlanTests.{cellOf, Trades}
 use lib.ListN.{getD}

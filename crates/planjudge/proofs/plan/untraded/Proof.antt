@@ -4,7 +4,7 @@ use Rattle.planjudge.specs.PlanTests.{Trades}
 use Prim.Native.Nat.{_-_, _<_, _≤_, ℕ}
 use mathlib.Core.Path.{_≡_}
 use borrow.Author.Count.{below-more}
-use Rattle.job.proofs.Answers.{denied, told}
+use Rattle.job.proofs.Tested.{denied, told}
 use native.Mathlib.Omega.{arith}
 use lib.ListN.{getD}
 use borrow.Author.Needs.{needs}

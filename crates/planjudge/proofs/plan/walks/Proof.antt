@@ -3,7 +3,7 @@ use Rattle.job.specs.Held.{Decides}
 use Rattle.planjudge.specs.PlanTests.{Goes, cellOf}
 use Prim.Native.Nat.{_+_, _-_, _<_, _≤_, ℕ}
 use borrow.Author.Count.{below-more}
-use Rattle.job.proofs.Answers.{denied, told}
+use Rattle.job.proofs.Tested.{denied, told}
 use Rattle.planjudge.proofs.PlanSteps.{at-both}
 use native.Mathlib.Omega.{arith}
 use borrow.Author.Needs.{needs}

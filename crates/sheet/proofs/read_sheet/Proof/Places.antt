@@ -34,8 +34,14 @@ enum-told→head-line c = c .before .before
 abbrev pub enum-told→start : tie.After-enum-told → tie.Start
 enum-told→start c = head-line→start (enum-told→head-line c)
 
+abbrev pub read-paths→enum-told2 : tie.After-read-paths → tie.After-enum-told2
+read-paths→enum-told2 c = c .before .before .before .before .before .before .before
+
+abbrev pub read-paths→head-line : tie.After-read-paths → tie.After-head-line
+read-paths→head-line c = read-paths→enum-told2 c .before .before
+
 abbrev pub read-paths→start : tie.After-read-paths → tie.Start
-read-paths→start c = head-line→start (c .before .before .before .before .before .before .before .before .before)
+read-paths→start c = head-line→start (read-paths→head-line c)
 
 abbrev pub then2→read-paths : tie.Then2 → tie.After-read-paths
 then2→read-paths c = c .before .before .before .before .before .before .before .before .before

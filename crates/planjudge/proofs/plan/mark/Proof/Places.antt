@@ -5,8 +5,6 @@
 -- The needs, each with its place:
 -- loop-holds@Start element-copy-out-wide@In-loop wide-requires@After-wide-arg element-copy-out-wide-2@After-wide wide-requires-2@After-wide-arg2 pair-requires@After-add-arg
 -- add-requires@After-pair add-i@After-add loop-less@After-add loop-again@After-add returns@After-loop
--- Declarations that keep their `.before`, since antt rewrites in them:
--- loop-again
 use Rattle.planjudge.proofs.plan.mark.Tie as tie
 
 module _ {Inv : tie.InvT-loop} {μ : tie.MeasureT-loop} where
@@ -21,3 +19,18 @@ module _ {Inv : tie.InvT-loop} {μ : tie.MeasureT-loop} where
 
   abbrev pub pair→wide : tie.After-pair Inv μ → tie.After-wide Inv μ
   pair→wide c = pair→wide2 c .before .before
+
+  abbrev pub add→pair : tie.After-add Inv μ → tie.After-pair Inv μ
+  add→pair c = c .before
+
+  abbrev pub add→wide2 : tie.After-add Inv μ → tie.After-wide2 Inv μ
+  add→wide2 c = pair→wide2 (add→pair c)
+
+  abbrev pub add→wide : tie.After-add Inv μ → tie.After-wide Inv μ
+  add→wide c = pair→wide (add→pair c)
+
+  abbrev pub add→loop : tie.After-add Inv μ → tie.At-loop Inv μ
+  add→loop c = add→wide c .before .before .before
+
+  abbrev pub add→start : tie.After-add Inv μ → tie.Start Inv μ
+  add→start c = add→loop c .before

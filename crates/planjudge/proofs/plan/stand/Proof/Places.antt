@@ -12,6 +12,12 @@ module _ {Inv : tie.InvT-loop} {μ : tie.MeasureT-loop} where
   abbrev pub shared-slice-known2→start : tie.After-shared-slice-known2 Inv μ → tie.Start Inv μ
   shared-slice-known2→start c = c .before .before
 
+  abbrev pub after-loop→loop : tie.After-loop Inv μ → tie.At-loop Inv μ
+  after-loop→loop c = c .before
+
+  abbrev pub after-loop→start : tie.After-loop Inv μ → tie.Start Inv μ
+  after-loop→start c = shared-slice-known2→start (c .before .before)
+
   abbrev pub then2→cell : tie.Then2 Inv μ → tie.After-cell Inv μ
   then2→cell c = c .before .before
 

@@ -15,14 +15,20 @@ enum-told2→start c = c .before .before .before
 abbrev pub is-new-track→enum-told2 : tie.After-is-new-track → tie.After-enum-told2
 is-new-track→enum-told2 c = c .before
 
+abbrev pub enum-told3→start : tie.After-enum-told3 → tie.Start
+enum-told3→start c = c .before .before .before
+
 abbrev pub has→enum-told3 : tie.After-has → tie.After-enum-told3
 has→enum-told3 c = c .before
 
 abbrev pub has→start : tie.After-has → tie.Start
-has→start c = has→enum-told3 c .before .before .before
+has→start c = enum-told3→start (has→enum-told3 c)
+
+abbrev pub enum-told4→start : tie.After-enum-told4 → tie.Start
+enum-told4→start c = c .before .before .before
 
 abbrev pub has2→enum-told4 : tie.After-has2 → tie.After-enum-told4
 has2→enum-told4 c = c .before
 
 abbrev pub has2→start : tie.After-has2 → tie.Start
-has2→start c = has2→enum-told4 c .before .before .before
+has2→start c = enum-told4→start (has2→enum-told4 c)
