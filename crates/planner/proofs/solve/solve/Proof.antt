@@ -19,21 +19,21 @@ use Places.*
 arrays-long : (c : tie.Start) → Whole (c .args .t1)
 arrays-long c = whole (c .args .t1) (c .pre .1) (long (c .args .t1) (c .good .0 .0) (c .good .0 .1 .1))
 
-grid : (c : tie.After-last-step) → gridTo (jobOf (last-step→start c .args .t1)) (c .last-step .result) ≡ gridOf (jobOf (last-step→start c .args .t1))
-grid c = grid-is (jobOf (last-step→start c .args .t1)) (c .last-step .ensures .0)
+grid-made : (c : tie.After-last-step) → gridTo (jobOf (last-step→start c .args .t1)) (c .last-step .result) ≡ gridOf (jobOf (last-step→start c .args .t1))
+grid-made c = grid-is (jobOf (last-step→start c .args .t1)) (c .last-step .ensures .0)
 
 mul-nodes : tie.Need-mul-nodes
-mul-nodes c = omega (arith, few-nodes (jobOf (last-step→start c .args .t1)) (last-step→start c .pre .0), ap (λ (g : Grid). g .nodes) (grid c))
+mul-nodes c = omega (arith, few-nodes (jobOf (last-step→start c .args .t1)) (last-step→start c .pre .0), ap (λ (g : Grid). g .nodes) (grid-made c))
 
 wipe-requires : tie.Need-wipe-requires
-wipe-requires c κs = let s = wipe-arg→start c in roomy (jobOf (s .args .t1)) (now (s .args .store)) (grid (wipe-arg→last-step c)) (s .pre .2)
+wipe-requires c κs = let s = wipe-arg→start c in roomy (jobOf (s .args .t1)) (now (s .args .store)) (grid-made (wipe-arg→last-step c)) (s .pre .2)
 
 serve-job-requires : tie.Need-serve-job-requires
 serve-job-requires c κs =
     let s = serve-job-arg2→start c in
     let j = jobOf (s .args .t1) in
     let (blank, same) = serve-job-arg2→wipe c .wipe .ensures in
-    let g = grid (serve-job-arg2→last-step c) in (
+    let g = grid-made (serve-job-arg2→last-step c) in (
       s .pre .1,
       search needs,
       record {

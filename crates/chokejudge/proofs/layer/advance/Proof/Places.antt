@@ -38,11 +38,8 @@ module _ {Inv : tie.InvT-loop} {μ : tie.MeasureT-loop} where
   abbrev pub then1→loop : tie.Then1 Inv μ → tie.At-loop Inv μ
   then1→loop c = then1→wide c .before .before .before
 
-  abbrev pub then1→shared-slice-known : tie.Then1 Inv μ → tie.After-shared-slice-known Inv μ
-  then1→shared-slice-known c = then1→loop c .before .before .before .before
-
   abbrev pub then1→start : tie.Then1 Inv μ → tie.Start Inv μ
-  then1→start c = then1→shared-slice-known c .before
+  then1→start c = slice-known3→start (c .before .before .before .before)
 
   abbrev pub spread-arg2→loop : tie.After-spread-arg2 Inv μ → tie.At-loop Inv μ
   spread-arg2→loop c = then1→loop (c .before .before .before)
