@@ -3,28 +3,12 @@
 mod lent;
 mod planner;
 
-pub use planner::{plan, plan_into, Planned};
+pub use planner::{plan, Planned};
+
+use cartfloor::cartfloor_check;
 
 use crate::gen::Rng;
 use lent::Lent;
-
-extern "C" {
-    fn cartfloor_check(
-        job: *const u8,
-        job_len: usize,
-        store: *mut u8,
-        store_len: usize,
-        sheet: *const u8,
-        sheet_len: usize,
-    ) -> u64;
-}
-
-/// The check's call alone, on slices.
-pub fn check_in(job: &[u8], store: &mut [u8], sheet: &[u8]) -> u64 {
-    let (store, store_len) = (store.as_mut_ptr(), store.len());
-    // Safety: slices do not overlap and are as long as they say.
-    unsafe { cartfloor_check(job.as_ptr(), job.len(), store, store_len, sheet.as_ptr(), sheet.len()) }
-}
 
 /// What checks sheets: the library, or a check with a fault in it.
 pub trait Checker {

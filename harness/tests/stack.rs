@@ -2,7 +2,7 @@
 
 use std::thread;
 
-use harness::ffi::{check, check_in, plan, plan_into, Library};
+use harness::ffi::{check, plan, Library};
 use harness::gen::floors::*;
 use harness::gen::large::*;
 use harness::gen::Rng;
@@ -79,7 +79,7 @@ fn assert_high_water_mark(name: &str, depths: &[usize]) {
 fn depth_of_check(job: &Job, sheet: &[u8]) -> (usize, u8) {
     let (text, mut store) = (job.text(), vec![1; store_least(job)]);
     let mut packed = 0;
-    let depth = depth_of(|| packed = check_in(&text, &mut store, sheet));
+    let depth = depth_of(|| packed = cartfloor::check(&text, &mut store, sheet));
     (depth, unpack(packed).0)
 }
 
@@ -101,7 +101,7 @@ fn high_water_mark_of_the_check() {
 fn depth_of_plan(job: &[u8], store_len: usize, sheet_len: usize) -> (usize, u8) {
     let (mut store, mut sheet) = (vec![1; store_len], vec![1; sheet_len]);
     let mut packed = 0;
-    let depth = depth_of(|| packed = plan_into(job, &mut store, &mut sheet));
+    let depth = depth_of(|| packed = cartfloor::plan(job, &mut store, &mut sheet));
     (depth, unpack(packed).0)
 }
 

@@ -2,7 +2,6 @@
 
 use harness::compare::{plan, show};
 use harness::examples::{tabs, BUFFER, EXAMPLES};
-use harness::ffi::{check_in, plan_into};
 use harness::gen::damage::changed;
 use harness::gen::floors::grid;
 use harness::gen::large::scattered;
@@ -29,7 +28,7 @@ fn planned(job: &[u8], store_len: usize, sheet_len: usize) -> (u64, Vec<u8>) {
     let mut all = FILLS.map(|with| {
         fill(&mut store, with);
         fill(&mut sheet, with);
-        let packed = plan_into(job, &mut store, &mut sheet);
+        let packed = cartfloor::plan(job, &mut store, &mut sheet);
         let (answer, value) = unpack(packed);
         let written = if is_refusal(answer) { 0 } else { value };
         (packed, sheet[..written].to_vec())
@@ -43,7 +42,7 @@ fn checked(job: &[u8], store_len: usize, sheet: &[u8]) -> u64 {
     let mut store = vec![0; store_len];
     let all = FILLS.map(|with| {
         fill(&mut store, with);
-        check_in(job, &mut store, sheet)
+        cartfloor::check(job, &mut store, sheet)
     });
     assert!(all.windows(2).all(|pair| pair[0] == pair[1]), "{all:?}: {}\n{}", show(job), show(sheet));
     all[0]

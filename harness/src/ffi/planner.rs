@@ -1,26 +1,9 @@
 //! The planner's call, made with buffers that stand between guard bytes.
 
+use cartfloor::cartfloor_plan;
+
 use super::lent::Lent;
 use crate::gen::Rng;
-
-extern "C" {
-    fn cartfloor_plan(
-        job: *const u8,
-        job_len: usize,
-        store: *mut u8,
-        store_len: usize,
-        sheet: *mut u8,
-        sheet_len: usize,
-    ) -> u64;
-}
-
-/// The planner's call alone, on slices.
-pub fn plan_into(job: &[u8], store: &mut [u8], sheet: &mut [u8]) -> u64 {
-    let (store, store_len) = (store.as_mut_ptr(), store.len());
-    let (sheet, sheet_len) = (sheet.as_mut_ptr(), sheet.len());
-    // Safety: slices do not overlap and are as long as they say.
-    unsafe { cartfloor_plan(job.as_ptr(), job.len(), store, store_len, sheet, sheet_len) }
-}
 
 /// What the planner gave back: its answer, packed, and store and sheet as they were lent and as they are now.
 pub struct Planned {

@@ -3,7 +3,6 @@
 use std::hint::black_box;
 
 use harness::baseline;
-use harness::ffi::{check_in, plan_into};
 use harness::model::answer::{pack, unpack, PLAN};
 use harness::model::job::Job;
 use harness::model::limits::{sheet_least, store_least};
@@ -47,7 +46,7 @@ const SHORTEST: f64 = 200.0;
 pub fn measure(job: &Job, peers: &[Peer], before: Option<Before>, effort: Effort) -> Figures {
     let text = job.text();
     let (mut store, mut sheet) = (vec![1u8; store_least(job)], vec![1u8; sheet_least(job)]);
-    let planned = plan_into(&text, &mut store, &mut sheet);
+    let planned = cartfloor::plan(&text, &mut store, &mut sheet);
     let (answer, len) = unpack(planned);
     let passed = pack(answer, 0);
     let mut written = sheet[..len].to_vec();
@@ -57,10 +56,10 @@ pub fn measure(job: &Job, peers: &[Peer], before: Option<Before>, effort: Effort
     let mut times = 1;
     for _ in 0..effort.rounds + 1 {
         let round = [
-            timed(times, || assert_eq!(plan_into(&text, &mut store, &mut sheet), planned)),
+            timed(times, || assert_eq!(cartfloor::plan(&text, &mut store, &mut sheet), planned)),
             timed(times, || assert_eq!(unpack(baseline::plan(&text, &mut store, &mut sheet)).0, answer)),
             timed(times, || black_box(&mut store).fill(0)),
-            timed(times, || assert_eq!(check_in(&text, &mut store, &written), passed)),
+            timed(times, || assert_eq!(cartfloor::check(&text, &mut store, &written), passed)),
             before.map_or(f64::NAN, |b| {
                 timed(times, || assert_eq!(unpack(b.plan(&text, &mut store, &mut sheet)).0, answer))
             }),
