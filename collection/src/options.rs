@@ -1,0 +1,173 @@
+//! The command line.
+
+use std::ffi::{OsStr, OsString};
+use std::path::PathBuf;
+use std::thread;
+
+use crate::finding::PIPED;
+use crate::help;
+use crate::look::{Task, Write};
+use crate::report::Format;
+use crate::words;
+
+pub enum Command {
+    Help(&'static str),
+    Version,
+    /// One number, or all of them.
+    Explain(Option<u8>),
+    Run(Options),
+}
+
+/// Which findings are shown.
+#[derive(Clone, Copy, PartialEq, Eq, Debug)]
+pub enum Shown {
+    All,
+    /// What was filed, and what is wrong.
+    Changes,
+    Wrong,
+}
+
+pub struct Options {
+    pub paths: Vec<PathBuf>,
+    pub task: Task,
+    pub threads: usize,
+    pub format: Format,
+    pub shown: Shown,
+    pub is_quiet: bool,
+    pub fails_on_cannot: bool,
+}
+
+impl Options {
+    /// Whether the one job is on standard input.
+    pub fn is_piped(&self) -> bool {
+        self.paths.iter().any(|path| path.as_os_str() == PIPED)
+    }
+}
+
+/// Reads the words behind the program's name. `Err` says what is wrong with them.
+pub fn command(words: impl IntoIterator<Item = OsString>) -> Result<Command, String> {
+    let mut words = words.into_iter();
+    let Some(name) = words.next() else { return Err("which command? `floors --help` lists them".into()) };
+    match name.to_str() {
+        Some("status") => run(words, help::STATUS, Shown::All, Write::None),
+        Some("plan") => run(words, help::PLAN, Shown::Changes, Write::Missing),
+        Some("check") => run(words, help::CHECK, Shown::Wrong, Write::None),
+        Some("explain") => explain(words),
+        Some("help" | "-h" | "--help") => Ok(Command::Help(help::ALL)),
+        Some("--version") => Ok(Command::Version),
+        _ => Err(format!("there is no command {name:?}; `floors --help` lists them")),
+    }
+}
+
+fn explain(words: impl Iterator<Item = OsString>) -> Result<Command, String> {
+    let words: Vec<OsString> = words.collect();
+    if words.iter().any(is_help) {
+        return Ok(Command::Help(help::EXPLAIN));
+    }
+    let number = match words.as_slice() {
+        [] => return Ok(Command::Explain(None)),
+        [number] => number.to_str().and_then(|number| number.parse().ok()),
+        _ => return Err("`floors explain` takes one number".into()),
+    };
+    match number.filter(|&number| words::of(number).is_some()) {
+        Some(number) => Ok(Command::Explain(Some(number))),
+        None => Err(format!("{:?} is no number of the library's; those are 0 to 12", words[0])),
+    }
+}
+
+fn run(
+    words: impl Iterator<Item = OsString>,
+    help: &'static str,
+    shown: Shown,
+    write: Write,
+) -> Result<Command, String> {
+    let mut options = Options {
+        paths: Vec::new(),
+        task: Task { write, is_dry: false },
+        threads: thread::available_parallelism().map_or(1, usize::from),
+        format: Format::Tty,
+        shown,
+        is_quiet: false,
+        fails_on_cannot: false,
+    };
+    let mut words = words;
+    while let Some(word) = words.next() {
+        if is_help(&word) {
+            return Ok(Command::Help(help));
+        } else if word == "--" {
+            options.paths.extend(words.by_ref().map(PathBuf::from));
+        } else if word == PIPED || !word.as_encoded_bytes().starts_with(b"-") {
+            options.paths.push(PathBuf::from(word));
+        } else {
+            option(&word, &mut words, &mut options)?;
+        }
+    }
+    if options.is_piped() && options.paths.len() > 1 {
+        return Err("- stands alone: one job on standard input".into());
+    }
+    if options.paths.is_empty() {
+        options.paths.push(PathBuf::from("."));
+    }
+    Ok(Command::Run(options))
+}
+
+fn is_help(word: &OsString) -> bool {
+    word == "-h" || word == "--help"
+}
+
+fn option(word: &OsStr, words: &mut impl Iterator<Item = OsString>, options: &mut Options) -> Result<(), String> {
+    let unknown = || format!("there is no option {word:?} here");
+    let (name, joined) = parts(word.to_str().ok_or_else(unknown)?);
+    let mut value = || {
+        let value = joined.map(OsString::from).or_else(|| words.next());
+        value.and_then(|value| value.into_string().ok()).ok_or_else(|| format!("what for {name}?"))
+    };
+    match name {
+        "-j" | "--jobs" => options.threads = threads(&value()?)?,
+        "--format" => options.format = format(&value()?)?,
+        "--fail-on" => options.fails_on_cannot = fails_on(&value()?)?,
+        _ if joined.is_some() => return Err(unknown()),
+        "-q" | "--quiet" => options.is_quiet = true,
+        "--again" if is_plan(options) => options.task.write = options.task.write.max(Write::Wrong),
+        "--force" if is_plan(options) => options.task.write = Write::All,
+        "--dry-run" if is_plan(options) => options.task.is_dry = true,
+        _ => return Err(unknown()),
+    }
+    Ok(())
+}
+
+/// An option's name and the value that is joined to it, as in `--jobs=4` and `-j4`.
+fn parts(word: &str) -> (&str, Option<&str>) {
+    match word.split_once('=') {
+        Some((name, value)) if name.starts_with("--") => (name, Some(value)),
+        _ => match word.strip_prefix("-j") {
+            Some(value) if !value.is_empty() => ("-j", Some(value)),
+            _ => (word, None),
+        },
+    }
+}
+
+fn is_plan(options: &Options) -> bool {
+    options.task.write != Write::None
+}
+
+fn threads(value: &str) -> Result<usize, String> {
+    let number = value.parse().ok().filter(|number| (1..=1024).contains(number));
+    number.ok_or_else(|| format!("{value:?} is no number of threads from 1 to 1024"))
+}
+
+fn format(value: &str) -> Result<Format, String> {
+    match value {
+        "tty" => Ok(Format::Tty),
+        "tsv" => Ok(Format::Tsv),
+        "json" => Ok(Format::Json),
+        _ => Err(format!("there is no format {value:?}, but tty, tsv and json")),
+    }
+}
+
+fn fails_on(value: &str) -> Result<bool, String> {
+    match value {
+        "cannot" => Ok(true),
+        _ => Err(format!("--fail-on takes cannot, not {value:?}")),
+    }
+}

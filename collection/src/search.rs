@@ -1,0 +1,113 @@
+//! From the paths of a command line to the jobs they name.
+
+use std::collections::HashSet;
+use std::ffi::{OsStr, OsString};
+use std::fs::{self, DirEntry, FileType};
+use std::io;
+use std::path::{Path, PathBuf};
+
+use crate::filing::{folder_of, is_part, remove_left_behind};
+use crate::finding::Trouble;
+
+/// Searches paths. Jobs come in the order of the paths, those of a folder in the order of their names; none comes twice.
+#[derive(Default)]
+pub struct Search {
+    pub jobs: Vec<PathBuf>,
+    /// What kept the search from finding more.
+    pub troubles: Vec<Trouble>,
+    /// Whether to take away what killed runs have left behind.
+    is_tidying: bool,
+    seen: HashSet<(PathBuf, OsString)>,
+}
+
+impl Search {
+    pub fn new(is_tidying: bool) -> Search {
+        Search { is_tidying, ..Search::default() }
+    }
+
+    /// A job file or a folder.
+    pub fn path(&mut self, path: &Path) {
+        match fs::metadata(path) {
+            Ok(data) if data.is_dir() => self.folder(path),
+            Ok(_) if !is_job(path) => {
+                self.troubles.push(Trouble::new(path, "is no folder, and its name does not end in .job"))
+            }
+            Ok(_) => {
+                let folder = canonical(folder_of(path));
+                self.job(&folder, path.to_path_buf());
+            }
+            Err(fault) => self.troubles.push(Trouble::read(path, &fault)),
+        }
+    }
+
+    fn folder(&mut self, folder: &Path) {
+        let (entries, faults) = entries_of(folder);
+        let known = canonical(folder);
+        for (name, kind) in entries {
+            let path = if folder == Path::new(".") { PathBuf::from(&name) } else { folder.join(&name) };
+            if is_hidden(&name) {
+                self.tidy(&path, &name);
+            } else if kind.is_dir() {
+                self.folder(&path);
+            } else if is_job(&path) && !is_folder(&path, kind) {
+                self.job(&known, path);
+            }
+        }
+        for fault in faults {
+            self.troubles.push(Trouble::read(folder, &fault));
+        }
+    }
+
+    fn job(&mut self, folder: &Path, path: PathBuf) {
+        let name = path.file_name().unwrap_or_default().to_os_string();
+        if self.seen.insert((folder.to_path_buf(), name)) {
+            self.jobs.push(path);
+        }
+    }
+
+    fn tidy(&mut self, path: &Path, name: &OsStr) {
+        if self.is_tidying && is_part(name) {
+            if let Err(fault) = remove_left_behind(path) {
+                self.troubles.push(Trouble::written(path, &fault));
+            }
+        }
+    }
+}
+
+/// What is in a folder, in the order of the names, and what could not be read of it.
+fn entries_of(folder: &Path) -> (Vec<(OsString, FileType)>, Vec<io::Error>) {
+    let mut entries = Vec::new();
+    let mut faults = Vec::new();
+    match fs::read_dir(folder) {
+        Ok(all) => {
+            for entry in all {
+                let kind = |entry: DirEntry| entry.file_type().map(|kind| (entry.file_name(), kind));
+                match entry.and_then(kind) {
+                    Ok(entry) => entries.push(entry),
+                    Err(fault) => faults.push(fault),
+                }
+            }
+        }
+        Err(fault) => faults.push(fault),
+    }
+    entries.sort_by(|(one, _), (other, _)| one.cmp(other));
+    (entries, faults)
+}
+
+fn is_job(path: &Path) -> bool {
+    path.extension().is_some_and(|ending| ending == "job")
+}
+
+fn is_hidden(name: &OsStr) -> bool {
+    name.as_encoded_bytes().starts_with(b".")
+}
+
+/// Whether a link leads to a folder. Links to folders are not followed: they could lead round in a ring.
+fn is_folder(path: &Path, kind: FileType) -> bool {
+    kind.is_symlink() && fs::metadata(path).is_ok_and(|data| data.is_dir())
+}
+
+/// The folder by a name that no other has, so that a job which is named twice is seen to be one.
+fn canonical(folder: &Path) -> PathBuf {
+    fs::canonicalize(folder).unwrap_or_else(|_| folder.to_path_buf())
+}
