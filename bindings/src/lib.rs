@@ -1,6 +1,10 @@
 //! The calls of the library `cartfloor` for programs in Rust: as C has them, and on slices. `include/cartfloor.h` says what
 //! they do and what their answers mean.
 
+/// As the header has them: the longest job text, and a sheet buffer that is enough for every job.
+pub const TEXT_MAX: usize = 16_384;
+pub const SHEET_MOST: usize = 66_624;
+
 extern "C" {
     pub fn cartfloor_plan(
         job: *const u8,

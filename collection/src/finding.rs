@@ -5,7 +5,7 @@ use std::io;
 use std::path::{Path, PathBuf};
 
 use crate::buffers::Verdict;
-use crate::words::{self, Words, CANNOT, PLAN};
+use crate::words::{self, CANNOT, PLAN};
 
 /// A refusal as the library gives it.
 #[derive(Clone, Copy, PartialEq, Eq, Debug)]
@@ -59,8 +59,9 @@ pub struct Finding {
     pub job: PathBuf,
     /// `None` if the job could not be read.
     pub verdict: Option<Verdict>,
-    /// The words of the answer that counts: of the job's refusal, else of the sheet's, else of the verdict.
+    /// What the answer that counts means, and what to do about it.
     pub says: &'static str,
+    pub advice: &'static str,
     pub sheet: Sheet,
     pub filing: Filing,
     pub troubles: Vec<Trouble>,
@@ -72,13 +73,14 @@ impl Finding {
             job: job.to_path_buf(),
             verdict: None,
             says: "",
+            advice: "",
             sheet: Sheet::Unknown,
             filing: Filing::Left,
             troubles: Vec::new(),
         }
     }
 
-    /// The answer that counts, and its line.
+    /// The answer that counts, and its line: the job's refusal, else the sheet's, else the verdict.
     pub fn answer(&self) -> Option<Refusal> {
         let plain = |number| Refusal { number, line: 0 };
         match (self.verdict?, self.sheet_now()) {
@@ -88,15 +90,13 @@ impl Finding {
         }
     }
 
-    pub fn words(&self) -> Option<&'static Words> {
-        words::of(self.answer()?.number)
-    }
-
     /// Finds the words for it, in view of the job's text.
     pub fn tell(&mut self, job: &[u8]) {
-        if let (Some(answer), Some(words)) = (self.answer(), self.words()) {
-            self.says = words.of_line(job, answer.line);
-        }
+        let Some(answer) = self.answer() else { return };
+        (self.says, self.advice) = match self.sheet_now() {
+            Sheet::Missing => words::NO_SHEET,
+            _ => words::of(answer.number).map_or(("", ""), |words| (words.of_line(job, answer.line), words.advice)),
+        };
     }
 
     /// The sheet as it is after the run.

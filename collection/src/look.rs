@@ -10,11 +10,11 @@ use crate::finding::{sheet_of, Filing, Finding, Sheet, Trouble};
 use crate::words::{BAD_SHEET, WRONG_SHEET};
 
 /// A byte more than a job may have: of a longer text, so much is enough for its refusal.
-pub const TEXT_ENOUGH: u64 = 16_384 + 1;
+pub const TEXT_ENOUGH: u64 = cartfloor::TEXT_MAX as u64 + 1;
 
 /// A byte more than any right sheet has. In a longer text the first bad line either begins and ends within these bytes, or
 /// is the line that they end in.
-const SHEET_ENOUGH: u64 = 66_624 + 1;
+const SHEET_ENOUGH: u64 = cartfloor::SHEET_MOST as u64 + 1;
 
 /// Which sheets to write.
 #[derive(Clone, Copy, PartialEq, Eq, PartialOrd, Ord, Debug)]

@@ -71,7 +71,9 @@ fn explain(words: impl Iterator<Item = OsString>) -> Result<Command, String> {
     };
     match number.filter(|&number| words::of(number).is_some()) {
         Some(number) => Ok(Command::Explain(Some(number))),
-        None => Err(format!("{:?} is no number of the library's; those are 0 to 12", words[0])),
+        None => {
+            Err(format!("{:?} is no number of the library's; those are 0 to {}", words[0], words::NUMBERS.len() - 1))
+        }
     }
 }
 

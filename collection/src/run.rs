@@ -6,11 +6,11 @@ use std::fmt::Display;
 use std::io::{self, BufWriter, ErrorKind, IsTerminal, Read, Write};
 use std::path::{Path, PathBuf};
 
-use crate::buffers::{Buffers, Verdict};
+use crate::buffers::Buffers;
 use crate::crew::look_at_all;
 use crate::filing::{flush_folder, folder_of};
 use crate::finding::{Filing, Finding, Sheet, Trouble, PIPED};
-use crate::look::{self, TEXT_ENOUGH};
+use crate::look::{self, Task, TEXT_ENOUGH};
 use crate::options::Options;
 use crate::progress::Progress;
 use crate::report::{shown_name, told, Manner, Report, Summary};
@@ -120,28 +120,28 @@ impl Run {
     }
 }
 
-/// One job on standard input.
+/// One job on standard input: its sheet goes to standard output, and what is wrong to standard error.
 fn piped(options: &Options) -> u8 {
-    let mut job = Vec::new();
     let path = Path::new(PIPED);
+    let mut job = Vec::new();
     if let Err(fault) = io::stdin().lock().take(TEXT_ENOUGH).read_to_end(&mut job) {
         tell(&Trouble::read(path, &fault));
         return TROUBLES;
     }
-    let mut finding = Finding::of(path);
     let mut buffers = Buffers::default();
-    let sheet = match buffers.plan(&job) {
-        Some((verdict, sheet)) => {
-            finding.verdict = Some(verdict);
-            sheet
-        }
-        None => {
-            tell(&look::planner_and_check_differ(path));
-            return TROUBLES;
-        }
+    let Some((verdict, sheet)) = buffers.plan(&job) else {
+        tell(&look::planner_and_check_differ(path));
+        return TROUBLES;
     };
-    if !matches!(finding.verdict, Some(Verdict::Refused(_))) {
+    let mut finding = Finding { verdict: Some(verdict), ..Finding::of(path) };
+    let mut is_written = true;
+    if !finding.is_refused() {
         finding.sheet = Sheet::Missing;
+        (finding.filing, is_written) = match options.task {
+            Task { write: look::Write::None, .. } => (Filing::Left, true),
+            Task { is_dry: true, .. } => (Filing::Due, true),
+            _ => (Filing::Filed, written(sheet)),
+        };
     }
     finding.tell(&job);
     if options.task.write == look::Write::None {
@@ -149,25 +149,20 @@ fn piped(options: &Options) -> u8 {
         run.finding(&finding);
         return run.end();
     }
-    written(sheet, finding, options)
-}
-
-/// The sheet on standard output, and what is wrong on standard error.
-fn written(sheet: &[u8], mut finding: Finding, options: &Options) -> u8 {
     let manner = Manner::of(options, io::stderr().is_terminal() && takes_colour());
-    let mut is_written = true;
-    if options.task.is_dry {
-        finding.filing = if finding.is_refused() { Filing::Left } else { Filing::Due };
-    } else if !finding.is_refused() {
-        let mut out = io::stdout().lock();
-        finding.filing = Filing::Filed;
-        is_written =
-            out.write_all(sheet).and_then(|()| out.flush()).map_or_else(|fault| output_failed(&fault), |()| true);
-    }
     if manner.is_fault(&finding) || finding.filing == Filing::Due {
         let _ = io::stderr().write_all(told(&finding, manner).as_bytes());
     }
     status(manner.is_fault(&finding), !is_written)
+}
+
+/// Whether standard output took the sheet.
+fn written(sheet: &[u8]) -> bool {
+    let mut out = io::stdout().lock();
+    match out.write_all(sheet).and_then(|()| out.flush()) {
+        Ok(()) => true,
+        Err(fault) => output_failed(&fault),
+    }
 }
 
 fn status(has_faults: bool, has_troubles: bool) -> u8 {

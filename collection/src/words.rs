@@ -24,15 +24,15 @@ pub const NUMBERS: [Words; 13] = [
     Words {
         number: PLAN,
         name: "PLAN",
-        says: "PLAN: written by the planner, or passed by the check",
+        says: "PLAN: the sheet has a plan",
         advice: "run it",
         of_lines: &[],
     },
     Words {
         number: CANNOT,
         name: "CANNOT",
-        says: "CANNOT: written by the planner, or passed by the check",
-        advice: "there is no plan: let calls be later, first those whose own lift cell is no choke point at its deadline, \
+        says: "CANNOT: there is no plan, and the sheet has the choke points that show it",
+        advice: "let calls be later, first those whose own lift cell is no choke point at its deadline, \
                  or drop calls, each with a cart",
         of_lines: &[],
     },
@@ -123,6 +123,9 @@ pub const NUMBERS: [Words; 13] = [
         of_lines: &[],
     },
 ];
+
+/// The same of a job that has no sheet, for which the library has no number.
+pub const NO_SHEET: (&str, &str) = ("no sheet", "floors plan writes it");
 
 /// The words of a number, if it is one.
 pub fn of(number: u8) -> Option<&'static Words> {

@@ -1,6 +1,7 @@
 //! Jobs and sheets to try, all from seeds, so that a failing case comes again.
 
 pub mod cases;
+pub mod collection;
 pub mod damage;
 pub mod floors;
 pub mod large;

@@ -13,9 +13,9 @@ pub fn row(finding: &Finding, is_first: bool) -> String {
     let comma = if is_first { "" } else { "," };
     let path = path(&finding.job);
     let mut text = format!("{comma}\n  {{{path}, \"job\": \"{job}\", \"sheet\": \"{sheet}\", \"filing\": \"{filing}\"");
-    if let (Some(answer), Some(words)) = (finding.answer(), finding.words()) {
+    if let Some(answer) = finding.answer() {
         let (number, line) = (answer.number, answer.line);
-        let (says, advice) = (string(finding.says), string(words.advice));
+        let (says, advice) = (string(finding.says), string(finding.advice));
         push(
             &mut text,
             format_args!(", \"number\": {number}, \"line\": {line}, \"words\": {says}, \"to_do\": {advice}"),

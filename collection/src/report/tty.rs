@@ -4,60 +4,57 @@ use std::path::Path;
 
 use super::{shown_name, Manner};
 use crate::buffers::Verdict;
-use crate::finding::{sheet_of, Filing, Finding, Refusal, Sheet};
-use crate::words::CANNOT;
+use crate::finding::{sheet_of, Filing, Finding, Sheet};
 
 const RED: &str = "1;31";
 const GREEN: &str = "32";
 const YELLOW: &str = "33";
 
 pub fn text(finding: &Finding, manner: Manner) -> String {
-    let paint = |colour: &str, text: &str| match manner.is_coloured {
-        true => format!("\x1b[{colour}m{text}\x1b[0m"),
-        false => text.to_string(),
-    };
     let sheet = sheet_of(&finding.job);
-    let (word, colour) = match finding.verdict {
-        Some(Verdict::Plan) => ("PLAN", GREEN),
-        Some(Verdict::Cannot) => ("CANNOT", YELLOW),
-        _ => ("", ""),
-    };
-    let error = |place: String, number: String, says: &str, advice: &str| {
-        let error = paint(RED, &format!("error{number}"));
-        let advice = if manner.is_quiet { String::new() } else { format!("    to do: {advice}\n") };
-        format!("{place}: {error}: {says}\n{advice}")
-    };
-    let fault = |path: &Path, refusal: Refusal| {
-        let advice = finding.words().map_or("", |words| words.advice);
-        error(place(path, refusal.line), format!("[{}]", refusal.number), finding.says, advice)
-    };
-    match (finding.verdict, finding.filing, finding.sheet) {
-        (None, _, _) => String::new(),
-        (Some(Verdict::Refused(refusal)), _, _) => fault(&finding.job, refusal),
-        (Some(Verdict::Cannot), Filing::Left | Filing::Filed, _)
-            if manner.fails_on_cannot && finding.sheet_now() == Sheet::Right =>
-        {
-            fault(&sheet, Refusal { number: CANNOT, line: 0 })
-        }
-        (_, Filing::Filed, _) => format!("{}: filed {}\n", shown_name(&sheet), paint(colour, word)),
-        (_, Filing::Due, _) => format!("{}: would be filed: {}\n", shown_name(&sheet), paint(colour, word)),
-        (_, _, Sheet::Right) => format!("{}: right {}\n", shown_name(&sheet), paint(colour, word)),
-        (_, _, Sheet::Wrong(refusal)) => fault(&sheet, refusal),
-        (_, _, Sheet::Missing) => {
-            let says = format!("no sheet; the answer is {word}");
-            error(place(&finding.job, 0), String::new(), &says, &format!("floors plan {}", shown_name(&finding.job)))
-        }
-        // That it could not be read is said on standard error.
-        (_, _, Sheet::Unknown) => String::new(),
+    let said = |what: &str| format!("{}: {what} {}\n", shown_name(&sheet), answer(finding, manner));
+    match (finding.sheet_now(), finding.filing) {
+        _ if finding.is_refused() => error(&finding.job, finding, manner),
+        (_, Filing::Due) => said("would be filed:"),
+        (Sheet::Missing, _) => error(&finding.job, finding, manner),
+        (Sheet::Wrong(_), _) => error(&sheet, finding, manner),
+        (Sheet::Right, _) if manner.is_fault(finding) => error(&sheet, finding, manner),
+        (Sheet::Right, Filing::Filed) => said("filed"),
+        (Sheet::Right, _) => said("right"),
+        // That a file could not be read is said on standard error.
+        (Sheet::Unknown, _) => String::new(),
     }
 }
 
-/// A file, and the line if there is one.
-fn place(path: &Path, line: u64) -> String {
-    let name = shown_name(path);
-    if line == 0 {
-        name
-    } else {
-        format!("{name}:{line}")
+/// The word that the job's sheet begins with.
+fn answer(finding: &Finding, manner: Manner) -> String {
+    match finding.verdict {
+        Some(Verdict::Plan) => paint(GREEN, "PLAN", manner),
+        Some(Verdict::Cannot) => paint(YELLOW, "CANNOT", manner),
+        _ => String::new(),
+    }
+}
+
+/// What is wrong about a file, and what to do.
+fn error(path: &Path, finding: &Finding, manner: Manner) -> String {
+    let place = shown_name(path);
+    let what = match finding.answer() {
+        Some(found) if finding.sheet_now() != Sheet::Missing => {
+            let line = if found.line == 0 { String::new() } else { format!(":{}", found.line) };
+            let error = paint(RED, &format!("error[{}]", found.number), manner);
+            format!("{line}: {error}: {}", finding.says)
+        }
+        _ => format!(": {}: {}; the answer is {}", paint(RED, "error", manner), finding.says, answer(finding, manner)),
+    };
+    match manner.is_quiet {
+        true => format!("{place}{what}\n"),
+        false => format!("{place}{what}\n    to do: {}\n", finding.advice),
+    }
+}
+
+fn paint(colour: &str, text: &str, manner: Manner) -> String {
+    match manner.is_coloured {
+        true => format!("\x1b[{colour}m{text}\x1b[0m"),
+        false => text.to_string(),
     }
 }
