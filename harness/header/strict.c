@@ -36,10 +36,9 @@ static const char version[] = CARTFLOOR_VERSION;
 
 static uint8_t job[CARTFLOOR_TEXT_MAX + 1], store[CARTFLOOR_STORE_MOST], sheet[CARTFLOOR_SHEET_MOST];
 
-/* Job A: its last deadline and its counts, each of another type. */
-static volatile int last = 1;
-static volatile uint8_t cells = 3;
-static volatile uint64_t tracks = 2;
+/* Job A: its last deadline and its counts. They have signs, so that each needs the macro's cast. */
+static volatile int last = 1, tracks = 2;
+static volatile short cells = 3;
 static volatile long carts = 2;
 
 static void must(int holds, const char *what)
