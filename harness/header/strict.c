@@ -1,6 +1,6 @@
-/* A program of the header's tests, in what C99 and C++ have in common, with no cast of its own: compiled with warnings as
- * errors it shows that the header's macros bring none, wherever a program expands them. Each stands as the length of an
- * array, as a first value, and those with parameters also on numbers that come at run time.
+/* A program of the header's tests, in what C99 and C++ have in common, without a cast of its own: compiled with warnings
+ * as errors it shows that the header's macros bring none, wherever a program expands them. Each stands as the length of
+ * an array, as a first value, and those with parameters also on numbers that come at run time.
  *
  * It takes job A, lends just what that needs, and prints the sheet if the check passes it. */
 #include "cartfloor.h"

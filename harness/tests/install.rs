@@ -1,4 +1,4 @@
-//! `./install` as it is run: the three files, a program that is built with them, and what is left alone where it refuses.
+//! `./install` as it is run: the three files, a program that is built with them, and what a refusal leaves alone.
 
 use std::collections::BTreeMap;
 use std::fs;
@@ -24,10 +24,8 @@ fn folder(name: &str) -> PathBuf {
 
 fn install(from: &Path, words: &[&str]) -> Ended {
     let stamp = format!("{}.begun", library());
-    assert!(
-        Path::new(&stamp).is_file(),
-        "there is no {stamp}: `./install` would prove first, for longer than a test may"
-    );
+    let hint = "run `./install` once by hand, since it proves first, for longer than a test may";
+    assert!(Path::new(&stamp).is_file(), "there is no {stamp}: {hint}");
     let mut command = Command::new(fs::canonicalize(format!("{ROOT}/install")).expect("a script"));
     command.args(words).current_dir(from);
     finish(piped(command).spawn().expect("a script that starts"), Vec::new()).expect("a script that ends")
