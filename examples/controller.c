@@ -4,30 +4,41 @@
 
 #include <stdio.h>
 #include <stdlib.h>
-#include <string.h>
 
+/* A text that is too long fills the last byte too, and is refused for it. */
 static uint8_t job[CARTFLOOR_TEXT_MAX + 1];
 
 int main(void)
 {
-    size_t length = fread(job, 1, sizeof job, stdin);
-    size_t store_length = CARTFLOOR_STORE_MOST;
-    size_t sheet_length = CARTFLOOR_SHEET_MOST;
-    uint8_t *store = malloc(store_length);
-    uint8_t *sheet = malloc(sheet_length);
-    if (store == NULL || sheet == NULL)
+    size_t job_len = fread(job, 1, sizeof job, stdin);
+    size_t store_len = 65536, sheet_len = 65536;
+    uint8_t *store = NULL, *sheet = NULL;
+    uint64_t r;
+    if (ferror(stdin))
         return 2;
-    memset(store, 0xa5, store_length);
 
-    uint64_t r = cartfloor_plan(job, length, store, store_length, sheet, sheet_length);
-    unsigned answer = CARTFLOOR_ANSWER(r);
+    /* It ends: no job needs more than CARTFLOOR_STORE_MOST and CARTFLOOR_SHEET_MOST. */
+    for (;;) {
+        store = realloc(store, store_len);
+        sheet = realloc(sheet, sheet_len);
+        if (store == NULL || sheet == NULL)
+            return 2;
+        r = cartfloor_plan(job, job_len, store, store_len, sheet, sheet_len);
+        if (CARTFLOOR_ANSWER(r) == CARTFLOOR_STORE_TOO_SHORT)
+            store_len *= 2;
+        else if (CARTFLOOR_ANSWER(r) == CARTFLOOR_SHEET_TOO_SHORT)
+            sheet_len *= 2;
+        else
+            break;
+    }
+
     int status = 0;
-    if (answer > CARTFLOOR_CANNOT) {
-        printf("REFUSED\t%u\t%llu\n", answer, (unsigned long long)CARTFLOOR_VALUE(r));
+    if (CARTFLOOR_ANSWER(r) > CARTFLOOR_CANNOT) {
+        printf("REFUSED\t%u\t%u\n", CARTFLOOR_ANSWER(r), (unsigned)CARTFLOOR_VALUE(r));
     } else {
         size_t written = (size_t)CARTFLOOR_VALUE(r);
-        uint64_t checked = cartfloor_check(job, length, store, store_length, sheet, written);
-        if (checked != answer)
+        uint64_t checked = cartfloor_check(job, job_len, store, store_len, sheet, written);
+        if (checked != CARTFLOOR_ANSWER(r))
             status = 1;
         fwrite(sheet, 1, written, stdout);
     }

@@ -1,19 +1,92 @@
-/* cartfloor: plans for cart floors, and a check of their sheets.
+/* cartfloor: plans for cart floors, and a check of their sheets. This header is the manual.
  *
- * A job text says a floor, its carts and its calls; a sheet answers it: PLAN with a path for each call, or CANNOT with choke points.
- * Both calls take three buffers and give one 64-bit number back. Neither allocates, and neither keeps anything between calls, so
- * different threads may call them at the same time on buffers of their own.
+ * A job text says a floor, its carts and its calls; a sheet answers it: PLAN with a path for each call, or CANNOT with choke
+ * points that show why there is no plan. Both calls take three buffers and give one 64-bit number back. Neither allocates, and
+ * neither keeps anything between calls, so different threads may call them at the same time on buffers of their own. In C:
  *
- *     uint8_t sheet[65536], store[65536];
- *     uint64_t r = cartfloor_plan(job, job_len, store, sizeof store, sheet, sizeof sheet);
- *     switch (CARTFLOOR_ANSWER(r)) {
- *     case CARTFLOOR_PLAN:   fwrite(sheet, 1, CARTFLOOR_VALUE(r), stdout); break;
- *     case CARTFLOOR_CANNOT: fwrite(sheet, 1, CARTFLOOR_VALUE(r), stdout); break;
- *     default: printf("refused: %u at line %llu\n", CARTFLOOR_ANSWER(r), (unsigned long long)CARTFLOOR_VALUE(r));
+ *     static uint8_t job[CARTFLOOR_TEXT_MAX + 1];
+ *     size_t job_len = fread(job, 1, sizeof job, stdin);
+ *     size_t store_len = 65536, sheet_len = 65536;
+ *     uint8_t *store = NULL, *sheet = NULL;
+ *     uint64_t r;
+ *     for (;;) {
+ *         store = realloc(store, store_len);
+ *         sheet = realloc(sheet, sheet_len);
+ *         if (store == NULL || sheet == NULL)
+ *             return 2;
+ *         r = cartfloor_plan(job, job_len, store, store_len, sheet, sheet_len);
+ *         if (CARTFLOOR_ANSWER(r) == CARTFLOOR_STORE_TOO_SHORT)
+ *             store_len *= 2;
+ *         else if (CARTFLOOR_ANSWER(r) == CARTFLOOR_SHEET_TOO_SHORT)
+ *             sheet_len *= 2;
+ *         else
+ *             break;
  *     }
+ *     if (CARTFLOOR_ANSWER(r) <= CARTFLOOR_CANNOT)
+ *         fwrite(sheet, 1, (size_t)CARTFLOOR_VALUE(r), stdout);
+ *     else
+ *         printf("REFUSED\t%u\t%u\n", CARTFLOOR_ANSWER(r), (unsigned)CARTFLOOR_VALUE(r));
+ *
+ * A text that may be too long is read into CARTFLOOR_TEXT_MAX + 1 bytes, by fread as here, or by read(2) until it gives 0 or they
+ * are full. A longer text fills them, and is refused with 2; what is left of it need not be read.
+ *
+ * Nobody has to count how much a job needs. 64 KiB of each buffer are a start, and the one that is too short is doubled: a
+ * refusal changes no lent byte. The loop ends, with 16 MiB of store and 128 KiB for the sheet at the latest. Whoever wants no
+ * loop lends CARTFLOOR_STORE_MOST and CARTFLOOR_SHEET_MOST bytes, enough for every job. But the whole lent store is wiped, so
+ * that to lend more than the job needs costs time.
  *
  * Pointers. None may be null, also where its length is 0. The three buffers do not overlap. They may stand at any address.
- * Stack. Each call needs less than 256 KiB of stack. */
+ * Stack. Measured at the limits, planning takes 46 KB and checking 32 KB (harness/tests/stack.rs); both are held under 256 KiB.
+ *
+ * A JOB
+ *
+ * Lines of text. LF (byte 10) ends every line, the last one too. A line is a word and its fields, one tab (byte 9) before each
+ * field; tabs are shown here as spaces. The words, in the order of their lines:
+ *
+ *     FLOOR cells           one, the first line: the number of cells, 1 to CARTFLOOR_CELLS_MAX
+ *     TRACK cell cell       up to CARTFLOOR_TRACKS_MAX: joins two cells, both ways
+ *     CART cell             up to CARTFLOOR_CARTS_MAX: where it stands at step 0
+ *     CALL cell deadline    up to CARTFLOOR_CALLS_MAX, as many as carts: a lift cell, and a step from 0 to CARTFLOOR_DEADLINE_MAX
+ *
+ * A number has 1 to 3 decimal digits and no leading zero; 0 is one. A cell is a number below the number of cells. Tracks, carts
+ * and calls are numbered from 0 in the order of their lines. No track joins a cell to itself, and no two join the same cells,
+ * either way round. No two carts stand on one cell, and no two calls have one lift cell. A text has at most CARTFLOOR_TEXT_MAX
+ * bytes.
+ *
+ *     FLOOR 3               three cells, 0 to 2
+ *     TRACK 0 1
+ *     TRACK 1 2
+ *     CART 0                cart 0 stands on cell 0 at step 0
+ *     CART 1                cart 1 on cell 1
+ *     CALL 2 1              call 0: a cart is to stand on cell 2 at step 1; it is lifted off the floor there
+ *     CALL 1 1              call 1: likewise on cell 1
+ *
+ * A walk starts on a cart's cell at step 0, and at each step stands or goes along one track. A plan gives each call a cart of its
+ * own, and that cart a walk which stands on the call's lift cell at its deadline. The cart is on the floor up to that step, and
+ * off it from the next; to cross a lift cell earlier does not lift it. No two carts on the floor are on one cell at one step, and
+ * no two trade the ends of a track from one step to the next. To follow a cart into the cell that it leaves is allowed, and so is
+ * a ring of three or more that turns.
+ *
+ * ITS SHEET
+ *
+ * Lines, tabs and numbers are as in a job. A plan is a line PLAN with the number of calls, and one PATH for each call: its cart,
+ * the call, and the cart's cells from step 0 to the call's deadline, deadline + 1 of them. PATH lines go by deadline, equal
+ * deadlines in the order of the job.
+ *
+ *     PLAN 2                a plan for two calls
+ *     PATH 1 0 1 2          cart 1 serves call 0: on cell 1 at step 0, on cell 2 at step 1
+ *     PATH 0 1 0 1          cart 0 serves call 1: on cell 0, then on cell 1
+ *
+ * Where there is no plan, CANNOT has the number of choke points, fewer than calls, and then follows one CHOKE for each: cell and
+ * step. CHOKE lines go by step, then cell, none twice. With CALL 1 0 for the last line of the job:
+ *
+ *     CANNOT 1              no plan; one choke point for two calls
+ *     CHOKE 1 0             every walk from any cart to any call stands on cell 1 at step 0
+ *
+ * A choke point is a cell at a step from 0 to the largest deadline, 0 if there are no calls. A true choke list has fewer choke
+ * points than the job has calls, and every walk from any cart's cell that ends on any call's lift cell at its deadline stands on
+ * one of them, on that cell at that step. Each cart of a plan would need a choke point of its own: so where there is a true choke
+ * list, there is no plan. Where there is no plan, there is such a list. */
 #ifndef CARTFLOOR_H
 #define CARTFLOOR_H
 
@@ -24,28 +97,72 @@
 extern "C" {
 #endif
 
-/* The answer is the lowest byte. The rest is, after PLAN or CANNOT from the planner, the number of bytes written; after PLAN or
- * CANNOT from the check, 0; after a refusal, its line, counted from 1, or 0 where it concerns no line. */
-#define CARTFLOOR_ANSWER(r) ((unsigned)((r) & 0xff))
-#define CARTFLOOR_VALUE(r) ((uint64_t)(r) >> 8)
+/* The version of this header and its library. The minor number moves where jobs or sheets are read or written otherwise than
+ * before, or where calls are added: programs compile as they are. The major number moves where a program has to change. */
+#define CARTFLOOR_VERSION_MAJOR 1
+#define CARTFLOOR_VERSION_MINOR 0
+#define CARTFLOOR_VERSION "1.0"
 
+/* C++ compilers can be asked to warn of C's casts. */
+#ifdef __cplusplus
+#define CARTFLOOR_AS(type, number) (static_cast<type>(number))
+#else
+#define CARTFLOOR_AS(type, number) ((type)(number))
+#endif
+
+/* A call's answer is the lowest byte of its number. The rest is, after PLAN or CANNOT from the planner, the number of bytes
+ * written; after PLAN or CANNOT from the check, 0; after a refusal, its line, or 0 where it concerns no line. */
+#define CARTFLOOR_ANSWER(r) CARTFLOOR_AS(unsigned, (r) & 0xff)
+#define CARTFLOOR_VALUE(r) (CARTFLOOR_AS(uint64_t, r) >> 8)
+
+/* The answers, and what to do. The first of the refusals that holds is the answer, in this order:
+ *
+ *     2          the text
+ *     3 to 7     each line from the first; of a line 3 before 4 and so on, each over the whole line
+ *     8          the whole job
+ *     9          the store
+ *     10         the sheet buffer, from the planner
+ *     11, 12     the sheet, from the check
+ *
+ * The line of 3 to 7 is that of the job text, the line of 11 that of the sheet, both counted from 1; it is 0 with all others.
+ * What stands behind the last LF is a line without one. A line that is missing is the one after the last, 1 in an empty text. Of
+ * lines beyond those that the sheet counts it is the first.
+ *
+ * A sheet is not in the form where its words, numbers or counts of fields are wrong, where its last LF is missing, where it has
+ * unknown carts, calls, cells or steps, and where a PATH has not exactly deadline + 1 cells, a PLAN not the number of calls, or a
+ * CANNOT not fewer choke points than that. A refusal changes no lent byte. */
 enum {
-    CARTFLOOR_PLAN = 0,              /* a PLAN was written, or passed */
-    CARTFLOOR_CANNOT = 1,            /* a CANNOT was written, or passed */
-    /* The job text. Of a line the first test that fails counts, in this order. */
-    CARTFLOOR_TEXT_TOO_LONG = 2,     /* over CARTFLOOR_TEXT_MAX bytes; line 0 */
-    CARTFLOOR_BAD_LINE = 3,          /* no LF, wrong word, word out of order, wrong count of fields; an empty text (line 1) */
-    CARTFLOOR_NO_NUMBER = 4,         /* a field is no number of 1 to 3 digits without a leading zero */
-    CARTFLOOR_OUT_OF_RANGE = 5,      /* a number is out of its range */
-    CARTFLOOR_TOO_MANY = 6,          /* more lines of its kind than allowed */
-    CARTFLOOR_DOUBLED = 7,           /* a track from a cell to itself or joined already; a second cart or call on a cell */
-    CARTFLOOR_UNEVEN = 8,            /* carts and calls differ in number; line 0 */
-    /* The buffers. */
-    CARTFLOOR_STORE_TOO_SHORT = 9,   /* line 0 */
-    CARTFLOOR_SHEET_TOO_SHORT = 10,  /* the planner only; line 0 */
-    /* The sheet, from the check only. */
-    CARTFLOOR_BAD_SHEET = 11,        /* not in the form; its first bad line */
-    CARTFLOOR_WRONG_SHEET = 12       /* in the form, yet no plan, no true choke list, or out of order; line 0 */
+    /* PLAN: written by the planner, or passed by the check. To do: run it. */
+    CARTFLOOR_PLAN = 0,
+    /* CANNOT: written by the planner, or passed by the check. To do: there is no plan: let calls be later, first those whose
+     * own lift cell is no choke point at its deadline, or drop calls, each with a cart. */
+    CARTFLOOR_CANNOT = 1,
+    /* the text is over 16,384 bytes. To do: send less: no job within the limits needs more. */
+    CARTFLOOR_TEXT_TOO_LONG = 2,
+    /* a line has no LF, a wrong word, a word out of order or a wrong count of fields; or the text is empty. To do: mend that
+     * line: one FLOOR, then TRACK, CART and CALL lines, one tab before each field. */
+    CARTFLOOR_BAD_LINE = 3,
+    /* a field is no number. To do: mend that line: one to three digits, no leading zero, no sign, no space, no CR. */
+    CARTFLOOR_NO_NUMBER = 4,
+    /* a number is out of range. To do: mend that line: 1 to 256 cells, cells below their number, deadlines to 255. */
+    CARTFLOOR_OUT_OF_RANGE = 5,
+    /* more lines of a kind than allowed. To do: split the job: at most 512 tracks, 64 carts and 64 calls. */
+    CARTFLOOR_TOO_MANY = 6,
+    /* a track joins a cell to itself or a pair joined already, or there is a second cart or a second call on a cell. To do:
+     * strike that line. */
+    CARTFLOOR_DOUBLED = 7,
+    /* carts and calls differ in number. To do: give each cart a call, or leave it out. */
+    CARTFLOOR_UNEVEN = 8,
+    /* the store is too short. To do: lend twice as much and call again. */
+    CARTFLOOR_STORE_TOO_SHORT = 9,
+    /* the sheet buffer is too short (planner only). To do: lend twice as much and call again. */
+    CARTFLOOR_SHEET_TOO_SHORT = 10,
+    /* the sheet is not in the form (check only). To do: do not run it: see that line's word, numbers and count of fields, or
+     * plan the job again. */
+    CARTFLOOR_BAD_SHEET = 11,
+    /* the sheet is in the form, yet no plan, no true choke list, or out of order (check only). To do: do not run it: plan the
+     * job again. */
+    CARTFLOOR_WRONG_SHEET = 12
 };
 
 /* Limits of a job. */
@@ -57,8 +174,9 @@ enum {
 #define CARTFLOOR_TEXT_MAX 16384
 
 /* The least lengths of the buffers. `last` is the largest deadline of the job, 0 if it has no call. More is allowed. */
-#define CARTFLOOR_STORE_LEAST(last, cells, tracks) (((size_t)(last) + 1) * 32 * ((size_t)(cells) + 2 * (size_t)(tracks)) + 4096)
-#define CARTFLOOR_SHEET_LEAST(last, carts) ((size_t)(carts) * (4 * ((size_t)(last) + 1) + 16) + 64)
+#define CARTFLOOR_STORE_LEAST(last, cells, tracks) \
+    ((CARTFLOOR_AS(size_t, last) + 1) * 32 * (CARTFLOOR_AS(size_t, cells) + 2 * CARTFLOOR_AS(size_t, tracks)) + 4096)
+#define CARTFLOOR_SHEET_LEAST(last, carts) (CARTFLOOR_AS(size_t, carts) * (4 * (CARTFLOOR_AS(size_t, last) + 1) + 16) + 64)
 
 /* Enough for every job. */
 #define CARTFLOOR_STORE_MOST CARTFLOOR_STORE_LEAST(CARTFLOOR_DEADLINE_MAX, CARTFLOOR_CELLS_MAX, CARTFLOOR_TRACKS_MAX)
@@ -66,10 +184,10 @@ enum {
 
 /* Plans a job.
  *   job, job_len      the job text; it is left alone
- *   store, store_len  work store, of at least CARTFLOOR_STORE_LEAST bytes, with anything in it. After PLAN or CANNOT every byte of it is 0,
- *                     also past the least length; after a refusal it is as lent
- *   sheet, sheet_len  where the sheet goes, of at least CARTFLOOR_SHEET_LEAST bytes. After PLAN or CANNOT the sheet stands at its start, and the
- *                     bytes behind it are as lent; after a refusal all are
+ *   store, store_len  work store, of at least CARTFLOOR_STORE_LEAST bytes, with anything in it. After PLAN or CANNOT every byte
+ *                     of it is 0, also past the least length; after a refusal it is as lent
+ *   sheet, sheet_len  where the sheet goes, of at least CARTFLOOR_SHEET_LEAST bytes. After PLAN or CANNOT the sheet stands at its
+ *                     start, and the bytes behind it are as lent; after a refusal all are
  * Answers PLAN with a plan, exactly if there is one; CANNOT with a true choke list, exactly if there is no plan; or 2 to 10. */
 uint64_t cartfloor_plan(const uint8_t *job, size_t job_len, uint8_t *store, size_t store_len, uint8_t *sheet, size_t sheet_len);
 
@@ -77,9 +195,10 @@ uint64_t cartfloor_plan(const uint8_t *job, size_t job_len, uint8_t *store, size
  *   job, job_len      the job text; it is left alone
  *   store, store_len  as for the planner. After PLAN or CANNOT every byte of it is 0; after any refusal it is as lent
  *   sheet, sheet_len  the whole sheet, however long; it is left alone
- * Answers PLAN exactly if the sheet is a plan of the job in the written form, CANNOT exactly if it is a true choke list of the job in the
- * written form; or 2 to 9, 11 or 12. */
-uint64_t cartfloor_check(const uint8_t *job, size_t job_len, uint8_t *store, size_t store_len, const uint8_t *sheet, size_t sheet_len);
+ * Answers PLAN exactly if the sheet is a plan of the job in the written form, CANNOT exactly if it is a true choke list of it in
+ * the written form; or 2 to 9, 11 or 12. */
+uint64_t cartfloor_check(const uint8_t *job, size_t job_len, uint8_t *store, size_t store_len, const uint8_t *sheet,
+                         size_t sheet_len);
 
 #ifdef __cplusplus
 }

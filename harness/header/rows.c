@@ -103,6 +103,11 @@ void number(unsigned long long n)
     printf("%llu\n", n);
 }
 
+void text(const char *line)
+{
+    printf("%s\n", line);
+}
+
 void planned_job(size_t cells, size_t tracks, size_t carts, size_t calls, size_t last)
 {
     make_job(cells, tracks, carts, calls, last);

@@ -36,6 +36,15 @@ pub fn finish(mut child: Child, pieces: Vec<Vec<u8>>) -> Result<Ended, String> {
     Ok(Ended { status: status?, out, err })
 }
 
+/// What a command prints that must succeed.
+pub fn output(command: Command, input: Vec<u8>) -> Vec<u8> {
+    let name = format!("{:?}", command.get_program());
+    let child = piped(command).spawn().unwrap_or_else(|fault| panic!("{name}: {fault}"));
+    let Ended { status, out, err } = finish(child, vec![input]).unwrap_or_else(|fault| panic!("{name}: {fault}"));
+    assert!(status.success(), "{name}: {status}\n{}", String::from_utf8_lossy(&err));
+    out
+}
+
 /// A child may end, or stop reading, before it has had everything.
 fn feed(mut pipe: ChildStdin, pieces: &[Vec<u8>]) {
     for (i, piece) in pieces.iter().enumerate() {

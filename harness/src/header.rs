@@ -5,14 +5,22 @@ use std::fs;
 use std::path::Path;
 use std::process::Command;
 
-use crate::child::{finish, piped, Ended};
+use crate::child::output;
 
 const ROOT: &str = concat!(env!("CARGO_MANIFEST_DIR"), "/..");
 
+/// The header with its comments.
+fn manual() -> String {
+    fs::read_to_string(format!("{ROOT}/include/cartfloor.h")).expect("a header")
+}
+
 /// The header without its comments.
 fn text() -> String {
-    let whole = fs::read_to_string(format!("{ROOT}/include/cartfloor.h")).expect("a header");
-    let mut parts = whole.split("/*");
+    without_comments(&manual())
+}
+
+pub fn without_comments(source: &str) -> String {
+    let mut parts = source.split("/*");
     let first = parts.next().unwrap_or_default().to_string();
     let behind = |comment: &str| comment.split_once("*/").expect("the end of a comment").1.to_string();
     parts.map(behind).fold(first, |all, part| all + " " + &part)
@@ -31,10 +39,26 @@ pub fn is_ours(word: &str) -> bool {
 /// Every name that the header brings: what it defines, its enum constants, and whatever else is ours.
 pub fn names() -> BTreeSet<String> {
     let text = text();
+    let ours = words(&text).filter(|word| is_ours(word));
+    constants(&text).chain(ours).map(str::to_string).chain(macros()).collect()
+}
+
+/// What the header defines, its guard too.
+pub fn macros() -> BTreeSet<String> {
+    let text = text();
     let all: Vec<&str> = words(&text).collect();
-    let defined = all.windows(2).filter(|pair| pair[0] == "define").map(|pair| pair[1]);
-    let ours = all.iter().copied().filter(|word| is_ours(word));
-    defined.chain(constants(&text)).chain(ours).map(str::to_string).collect()
+    all.windows(2).filter(|pair| pair[0] == "define").map(|pair| pair[1].to_string()).collect()
+}
+
+/// The passage of the manual that shows how to plan a job: of those that are set in, the one with the call.
+pub fn example() -> String {
+    let manual = manual();
+    let set_in = |line: &str| line.strip_prefix(" *     ").map(str::to_string);
+    let lines: Vec<Option<String>> = manual.lines().map(set_in).collect();
+    let mut passages =
+        lines.split(Option::is_none).map(|passage| passage.iter().flatten().cloned().collect::<Vec<_>>());
+    let shows_the_call = |passage: &Vec<String>| passage.iter().any(|line| line.contains("cartfloor_plan("));
+    passages.find(shows_the_call).expect("an example in the header").join("\n")
 }
 
 /// The names of the enum constants, without their numbers.
@@ -79,7 +103,7 @@ pub fn assert_rows(folder: &str, name: &str, rows: &[Row]) {
     let statements: String = rows.iter().map(|row| format!("{};\n", row.statement)).collect();
     fs::write(&file, statements).expect("a file of rows");
     build(&file, &program);
-    let printed = String::from_utf8(output(Command::new(&program))).expect("text");
+    let printed = String::from_utf8(output(Command::new(&program), Vec::new())).expect("text");
     assert_eq!(printed.lines().count(), rows.len(), "lines printed");
     let differs = |(row, found): (&Row, &str)| {
         let start: String = row.statement.chars().take(150).collect();
@@ -89,23 +113,19 @@ pub fn assert_rows(folder: &str, name: &str, rows: &[Row]) {
     assert!(faults.is_empty(), "\n{}", faults.join("\n"));
 }
 
-fn build(rows: &str, program: &str) {
+/// Where the library is.
+pub fn library() -> String {
     let library = format!("{ROOT}/target/staticlib/libcartfloor.a");
     assert!(Path::new(&library).is_file(), "there is no {library}: `rt staticlib cartfloor` builds it");
+    library
+}
+
+fn build(rows: &str, program: &str) {
     let mut gcc = Command::new("gcc");
     gcc.args(["-std=c11", "-Wall", "-Wextra", "-Werror", "-O1", "-I", &format!("{ROOT}/include"), "-o", program]);
     gcc.arg(format!("-DROWS=\"{rows}\""));
     gcc.arg(format!("-DPLAN_ORDER={}", parameters("cartfloor_plan").join(",")));
     gcc.arg(format!("-DCHECK_ORDER={}", parameters("cartfloor_check").join(",")));
-    gcc.args([&format!("{ROOT}/harness/header/rows.c"), &library]);
-    output(gcc);
-}
-
-/// What a command prints that must succeed.
-fn output(command: Command) -> Vec<u8> {
-    let name = format!("{:?}", command.get_program());
-    let child = piped(command).spawn().unwrap_or_else(|fault| panic!("{name}: {fault}"));
-    let Ended { status, out, err } = finish(child, Vec::new()).unwrap_or_else(|fault| panic!("{name}: {fault}"));
-    assert!(status.success(), "{name}: {status}\n{}", String::from_utf8_lossy(&err));
-    out
+    gcc.args([&format!("{ROOT}/harness/header/rows.c"), &library()]);
+    output(gcc, Vec::new());
 }

@@ -3,12 +3,14 @@
 use std::collections::BTreeSet;
 use std::fs;
 
-use harness::header::{assert_rows, is_ours, names, row, words, Row};
+use harness::header::{assert_rows, is_ours, names, row, words};
 
 const SPECS: &str = concat!(env!("CARGO_MANIFEST_DIR"), "/../crates/model/specs");
 
 /// What the header has for a C program to write down, and its number.
 const NUMBERS: &[(&str, u64)] = &[
+    ("CARTFLOOR_VERSION_MAJOR", 1),
+    ("CARTFLOOR_VERSION_MINOR", 0),
     ("CARTFLOOR_PLAN", 0),
     ("CARTFLOOR_CANNOT", 1),
     ("CARTFLOOR_TEXT_TOO_LONG", 2),
@@ -61,14 +63,20 @@ const NUMBERS: &[(&str, u64)] = &[
     ("CARTFLOOR_VALUE(UINT64_C(0x0123456789abcdef))", 0x0001_2345_6789_abcd),
     ("CARTFLOOR_VALUE(UINT64_MAX)", 0x00ff_ffff_ffff_ffff),
     ("sizeof CARTFLOOR_VALUE(0)", 8),
+    ("CARTFLOOR_AS(uint8_t, 256 + 7)", 7),
+    ("sizeof CARTFLOOR_AS(uint8_t, 256 + 7)", 1),
 ];
+
+/// What it has that is no number.
+const TEXTS: &[(&str, &str)] = &[("CARTFLOOR_VERSION", "1.0")];
 
 /// The guard of the header, and the calls, which `header_calls.rs` holds.
 const NO_NUMBERS: &[&str] = &["CARTFLOOR_H", "cartfloor_plan", "cartfloor_check"];
 
 #[test]
 fn every_name_of_the_header_has_a_row() {
-    let in_rows = NUMBERS.iter().flat_map(|(expression, _)| words(expression)).filter(|word| is_ours(word));
+    let expressions = NUMBERS.iter().map(|row| row.0).chain(TEXTS.iter().map(|row| row.0));
+    let in_rows = expressions.flat_map(words).filter(|word| is_ours(word));
     let held: BTreeSet<String> = in_rows.chain(NO_NUMBERS.iter().copied()).map(str::to_string).collect();
     let found = names();
     let unheld: Vec<_> = found.difference(&held).collect();
@@ -77,9 +85,10 @@ fn every_name_of_the_header_has_a_row() {
 }
 
 #[test]
-fn every_number_as_a_compiler_sees_it() {
-    let rows = NUMBERS.iter().map(|(expression, number)| row(format!("number({expression})"), number));
-    assert_rows(env!("CARGO_TARGET_TMPDIR"), "numbers", &rows.collect::<Vec<Row>>());
+fn every_number_and_text_as_a_compiler_sees_it() {
+    let numbers = NUMBERS.iter().map(|(expression, number)| row(format!("number({expression})"), number));
+    let texts = TEXTS.iter().map(|(expression, text)| row(format!("text({expression})"), text));
+    assert_rows(env!("CARGO_TARGET_TMPDIR"), "numbers", &numbers.chain(texts).collect::<Vec<_>>());
 }
 
 /// The lines of the definitions that give these numbers. Here they stand once more as they are there, so that a changed
