@@ -115,7 +115,8 @@ extern "C" {
 #define CARTFLOOR_ANSWER(r) CARTFLOOR_AS(unsigned, (r) & 0xff)
 #define CARTFLOOR_VALUE(r) (CARTFLOOR_AS(uint64_t, r) >> 8)
 
-/* The answers, and what to do. The first of the refusals that holds is the answer, in this order:
+/* The answers, and what to do. PLAN and CANNOT come from the planner, which wrote such a sheet, and from the check, which passed
+ * it. The first of the refusals that holds is the answer, in this order:
  *
  *     2          the text
  *     3 to 7     each line from the first; of a line 3 before 4 and so on, each over the whole line
@@ -132,10 +133,10 @@ extern "C" {
  * unknown carts, calls, cells or steps, and where a PATH has not exactly deadline + 1 cells, a PLAN not the number of calls, or a
  * CANNOT not fewer choke points than that. A refusal changes no lent byte. */
 enum {
-    /* PLAN: written by the planner, or passed by the check. To do: run it. */
+    /* PLAN: the sheet has a plan. To do: run it. */
     CARTFLOOR_PLAN = 0,
-    /* CANNOT: written by the planner, or passed by the check. To do: there is no plan: let calls be later, first those whose
-     * own lift cell is no choke point at its deadline, or drop calls, each with a cart. */
+    /* CANNOT: there is no plan, and the sheet has the choke points that show it. To do: let calls be later, first those whose own
+     * lift cell is no choke point at its deadline, or drop calls, each with a cart. */
     CARTFLOOR_CANNOT = 1,
     /* the text is over 16,384 bytes. To do: send less: no job within the limits needs more. */
     CARTFLOOR_TEXT_TOO_LONG = 2,
@@ -155,13 +156,12 @@ enum {
     CARTFLOOR_UNEVEN = 8,
     /* the store is too short. To do: lend twice as much and call again. */
     CARTFLOOR_STORE_TOO_SHORT = 9,
-    /* the sheet buffer is too short (planner only). To do: lend twice as much and call again. */
+    /* the sheet buffer is too short. To do: lend twice as much and call again. */
     CARTFLOOR_SHEET_TOO_SHORT = 10,
-    /* the sheet is not in the form (check only). To do: do not run it: see that line's word, numbers and count of fields, or
-     * plan the job again. */
+    /* the sheet is not in the form. To do: do not run it: see that line's word, numbers and count of fields, or plan the job
+     * again. */
     CARTFLOOR_BAD_SHEET = 11,
-    /* the sheet is in the form, yet no plan, no true choke list, or out of order (check only). To do: do not run it: plan the
-     * job again. */
+    /* the sheet is in the form, yet no plan, no true choke list, or out of order. To do: do not run it: plan the job again. */
     CARTFLOOR_WRONG_SHEET = 12
 };
 

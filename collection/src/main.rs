@@ -8,10 +8,12 @@ use collection::options::{command, Command};
 use collection::run::{complain, run, TROUBLES};
 use collection::words::NUMBERS;
 
+const VERSION: &str = concat!("floors ", env!("CARGO_PKG_VERSION_MAJOR"), ".", env!("CARGO_PKG_VERSION_MINOR"), "\n");
+
 fn main() -> ExitCode {
     let status = match command(env::args_os().skip(1)) {
         Ok(Command::Help(text)) => print(text),
-        Ok(Command::Version) => print(concat!("floors ", env!("CARGO_PKG_VERSION"), "\n")),
+        Ok(Command::Version) => print(VERSION),
         Ok(Command::Explain(number)) => {
             let asked = NUMBERS.iter().filter(|words| number.is_none_or(|number| words.number == number));
             print(&asked.map(ToString::to_string).collect::<String>())
