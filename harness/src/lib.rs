@@ -5,7 +5,8 @@
 //! has planners that are wrong. `faulty` is a second check, into which faults can be put to see that the comparison finds
 //! them; `painted` measures stacks. `child` runs programs: `program` is where floorplan is, `header` has one in C that
 //! uses the header. The tests themselves are in `tests/`. Two programs go with them: `soak` tries as much as one has time
-//! for, and `bench` times the library, against `baseline` among others.
+//! for, and `bench` times the library, against `baseline` among others. The program `floors` has tests of its own in
+//! `collection/`, which use the jobs, the model and the child processes from here.
 
 pub mod baseline;
 pub mod child;

@@ -30,6 +30,9 @@ const NUMBERS: &[(&str, u64)] = &[
     ("CARTFLOOR_CALLS_MAX", 64),
     ("CARTFLOOR_DEADLINE_MAX", 255),
     ("CARTFLOOR_TEXT_MAX", 16_384),
+    // What programs in Rust have of these.
+    ("CARTFLOOR_TEXT_MAX", cartfloor::TEXT_MAX as u64),
+    ("CARTFLOOR_SHEET_MOST", cartfloor::SHEET_MOST as u64),
     // (H + 1) × 32 × (cells + 2 × tracks) + 4,096.
     ("CARTFLOOR_STORE_LEAST(0, 1, 0)", 4128),
     ("CARTFLOOR_STORE_LEAST(1, 3, 2)", 4544),
