@@ -5,30 +5,9 @@ mod kit;
 use std::fs;
 use std::os::unix::fs::MetadataExt;
 
-use harness::examples::{e, A, B, C, D, F, F_TRADED, G};
+use harness::examples::{e, A, B, C, D, F, G};
+use kit::mixed::mixed;
 use kit::{is_right, tabs, Folder};
-
-/// A job of each kind: with a right sheet (a PLAN, a CANNOT), a wrong one (12, 11), none, and jobs that are refused.
-fn mixed() -> Folder {
-    let folder = Folder::new();
-    folder.put("floor 1/a.job", tabs(A.job));
-    folder.put("floor 1/a.sheet", tabs(A.sheet));
-    folder.put("floor 1/b.job", tabs(B.job));
-    folder.put("floor 1/b.sheet", tabs(B.sheet));
-    folder.put("floor 1/c.job", tabs(C.job));
-    folder.put("floor 2/d.job", tabs(D.job));
-    folder.put("floor 2/d.sheet", tabs("PLAN 1\nPATH 0 0 1\n"));
-    folder.put("floor 2/f.job", tabs(F.job));
-    folder.put("floor 2/f.sheet", tabs(F_TRADED));
-    folder.put("g.job", tabs(G.job));
-    folder.put("r.job", tabs("FLOOR 2\nCART 0\nCART 0\n"));
-    folder.put("r.sheet", tabs("PLAN 0\n"));
-    folder.put("u.job", tabs("FLOOR 1\nCART 0\n"));
-    folder.put("notes.txt", "no job");
-    folder.put(".hidden.job", "no job");
-    folder.put(".git/x.job", "no job");
-    folder
-}
 
 const DOUBLED: &str = "r.job:3: error[7]: a second cart on a cell\n    to do: strike that line\n";
 const UNEVEN: &str =
@@ -185,105 +164,4 @@ fn one_job_on_standard_input() {
     folder.floors_with(&["plan", "--dry-run", "-"], &tabs(A.job)).expect(1, "", "-: would be filed: PLAN\n");
     folder.floors_with(&["status", "-q", "-"], &tabs(A.job)).expect(1, "-: error: no sheet; the answer is PLAN\n", "");
     assert!(folder.files().is_empty());
-}
-
-#[test]
-fn a_table_with_tabs() {
-    let rows = "\
-        path\tjob\tsheet\tfiling\tnumber\tline\twords\n\
-        floor 1/a.job\tplan\tright\tleft\t0\t0\tPLAN: the sheet has a plan\n\
-        floor 1/b.job\tcannot\tright\tleft\t1\t0\tCANNOT: there is no plan, and the sheet has the choke points that show it\n\
-        floor 1/c.job\tplan\tright\tfiled\t0\t0\tPLAN: the sheet has a plan\n\
-        floor 2/d.job\tplan\twrong\tleft\t11\t2\tthe sheet is not in the form\n\
-        floor 2/f.job\tplan\twrong\tleft\t12\t0\tthe sheet is in the form, yet no plan, no true choke list, or out of order\n\
-        g.job\tcannot\tright\tfiled\t1\t0\tCANNOT: there is no plan, and the sheet has the choke points that show it\n\
-        r.job\trefused\tunknown\tleft\t7\t3\ta second cart on a cell\n\
-        u.job\trefused\tunknown\tleft\t8\t0\tcarts and calls differ in number\n";
-    let folder = mixed();
-    let summary = "8 jobs: 4 plan, 2 cannot, 2 refused; sheets: 4 right, 0 missing, 2 wrong";
-    let changes: String = rows.split_inclusive('\n').filter(|row| !row.contains("right\tleft")).collect();
-    folder.floors(&["plan", "--format", "tsv"]).expect(1, &changes, &format!("{summary}; 2 filed\n"));
-    let later = rows.replace("\tfiled\t", "\tleft\t");
-    folder.floors(&["status", "--format=tsv"]).expect(1, &later, &format!("{summary}\n"));
-    let wrong: String = later.split_inclusive('\n').filter(|row| !row.contains("\tright\t")).collect();
-    folder.floors(&["status", "--format=tsv", "-q"]).expect(1, &wrong, "");
-    folder.put("h.job", tabs(G.job));
-    let missing = "path\tjob\tsheet\tfiling\tnumber\tline\twords\nh.job\tcannot\tmissing\tdue\t1\t0\tno sheet\n";
-    folder.floors(&["plan", "--dry-run", "--format=tsv", "-q", "h.job"]).expect(1, missing, "");
-}
-
-#[test]
-fn json() {
-    let folder = Folder::new();
-    folder.put("a \"b\"\n.job", tabs(A.job));
-    folder.put("r.job", tabs("FLOOR 1\nCART 1\n"));
-    let shown = "{\"jobs\": [\n  \
-        {\"path\": \"a \\\"b\\\"\\u000a.job\", \"job\": \"plan\", \"sheet\": \"missing\", \"filing\": \"left\", \
-        \"number\": 0, \"line\": 0, \"words\": \"no sheet\", \"to_do\": \"floors plan writes it\"},\n  \
-        {\"path\": \"r.job\", \"job\": \"refused\", \"sheet\": \"unknown\", \"filing\": \"left\", \
-        \"number\": 5, \"line\": 2, \"words\": \"a cart on a cell that the floor has not\", \
-        \"to_do\": \"mend that line: 1 to 256 cells, cells below their number, deadlines to 255\"}\n], \
-        \"summary\": {\"jobs\": 2, \"plan\": 1, \"cannot\": 0, \"refused\": 1, \"right\": 0, \"missing\": 1, \"wrong\": 0, \
-        \"filed\": 0, \"due\": 0, \"troubles\": 0}}\n";
-    folder.floors(&["status", "--format", "json"]).expect(1, shown, "");
-    let nothing =
-        "{\"jobs\": [\n], \"summary\": {\"jobs\": 0, \"plan\": 0, \"cannot\": 0, \"refused\": 0, \"right\": 0, \
-        \"missing\": 0, \"wrong\": 0, \"filed\": 0, \"due\": 0, \"troubles\": 0}}\n";
-    Folder::new().floors(&["check", "--format", "json"]).expect(0, nothing, "");
-}
-
-#[test]
-fn wrong_use() {
-    let folder = Folder::new();
-    folder.put("a.job", tabs(A.job));
-    folder.put("a.txt", tabs(A.job));
-    let cases: [(&[&str], &str); 18] = [
-        (&[], "floors: which command? `floors --help` lists them\n"),
-        (&["stat"], "floors: there is no command \"stat\"; `floors --help` lists them\n"),
-        (&["status", "--what"], "floors: there is no option \"--what\" here\n"),
-        (&["status", "-x"], "floors: there is no option \"-x\" here\n"),
-        (&["status", "--again"], "floors: there is no option \"--again\" here\n"),
-        (&["check", "--force"], "floors: there is no option \"--force\" here\n"),
-        (&["check", "--dry-run"], "floors: there is no option \"--dry-run\" here\n"),
-        (&["plan", "--again=yes"], "floors: there is no option \"--again=yes\" here\n"),
-        (&["plan", "-j"], "floors: what for -j?\n"),
-        (&["plan", "-j0"], "floors: \"0\" is no number of threads from 1 to 1024\n"),
-        (&["plan", "--jobs=many"], "floors: \"many\" is no number of threads from 1 to 1024\n"),
-        (&["plan", "--format", "xml"], "floors: there is no format \"xml\", but tty, tsv and json\n"),
-        (&["plan", "--fail-on", "plan"], "floors: --fail-on takes cannot, not \"plan\"\n"),
-        (&["plan", "-", "a.job"], "floors: - stands alone: one job on standard input\n"),
-        (&["explain", "13"], "floors: \"13\" is no number of the library's; those are 0 to 12\n"),
-        (&["explain", "x"], "floors: \"x\" is no number of the library's; those are 0 to 12\n"),
-        (&["explain", "1", "2"], "floors: `floors explain` takes one number\n"),
-        (&["plan", "a.job", "--dry"], "floors: there is no option \"--dry\" here\n"),
-    ];
-    for (words, err) in cases {
-        folder.floors(words).expect(2, "", err);
-    }
-    let none = "0 jobs: 0 plan, 0 cannot, 0 refused; sheets: 0 right, 0 missing, 0 wrong; 1 not read or not written\n";
-    let missing = "b.job: error: cannot be read: No such file or directory (os error 2)\n";
-    folder.floors(&["status", "b.job"]).expect(2, none, missing);
-    let no_job = "a.txt: error: is no folder, and its name does not end in .job\n";
-    folder.floors(&["status", "a.txt"]).expect(2, none, no_job);
-    assert_eq!(folder.files().len(), 2);
-}
-
-#[test]
-fn help_for_all_and_each() {
-    let folder = Folder::new();
-    let all = folder.floors(&["--help"]);
-    assert_eq!((all.status, all.err.as_str()), (0, ""));
-    for command in ["status", "plan", "check", "explain"] {
-        assert!(all.out.contains(&format!("floors {command} [")), "{command}");
-        let own = folder.floors(&[command, "--help"]);
-        assert!(own.status == 0 && own.out.starts_with(&format!("floors {command} [")), "{command}: {}", own.out);
-        folder.floors(&[command, "-h"]).expect(0, &own.out, "");
-    }
-    folder.floors(&["-h"]).expect(0, &all.out, "");
-    assert!(folder.floors(&["--version"]).out.starts_with("floors "));
-    for option in
-        ["--jobs", "--format", "--fail-on", "--quiet", "--help", "--version", "--again", "--force", "--dry-run"]
-    {
-        assert!(all.out.contains(option), "{option}");
-    }
 }

@@ -2,6 +2,7 @@
 
 #![allow(dead_code)] // No test uses all of it.
 
+pub mod mixed;
 pub mod nobody;
 
 use std::collections::BTreeMap;

@@ -2,10 +2,11 @@
 //!
 //! For every job of every family, by turns in one process and in processor time of the thread: the planner's call, the
 //! baseline's, the wiping of the store alone, the check of the planner's sheet, the max-flow libraries that are there, and
-//! with `--before OBJECT` both calls of a former library.
+//! with `--before OBJECT` both calls of a former library. With `--floors PROGRAM` also a collection planned by that program.
 
 mod before;
 mod clock;
+mod collection;
 mod counts;
 mod families;
 mod floors;
@@ -26,6 +27,9 @@ use report::Measured;
 
 const FULL: Effort = Effort { rounds: 40, peer_rounds: 4 };
 const QUICK: Effort = Effort { rounds: 3, peer_rounds: 0 };
+/// Jobs of the collection, and how often it is planned.
+const COLLECTION: (usize, usize) = (10_000, 3);
+const SMALL_COLLECTION: (usize, usize) = (500, 1);
 const SIDES: [usize; 5] = [4, 7, 10, 13, 16];
 
 /// What the tables mean.
@@ -37,6 +41,8 @@ const WORDS: &str = "\
   `lemon_static` is LEMON tuned by hand: a static graph, capacities that take no memory, only the cut where there is no plan.
 - before: a former library's calls, where `./bench --before ARCHIVE` names one.
 - Times are processor time of the thread, by turns in one process; the best of many runs counts.
+- floors: a collection (`harness/src/gen/collection.rs`) planned, checked and filed by one run of `floors plan`, beside both calls of the library and
+  the file system's own (write, flush, rename) for the same sheets, by as many threads. Time on the clock; the best of three runs each.
 - A node is a cell at a step. A visit puts a position on the search's stack; a look is at one of its neighbours. Place kept: the
   looks, if each position on the stack kept its place in the neighbour list.
 ";
@@ -65,7 +71,11 @@ fn main() {
     let open_grid = measured("open grid at the limits", &at_limits, &[]);
     let sizes: Vec<(Size, Measured)> = SIDES.into_iter().map(of_side).collect();
 
-    report::ratios(&families, &open_grid);
+    eprintln!("collection");
+    let (count, rounds) = if is_quick { SMALL_COLLECTION } else { COLLECTION };
+    let filed = after("--floors").map(|program| collection::measure(program, count, rounds));
+
+    report::ratios(&families, &open_grid, filed);
     let names: Vec<&str> = peers.iter().map(|p| p.name).collect();
     let missing: Vec<&str> = peers::NAMES.into_iter().filter(|name| !names.contains(name)).collect();
     println!("Peers: {}. Missing: {}.\n", listed(&names), listed(&missing));

@@ -1,5 +1,6 @@
 //! What is printed: the ratios that are asked for, then the families, then the growth.
 
+use crate::collection::Filed;
 use crate::families::Size;
 use crate::measure::Figures;
 use crate::table::{geometric_mean, least, median, most, Table};
@@ -52,7 +53,7 @@ fn visits(f: &Figures) -> f64 {
 }
 
 /// Each ratio beside what is asked of it. `open_grid` has the jobs at the limits.
-pub fn ratios(families: &[Measured], open_grid: &Measured) {
+pub fn ratios(families: &[Measured], open_grid: &Measured, filed: Option<Filed>) {
     let all = || families.iter().flat_map(|family| &family.jobs);
     let medians = |of: fn(&Figures) -> f64| families.iter().map(move |family| family.median(of));
     let mut table = Table::new(&["ratio", "asked", "measured"]);
@@ -69,6 +70,10 @@ pub fn ratios(families: &[Measured], open_grid: &Measured) {
     row("plan / plan before, geometric mean of the families", "", geometric_mean(medians(of_before)));
     row("plan / plan before, worst family", "", most(medians(of_before)));
     row("check / check before, geometric mean of the families", "", geometric_mean(medians(of_check_before)));
+    if let Some(Filed { jobs, one, all }) = filed {
+        row(&format!("floors / calls and files, {jobs} jobs, one thread"), "at most 2", one);
+        row(&format!("floors / calls and files, {jobs} jobs, all cores"), "at most 2", all);
+    }
     table.print();
 }
 

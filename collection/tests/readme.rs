@@ -1,0 +1,63 @@
+//! What the README shows of `floors`. Tabs are shown there as spaces.
+
+mod kit;
+
+use std::fs;
+
+use collection::help;
+use collection::words::NUMBERS;
+use kit::Folder;
+
+const ROOT: &str = concat!(env!("CARGO_MANIFEST_DIR"), "/..");
+
+fn readme() -> String {
+    fs::read_to_string(format!("{ROOT}/README.md")).expect("a README")
+}
+
+/// The indented lines behind the first line that has these words.
+fn shown_behind(words: &str) -> Vec<String> {
+    let readme = readme();
+    let behind = readme.lines().skip_while(|line| !line.contains(words)).skip(1);
+    let indented = behind.skip_while(|line| !line.starts_with("    ")).map_while(|line| line.strip_prefix("    "));
+    indented.map(str::to_string).collect()
+}
+
+#[test]
+fn the_plan_of_the_first_command() {
+    let shown = shown_behind("and plans a job of eight calls:");
+    let job = fs::read(format!("{ROOT}/examples/hall.job")).expect("an example");
+    let ran = Folder::new().floors_with(&["plan", "-"], &job);
+    assert_eq!((ran.status, ran.err.as_str()), (0, ""));
+    let written: Vec<String> = ran.out.lines().map(|line| line.replace('\t', " ")).collect();
+    assert_eq!(written.len(), 9);
+    assert_eq!(shown.len(), 4);
+    assert_eq!(shown[..3], written[..3]);
+}
+
+/// The commands are those of `floors --help`.
+#[test]
+fn the_commands() {
+    let shown = shown_behind("`floors` keeps the sheets of many jobs");
+    let helped: Vec<&str> = help::ALL.lines().filter_map(|line| line.strip_prefix("    floors ")).collect();
+    assert_eq!(shown.len(), 4);
+    for (shown, helped) in shown.iter().zip(helped) {
+        let (_, shown) = shown.split_once("./floors ").expect("a command");
+        assert!(helped.starts_with(shown), "{shown}; {helped}");
+    }
+}
+
+/// Faults are shown in the words of their numbers.
+#[test]
+fn the_faults() {
+    let shown = shown_behind("Without PATH it is the folder one is in.");
+    let mut faults = 0;
+    for pair in shown.windows(2) {
+        let Some((_, fault)) = pair[0].split_once(": error[") else { continue };
+        let (number, says) = fault.split_once("]: ").expect("a number");
+        let words = NUMBERS.iter().find(|words| words.number.to_string() == number).expect("a number of the library's");
+        assert!(says == words.says || words.of_lines.iter().any(|&(_, own)| own == says), "{says}");
+        assert_eq!(pair[1], format!("    to do: {}", words.advice));
+        faults += 1;
+    }
+    assert_eq!(faults, 2, "{shown:?}");
+}
