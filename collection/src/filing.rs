@@ -40,7 +40,8 @@ fn file_once(sheet: &Path, bytes: &[u8]) -> io::Result<()> {
 fn write_and_rename(mut file: &File, part: &Path, sheet: &Path, bytes: &[u8]) -> io::Result<()> {
     file.write_all(bytes)?;
     if let Ok(former) = fs::metadata(sheet) {
-        file.set_permissions(former.permissions())?;
+        // Some file systems have no permissions to set.
+        let _ = file.set_permissions(former.permissions());
     }
     file.sync_all()?;
     fs::rename(part, sheet)
@@ -70,21 +71,17 @@ pub fn is_part(name: &OsStr) -> bool {
     name.starts_with(BEGINS) && name.ends_with(ENDS)
 }
 
-/// Removes such a file if the process that wrote it has gone.
-pub fn remove_left_behind(part: &Path) -> io::Result<()> {
-    let removed = File::open(part).and_then(|file| match file.try_lock() {
-        Ok(()) => fs::remove_file(part),
-        Err(_) => Ok(()),
-    });
-    match removed {
-        Err(fault) if fault.kind() == ErrorKind::NotFound => Ok(()),
-        done => done,
-    }
+/// Removes such a file if the process that wrote it has gone. If that cannot be done the file is in nobody's way.
+pub fn remove_left_behind(part: &Path) {
+    let _ = File::open(part).map(|file| file.try_lock().is_ok() && fs::remove_file(part).is_ok());
 }
 
-/// Makes the names of a folder last, as `sync_all` makes the bytes of a file last.
+/// Makes the names of a folder last, as the bytes of its files do. Some file systems know of no such thing.
 pub fn flush_folder(folder: &Path) -> io::Result<()> {
-    File::open(folder)?.sync_all()
+    match File::open(folder)?.sync_all() {
+        Err(fault) if [ErrorKind::InvalidInput, ErrorKind::Unsupported].contains(&fault.kind()) => Ok(()),
+        flushed => flushed,
+    }
 }
 
 /// The folder that a file is in.

@@ -16,9 +16,9 @@ pub const TEXT_ENOUGH: u64 = cartfloor::TEXT_MAX as u64 + 1;
 /// is the line that they end in.
 const SHEET_ENOUGH: u64 = cartfloor::SHEET_MOST as u64 + 1;
 
-/// Which sheets to write.
+/// Which sheets are to be written.
 #[derive(Clone, Copy, PartialEq, Eq, PartialOrd, Ord, Debug)]
-pub enum Write {
+pub enum Which {
     None,
     Missing,
     /// Those that are wrong, too.
@@ -28,16 +28,22 @@ pub enum Write {
 
 #[derive(Clone, Copy, Debug)]
 pub struct Task {
-    pub write: Write,
+    pub which: Which,
+    /// They are only to be named.
     pub is_dry: bool,
 }
 
 impl Task {
+    /// Whether any sheet may be written.
+    pub fn writes(self) -> bool {
+        self.which != Which::None && !self.is_dry
+    }
+
     fn is_due(self, sheet: Sheet) -> bool {
         match sheet {
-            Sheet::Missing => self.write >= Write::Missing,
-            Sheet::Wrong(_) => self.write >= Write::Wrong,
-            Sheet::Right => self.write >= Write::All,
+            Sheet::Missing => self.which >= Which::Missing,
+            Sheet::Wrong(_) => self.which >= Which::Wrong,
+            Sheet::Right => self.which >= Which::All,
             Sheet::Unknown => false,
         }
     }

@@ -4,8 +4,9 @@ use std::env;
 use std::io::{self, Write};
 use std::process::ExitCode;
 
+use collection::console::complain;
 use collection::options::{command, Command};
-use collection::run::{complain, run, TROUBLES};
+use collection::run::{run, TROUBLES};
 use collection::words::NUMBERS;
 
 const VERSION: &str = concat!("floors ", env!("CARGO_PKG_VERSION_MAJOR"), ".", env!("CARGO_PKG_VERSION_MINOR"), "\n");

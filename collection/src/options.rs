@@ -6,7 +6,7 @@ use std::thread;
 
 use crate::finding::PIPED;
 use crate::help;
-use crate::look::{Task, Write};
+use crate::look::{Task, Which};
 use crate::report::Format;
 use crate::words;
 
@@ -49,9 +49,9 @@ pub fn command(words: impl IntoIterator<Item = OsString>) -> Result<Command, Str
     let mut words = words.into_iter();
     let Some(name) = words.next() else { return Err("which command? `floors --help` lists them".into()) };
     match name.to_str() {
-        Some("status") => run(words, help::STATUS, Shown::All, Write::None),
-        Some("plan") => run(words, help::PLAN, Shown::Changes, Write::Missing),
-        Some("check") => run(words, help::CHECK, Shown::Wrong, Write::None),
+        Some("status") => run(words, help::STATUS, Shown::All, Which::None),
+        Some("plan") => run(words, help::PLAN, Shown::Changes, Which::Missing),
+        Some("check") => run(words, help::CHECK, Shown::Wrong, Which::None),
         Some("explain") => explain(words),
         Some("help" | "-h" | "--help") => Ok(Command::Help(help::ALL)),
         Some("--version") => Ok(Command::Version),
@@ -81,11 +81,11 @@ fn run(
     words: impl Iterator<Item = OsString>,
     help: &'static str,
     shown: Shown,
-    write: Write,
+    which: Which,
 ) -> Result<Command, String> {
     let mut options = Options {
         paths: Vec::new(),
-        task: Task { write, is_dry: false },
+        task: Task { which, is_dry: false },
         threads: thread::available_parallelism().map_or(1, usize::from),
         format: Format::Tty,
         shown,
@@ -130,8 +130,8 @@ fn option(word: &OsStr, words: &mut impl Iterator<Item = OsString>, options: &mu
         "--fail-on" => options.fails_on_cannot = fails_on(&value()?)?,
         _ if joined.is_some() => return Err(unknown()),
         "-q" | "--quiet" => options.is_quiet = true,
-        "--again" if is_plan(options) => options.task.write = options.task.write.max(Write::Wrong),
-        "--force" if is_plan(options) => options.task.write = Write::All,
+        "--again" if is_plan(options) => options.task.which = options.task.which.max(Which::Wrong),
+        "--force" if is_plan(options) => options.task.which = Which::All,
         "--dry-run" if is_plan(options) => options.task.is_dry = true,
         _ => return Err(unknown()),
     }
@@ -150,7 +150,7 @@ fn parts(word: &str) -> (&str, Option<&str>) {
 }
 
 fn is_plan(options: &Options) -> bool {
-    options.task.write != Write::None
+    options.task.which != Which::None
 }
 
 fn threads(value: &str) -> Result<usize, String> {

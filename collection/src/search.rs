@@ -8,6 +8,7 @@ use std::path::{Path, PathBuf};
 
 use crate::filing::{folder_of, is_part, remove_left_behind};
 use crate::finding::Trouble;
+use crate::signals;
 
 /// Searches paths. Jobs come in the order of the paths, those of a folder in the order of their names; none comes twice.
 #[derive(Default)]
@@ -41,12 +42,17 @@ impl Search {
     }
 
     fn folder(&mut self, folder: &Path) {
+        if signals::interrupted() {
+            return;
+        }
         let (entries, faults) = entries_of(folder);
         let known = canonical(folder);
         for (name, kind) in entries {
             let path = if folder == Path::new(".") { PathBuf::from(&name) } else { folder.join(&name) };
-            if is_hidden(&name) {
-                self.tidy(&path, &name);
+            if self.is_tidying && is_part(&name) {
+                remove_left_behind(&path);
+            } else if is_hidden(&name) {
+                continue;
             } else if kind.is_dir() {
                 self.folder(&path);
             } else if is_job(&path) && !is_folder(&path, kind) {
@@ -62,14 +68,6 @@ impl Search {
         let name = path.file_name().unwrap_or_default().to_os_string();
         if self.seen.insert((folder.to_path_buf(), name)) {
             self.jobs.push(path);
-        }
-    }
-
-    fn tidy(&mut self, path: &Path, name: &OsStr) {
-        if self.is_tidying && is_part(name) {
-            if let Err(fault) = remove_left_behind(path) {
-                self.troubles.push(Trouble::written(path, &fault));
-            }
         }
     }
 }
