@@ -86,3 +86,44 @@ fn verdict(number: u8, line: u64) -> Verdict {
         _ => Verdict::Refused(Refusal { number, line }),
     }
 }
+
+#[cfg(test)]
+mod tests {
+    use super::*;
+
+    const NOISE: u8 = 1;
+
+    /// A job that needs as much store as any.
+    fn large() -> Vec<u8> {
+        let tracks = (0..512).map(|i| format!("TRACK\t{}\t{}\n", i % 256, (i % 256 + 1 + i / 256) % 256));
+        format!("FLOOR\t256\n{}CART\t0\nCALL\t0\t255\n", tracks.collect::<String>()).into_bytes()
+    }
+
+    /// What is lent is wiped: so what is left as it was has not been lent.
+    #[test]
+    fn a_small_job_behind_a_large_one_is_lent_little() {
+        let mut buffers = Buffers::default();
+        assert_eq!(buffers.plan(&large()).map(|planned| planned.0), Some(Verdict::Plan));
+        assert!(buffers.store.len() > 10_000_000);
+        buffers.store.fill(NOISE);
+        let small = b"FLOOR\t1\nCART\t0\nCALL\t0\t0\n";
+        assert_eq!(buffers.plan(small).map(|planned| planned.1), Some(&b"PLAN\t1\nPATH\t0\t0\t0\n"[..]));
+        assert_eq!(buffers.check(small, b"PLAN\t0\n"), Verdict::Refused(Refusal { number: 11, line: 1 }));
+        let (lent, rest) = buffers.store.split_at(FIRST);
+        assert!(lent.iter().all(|&byte| byte == 0) && rest.iter().all(|&byte| byte == NOISE));
+    }
+
+    /// The sheet buffer grows too: 64 paths of 256 cells with three digits pass 64 KiB.
+    #[test]
+    fn the_longest_sheets() {
+        let lines =
+            |word: &str, more: &str| -> String { (192..256).map(|cell| format!("{word}\t{cell}{more}\n")).collect() };
+        let job = format!("FLOOR\t256\n{}{}", lines("CART", ""), lines("CALL", "\t255")).into_bytes();
+        let mut buffers = Buffers::default();
+        let (verdict, sheet) = buffers.plan(&job).expect("a sheet that passes");
+        assert_eq!(verdict, Verdict::Plan);
+        assert!(sheet.len() > FIRST, "{} bytes", sheet.len());
+        let sheet = sheet.to_vec();
+        assert_eq!(buffers.check(&job, &sheet), Verdict::Plan);
+    }
+}
