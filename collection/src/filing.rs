@@ -6,45 +6,51 @@
 use std::ffi::OsStr;
 use std::fs::{self, File, OpenOptions};
 use std::io::{self, ErrorKind, Write};
+use std::os::unix::fs::{fchown, MetadataExt};
 use std::path::{Path, PathBuf};
 use std::process;
 use std::sync::atomic::{AtomicUsize, Ordering};
 
-const BEGINS: &[u8] = b".floors-";
-const ENDS: &[u8] = b".part";
+const BEGINS: &str = ".floors-";
+const ENDS: &str = ".part";
 
 /// Another run may take a file of ours for one left behind, in the moment before it is locked: then it is written again.
 const TRIES: usize = 5;
 
-/// Puts these bytes into the sheet's file, in place of what is there.
-pub fn file(sheet: &Path, bytes: &[u8]) -> io::Result<()> {
+/// Puts these bytes into the sheet's file, in place of what is there. Once all is written and before it is renamed it asks
+/// whether that is still wanted: the answer is whether it was.
+pub fn file(sheet: &Path, bytes: &[u8], is_wanted: impl Fn() -> bool) -> io::Result<bool> {
     let mut tries = 1;
     loop {
-        match file_once(sheet, bytes) {
+        match file_once(sheet, bytes, &is_wanted) {
             Err(fault) if fault.kind() == ErrorKind::NotFound && tries < TRIES => tries += 1,
             done => return done,
         }
     }
 }
 
-fn file_once(sheet: &Path, bytes: &[u8]) -> io::Result<()> {
+fn file_once(sheet: &Path, bytes: &[u8], is_wanted: impl Fn() -> bool) -> io::Result<bool> {
     let (part, file) = new_part(folder_of(sheet))?;
-    let filed = write_and_rename(&file, &part, sheet, bytes);
-    if filed.is_err() {
+    let written = write(&file, bytes, sheet);
+    let filed = match written {
+        Ok(()) if is_wanted() => fs::rename(&part, sheet).map(|()| true),
+        written => written.map(|()| false),
+    };
+    if !matches!(filed, Ok(true)) {
         // The first fault is the one to tell.
         let _ = fs::remove_file(&part);
     }
     filed
 }
 
-fn write_and_rename(mut file: &File, part: &Path, sheet: &Path, bytes: &[u8]) -> io::Result<()> {
+/// Owner and permissions are those of the former sheet, as far as this user may and the file system can.
+fn write(mut file: &File, bytes: &[u8], sheet: &Path) -> io::Result<()> {
     file.write_all(bytes)?;
     if let Ok(former) = fs::metadata(sheet) {
-        // Some file systems have no permissions to set.
+        let _ = fchown(file, Some(former.uid()), Some(former.gid()));
         let _ = file.set_permissions(former.permissions());
     }
-    file.sync_all()?;
-    fs::rename(part, sheet)
+    file.sync_all()
 }
 
 /// A new file in the folder, locked.
@@ -52,7 +58,7 @@ fn new_part(folder: &Path) -> io::Result<(PathBuf, File)> {
     static NEXT: AtomicUsize = AtomicUsize::new(0);
     loop {
         let number = NEXT.fetch_add(1, Ordering::Relaxed);
-        let part = folder.join(format!(".floors-{}-{number}.part", process::id()));
+        let part = folder.join(format!("{BEGINS}{}-{number}{ENDS}", process::id()));
         match OpenOptions::new().write(true).create_new(true).open(&part) {
             Err(fault) if fault.kind() == ErrorKind::AlreadyExists => continue,
             opened => {
@@ -67,8 +73,9 @@ fn new_part(folder: &Path) -> io::Result<(PathBuf, File)> {
 
 /// Whether a file of this name is one of those that are renamed.
 pub fn is_part(name: &OsStr) -> bool {
-    let name = name.as_encoded_bytes();
-    name.starts_with(BEGINS) && name.ends_with(ENDS)
+    let numbers = name.to_str().and_then(|name| name.strip_prefix(BEGINS)?.strip_suffix(ENDS)?.split_once('-'));
+    let is_number = |digits: &str| !digits.is_empty() && digits.bytes().all(|digit| digit.is_ascii_digit());
+    numbers.is_some_and(|(process, number)| is_number(process) && is_number(number))
 }
 
 /// Removes such a file if the process that wrote it has gone. If that cannot be done the file is in nobody's way.

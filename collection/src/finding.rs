@@ -59,7 +59,7 @@ pub struct Finding {
     pub job: PathBuf,
     /// `None` if the job could not be read.
     pub verdict: Option<Verdict>,
-    /// What the answer that counts means, and what to do about it.
+    /// What the answer means, and what to do about it.
     pub says: &'static str,
     pub advice: &'static str,
     pub sheet: Sheet,
@@ -80,22 +80,25 @@ impl Finding {
         }
     }
 
-    /// The answer that counts, and its line: the job's refusal, else the sheet's, else the verdict.
+    /// The library's answer that counts, and its line: to the job if it is refused, else to the sheet if there is one.
     pub fn answer(&self) -> Option<Refusal> {
-        let plain = |number| Refusal { number, line: 0 };
+        let passed = |number| Some(Refusal { number, line: 0 });
         match (self.verdict?, self.sheet_now()) {
             (Verdict::Refused(refusal), _) | (_, Sheet::Wrong(refusal)) => Some(refusal),
-            (Verdict::Plan, _) => Some(plain(PLAN)),
-            (Verdict::Cannot, _) => Some(plain(CANNOT)),
+            (Verdict::Plan, Sheet::Right) => passed(PLAN),
+            (Verdict::Cannot, Sheet::Right) => passed(CANNOT),
+            (_, Sheet::Missing | Sheet::Unknown) => None,
         }
     }
 
     /// Finds the words for it, in view of the job's text.
     pub fn tell(&mut self, job: &[u8]) {
-        let Some(answer) = self.answer() else { return };
-        (self.says, self.advice) = match self.sheet_now() {
-            Sheet::Missing => words::NO_SHEET,
-            _ => words::of(answer.number).map_or(("", ""), |words| (words.of_line(job, answer.line), words.advice)),
+        let words = self.answer().and_then(|answer| words::of(answer.number));
+        (self.says, self.advice) = match (self.verdict, words) {
+            (Some(Verdict::Refused(refusal)), Some(words)) => (words.of_line(job, refusal.line), words.advice),
+            (_, Some(words)) => (words.says, words.advice),
+            (_, None) if self.sheet_now() == Sheet::Missing => words::NO_SHEET,
+            (_, None) => ("", ""),
         };
     }
 

@@ -1,8 +1,9 @@
 //! Looking at one job and its sheet, and planning it.
 
-use std::fs::{self, File};
+use std::fs::OpenOptions;
 use std::io::{self, ErrorKind, Read};
-use std::path::Path;
+use std::os::unix::fs::OpenOptionsExt;
+use std::path::{Path, PathBuf};
 
 use crate::buffers::{Buffers, Verdict};
 use crate::filing;
@@ -15,6 +16,12 @@ pub const TEXT_ENOUGH: u64 = cartfloor::TEXT_MAX as u64 + 1;
 /// A byte more than any right sheet has. In a longer text the first bad line either begins and ends within these bytes, or
 /// is the line that they end in.
 const SHEET_ENOUGH: u64 = cartfloor::SHEET_MOST as u64 + 1;
+
+/// Somebody else may change a job or its sheet while it is planned: then it is looked at again.
+const TRIES: usize = 5;
+
+/// Opens a pipe without waiting for whoever writes to it.
+const NONBLOCK: i32 = 0o4000;
 
 /// Which sheets are to be written.
 #[derive(Clone, Copy, PartialEq, Eq, PartialOrd, Ord, Debug)]
@@ -49,31 +56,54 @@ impl Task {
     }
 }
 
-/// Looks at a job and its sheet, and files a sheet if one is due.
-pub fn look(path: &Path, task: Task, buffers: &mut Buffers) -> Finding {
-    let mut finding = Finding::of(path);
-    match text_of(path, TEXT_ENOUGH) {
-        Ok(job) => look_at(&job, task, buffers, &mut finding),
-        Err(fault) => finding.troubles.push(Trouble::read(path, &fault)),
-    }
-    finding
+/// A job and its sheet as they were read.
+struct Texts<'a> {
+    job_path: &'a Path,
+    job: Vec<u8>,
+    sheet_path: PathBuf,
+    sheet: Option<Vec<u8>>,
 }
 
-fn look_at(job: &[u8], task: Task, buffers: &mut Buffers, finding: &mut Finding) {
-    let path = sheet_of(&finding.job);
-    let former = text_of(&path, SHEET_ENOUGH);
-    match &former {
-        Ok(sheet) => check(job, sheet, buffers, finding),
-        Err(fault) if fault.kind() == ErrorKind::NotFound => finding.sheet = Sheet::Missing,
-        Err(fault) => finding.troubles.push(Trouble::read(&path, fault)),
+impl Texts<'_> {
+    /// Whether the files are still the same.
+    fn are_unchanged(&self) -> bool {
+        text_of(self.job_path, TEXT_ENOUGH).is_ok_and(|job| job == self.job)
+            && text_of(&self.sheet_path, SHEET_ENOUGH).ok() == self.sheet
     }
-    if finding.sheet != Sheet::Right || task.is_due(Sheet::Right) {
-        match buffers.plan(job) {
-            Some((verdict, sheet)) => file(verdict, sheet, &path, former.ok(), task, finding),
-            None => finding.troubles.push(planner_and_check_differ(&finding.job)),
+}
+
+/// Looks at a job and its sheet, and files a sheet if one is due.
+pub fn look(path: &Path, task: Task, buffers: &mut Buffers) -> Finding {
+    let again = (0..TRIES).find_map(|_| looked(path, task, buffers));
+    again.unwrap_or_else(|| Finding {
+        troubles: vec![Trouble::new(path, "was changed again and again while it was planned")],
+        ..Finding::of(path)
+    })
+}
+
+/// `None` if job or sheet were changed before a sheet could be filed: then that sheet is not the one that is due.
+fn looked(path: &Path, task: Task, buffers: &mut Buffers) -> Option<Finding> {
+    let mut finding = Finding::of(path);
+    let job = match text_of(path, TEXT_ENOUGH) {
+        Ok(job) => job,
+        Err(fault) => {
+            finding.troubles.push(Trouble::read(path, &fault));
+            return Some(finding);
         }
+    };
+    let sheet_path = sheet_of(path);
+    let sheet = text_of(&sheet_path, SHEET_ENOUGH);
+    match &sheet {
+        Ok(sheet) => check(&job, sheet, buffers, &mut finding),
+        Err(fault) if fault.kind() == ErrorKind::NotFound => finding.sheet = Sheet::Missing,
+        Err(fault) => finding.troubles.push(Trouble::read(&sheet_path, fault)),
     }
-    finding.tell(job);
+    let texts = Texts { job_path: path, job, sheet_path, sheet: sheet.ok() };
+    if finding.sheet != Sheet::Right || task.is_due(Sheet::Right) {
+        plan(&texts, task, buffers, &mut finding)?;
+    }
+    finding.tell(&texts.job);
+    Some(finding)
 }
 
 /// A sheet that passes tells the job's verdict; of one that does not, the planner has to say it.
@@ -90,25 +120,31 @@ fn check(job: &[u8], sheet: &[u8], buffers: &mut Buffers, finding: &mut Finding)
     }
 }
 
-fn file(verdict: Verdict, sheet: &[u8], path: &Path, former: Option<Vec<u8>>, task: Task, finding: &mut Finding) {
+fn plan(texts: &Texts, task: Task, buffers: &mut Buffers, finding: &mut Finding) -> Option<()> {
+    let Some((verdict, sheet)) = buffers.plan(&texts.job) else {
+        finding.troubles.push(planner_and_check_differ(&finding.job));
+        return Some(());
+    };
     finding.verdict = Some(verdict);
     if finding.is_refused() {
         finding.sheet = Sheet::Unknown;
-        return;
+    } else if task.is_due(finding.sheet) && texts.sheet.as_deref() != Some(sheet) {
+        finding.filing = match task.is_dry {
+            true => Filing::Due,
+            false => file(texts, sheet, finding)?,
+        };
     }
-    if !task.is_due(finding.sheet) || former.is_some_and(|former| former == sheet) {
-        return;
+    Some(())
+}
+
+fn file(texts: &Texts, sheet: &[u8], finding: &mut Finding) -> Option<Filing> {
+    match filing::file(&texts.sheet_path, sheet, || texts.are_unchanged()) {
+        Ok(is_filed) => is_filed.then_some(Filing::Filed),
+        Err(fault) => {
+            finding.troubles.push(Trouble::written(&texts.sheet_path, &fault));
+            Some(Filing::Failed)
+        }
     }
-    finding.filing = match task.is_dry {
-        true => Filing::Due,
-        false => match filing::file(path, sheet) {
-            Ok(()) => Filing::Filed,
-            Err(fault) => {
-                finding.troubles.push(Trouble::written(path, &fault));
-                Filing::Failed
-            }
-        },
-    };
 }
 
 /// It is proved that this does not happen; a broken machine could make it happen.
@@ -116,12 +152,14 @@ pub fn planner_and_check_differ(job: &Path) -> Trouble {
     Trouble::new(job, "the check turned the planner's sheet back; nothing was filed")
 }
 
-/// The bytes of a file, up to so many. Only of a file: a pipe could be waited for without end.
+/// The bytes of a file, up to so many. Only of a file: a pipe could be waited for without end, and its opening too.
 fn text_of(path: &Path, most: u64) -> io::Result<Vec<u8>> {
-    if !fs::metadata(path)?.is_file() {
+    let file = OpenOptions::new().read(true).custom_flags(NONBLOCK).open(path)?;
+    let data = file.metadata()?;
+    if !data.is_file() {
         return Err(io::Error::other("it is no file"));
     }
-    let mut text = Vec::new();
-    File::open(path)?.take(most).read_to_end(&mut text)?;
+    let mut text = Vec::with_capacity(data.len().min(most) as usize + 1);
+    file.take(most).read_to_end(&mut text)?;
     Ok(text)
 }

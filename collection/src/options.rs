@@ -49,20 +49,33 @@ pub fn command(words: impl IntoIterator<Item = OsString>) -> Result<Command, Str
     let mut words = words.into_iter();
     let Some(name) = words.next() else { return Err("which command? `floors --help` lists them".into()) };
     match name.to_str() {
-        Some("status") => run(words, help::STATUS, Shown::All, Which::None),
-        Some("plan") => run(words, help::PLAN, Shown::Changes, Which::Missing),
-        Some("check") => run(words, help::CHECK, Shown::Wrong, Which::None),
+        Some(name @ "status") => run(name, words, Shown::All, Which::None),
+        Some(name @ "plan") => run(name, words, Shown::Changes, Which::Missing),
+        Some(name @ "check") => run(name, words, Shown::Wrong, Which::None),
         Some("explain") => explain(words),
-        Some("help" | "-h" | "--help") => Ok(Command::Help(help::ALL)),
-        Some("--version") => Ok(Command::Version),
+        Some("help" | "-h" | "--help") => help_for(words),
+        Some("--version") if words.next().is_none() => Ok(Command::Version),
+        Some("--version") => Err("--version stands alone".into()),
         _ => Err(format!("there is no command {name:?}; `floors --help` lists them")),
+    }
+}
+
+/// Help for all commands, or for the one that is named.
+fn help_for(words: impl Iterator<Item = OsString>) -> Result<Command, String> {
+    match words.collect::<Vec<_>>().as_slice() {
+        [] => Ok(Command::Help(help::ALL)),
+        [name] => match name.to_str().and_then(help::of) {
+            Some(text) => Ok(Command::Help(text)),
+            None => Err(format!("there is no command {name:?}; `floors --help` lists them")),
+        },
+        _ => Err("help is for one command".into()),
     }
 }
 
 fn explain(words: impl Iterator<Item = OsString>) -> Result<Command, String> {
     let words: Vec<OsString> = words.collect();
     if words.iter().any(is_help) {
-        return Ok(Command::Help(help::EXPLAIN));
+        return help_for([OsString::from("explain")].into_iter());
     }
     let number = match words.as_slice() {
         [] => return Ok(Command::Explain(None)),
@@ -77,12 +90,7 @@ fn explain(words: impl Iterator<Item = OsString>) -> Result<Command, String> {
     }
 }
 
-fn run(
-    words: impl Iterator<Item = OsString>,
-    help: &'static str,
-    shown: Shown,
-    which: Which,
-) -> Result<Command, String> {
+fn run(name: &str, mut words: impl Iterator<Item = OsString>, shown: Shown, which: Which) -> Result<Command, String> {
     let mut options = Options {
         paths: Vec::new(),
         task: Task { which, is_dry: false },
@@ -92,16 +100,16 @@ fn run(
         is_quiet: false,
         fails_on_cannot: false,
     };
-    let mut words = words;
     while let Some(word) = words.next() {
         if is_help(&word) {
-            return Ok(Command::Help(help));
+            return help_for([OsString::from(name)].into_iter());
         } else if word == "--" {
             options.paths.extend(words.by_ref().map(PathBuf::from));
         } else if word == PIPED || !word.as_encoded_bytes().starts_with(b"-") {
             options.paths.push(PathBuf::from(word));
         } else {
-            option(&word, &mut words, &mut options)?;
+            let fault = |what| format!("{what}; `floors {name} --help` lists what there is");
+            option(&word, &mut words, &mut options).map_err(fault)?;
         }
     }
     if options.is_piped() && options.paths.len() > 1 {
@@ -118,11 +126,11 @@ fn is_help(word: &OsString) -> bool {
 }
 
 fn option(word: &OsStr, words: &mut impl Iterator<Item = OsString>, options: &mut Options) -> Result<(), String> {
-    let unknown = || format!("there is no option {word:?} here");
+    let unknown = || format!("there is no option {word:?}");
     let (name, joined) = parts(word.to_str().ok_or_else(unknown)?);
     let mut value = || {
         let value = joined.map(OsString::from).or_else(|| words.next());
-        value.and_then(|value| value.into_string().ok()).ok_or_else(|| format!("what for {name}?"))
+        value.and_then(|value| value.into_string().ok()).ok_or_else(|| format!("{name} takes a value"))
     };
     match name {
         "-j" | "--jobs" => options.threads = threads(&value()?)?,

@@ -50,13 +50,12 @@ impl Manner {
     }
 
     fn shows(self, finding: &Finding) -> bool {
-        let is_change = finding.filing != Filing::Left;
-        match self.shown {
-            _ if self.is_quiet => self.is_fault(finding),
+        let is_asked_for = match self.shown {
             Shown::All => true,
-            Shown::Changes => is_change || self.is_fault(finding),
-            Shown::Wrong => self.is_fault(finding),
-        }
+            Shown::Changes => finding.filing != Filing::Left,
+            Shown::Wrong => false,
+        };
+        is_asked_for && !self.is_quiet || self.is_fault(finding) || !finding.troubles.is_empty()
     }
 }
 

@@ -30,6 +30,7 @@ pub fn status(has_faults: bool, has_troubles: bool) -> u8 {
 }
 
 pub fn run(options: &Options) -> u8 {
+    signals::let_long_files_fail();
     match options.is_piped() {
         true => piped(options),
         false => all(options),
@@ -38,7 +39,6 @@ pub fn run(options: &Options) -> u8 {
 
 fn all(options: &Options) -> u8 {
     signals::note_interrupts();
-    signals::let_long_files_fail();
     let mut search = Search::new(options.task.writes());
     for path in &options.paths {
         search.path(path);
@@ -98,7 +98,7 @@ impl Run {
     }
 
     fn trouble(&mut self, trouble: &Trouble) {
-        self.summary.troubles += 1;
+        self.summary.count("troubles", 1);
         tell(trouble);
     }
 
@@ -107,7 +107,7 @@ impl Run {
         self.progress.hide();
         for folder in mem::take(&mut self.filed_in) {
             if let Err(fault) = flush_folder(&folder) {
-                self.trouble(&Trouble::written(&folder, &fault));
+                self.trouble(&Trouble::new(&folder, format_args!("cannot be flushed to disk: {fault}")));
             }
         }
         if let Some(line) = self.report.finish(&self.summary) {
@@ -117,6 +117,6 @@ impl Run {
             complain(format_args!("floors: interrupted after {} of {} jobs", self.progress.done, self.progress.all));
         }
         let is_written = self.report.failed.is_none_or(|fault| output_failed(&fault));
-        status(self.has_faults, self.summary.troubles > 0 || !is_written)
+        status(self.has_faults, self.summary.of("troubles") > 0 || !is_written)
     }
 }

@@ -4,6 +4,7 @@ use std::collections::HashSet;
 use std::ffi::{OsStr, OsString};
 use std::fs::{self, DirEntry, FileType};
 use std::io;
+use std::os::unix::fs::MetadataExt;
 use std::path::{Path, PathBuf};
 
 use crate::filing::{folder_of, is_part, remove_left_behind};
@@ -29,10 +30,11 @@ impl Search {
     /// A job file or a folder.
     pub fn path(&mut self, path: &Path) {
         match fs::metadata(path) {
-            Ok(data) if data.is_dir() => self.folder(path),
-            Ok(_) if !is_job(path) => {
-                self.troubles.push(Trouble::new(path, "is no folder, and its name does not end in .job"))
+            Ok(data) if data.is_dir() && data.nlink() == 0 => {
+                self.troubles.push(Trouble::new(path, "has been removed"))
             }
+            Ok(data) if data.is_dir() => self.folder(path),
+            Ok(_) if !is_job(path) => self.troubles.push(Trouble::new(path, "is neither a folder nor called NAME.job")),
             Ok(_) => {
                 let folder = canonical(folder_of(path));
                 self.job(&folder, path.to_path_buf());
@@ -49,13 +51,13 @@ impl Search {
         let known = canonical(folder);
         for (name, kind) in entries {
             let path = if folder == Path::new(".") { PathBuf::from(&name) } else { folder.join(&name) };
-            if self.is_tidying && is_part(&name) {
+            if self.is_tidying && kind.is_file() && is_part(&name) {
                 remove_left_behind(&path);
             } else if is_hidden(&name) {
                 continue;
             } else if kind.is_dir() {
                 self.folder(&path);
-            } else if is_job(&path) && !is_folder(&path, kind) {
+            } else if is_job(&path) && !leads_to_folder(&path, kind) {
                 self.job(&known, path);
             }
         }
@@ -101,7 +103,7 @@ fn is_hidden(name: &OsStr) -> bool {
 }
 
 /// Whether a link leads to a folder. Links to folders are not followed: they could lead round in a ring.
-fn is_folder(path: &Path, kind: FileType) -> bool {
+fn leads_to_folder(path: &Path, kind: FileType) -> bool {
     kind.is_symlink() && fs::metadata(path).is_ok_and(|data| data.is_dir())
 }
 

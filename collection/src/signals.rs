@@ -1,5 +1,6 @@
 //! Interrupts end a run between two jobs, and a limit on the size of files is a fault like any other.
 
+use std::process;
 use std::sync::atomic::{AtomicI32, Ordering};
 
 const HUP: i32 = 1;
@@ -47,11 +48,13 @@ pub fn interrupted() -> bool {
     CAME.load(Ordering::Relaxed) != 0
 }
 
-/// Ends as the interrupt would have ended it, so that whoever started the process sees that.
+/// Ends as the interrupt would have ended it, so that whoever started the process sees that. The first process of a
+/// container is not ended so: for it the exit status that a shell would give.
 pub fn end_if_interrupted() {
     let number = CAME.load(Ordering::Relaxed);
     if number != 0 {
         // Safety: the handler is the default one again, which ends the process.
         unsafe { raise(number) };
+        process::exit(128 + number);
     }
 }

@@ -111,6 +111,10 @@ fn only_force_replaces_a_right_sheet() {
     let filed = format!("x.sheet: filed PLAN\n{summary}; 1 filed\n");
     folder.floors(&["plan", "--force"]).expect(0, &filed, "");
     assert_eq!(folder.get("x.sheet"), planned);
+    for words in [["plan", "--force", "--again"], ["plan", "--again", "--force"]] {
+        folder.put("x.sheet", other);
+        folder.floors(&words).expect(0, &filed, "");
+    }
     // The same bytes once more: nothing to be filed.
     let inode = || fs::metadata(folder.path("x.sheet")).expect("a sheet").ino();
     let before = inode();
@@ -164,4 +168,17 @@ fn one_job_on_standard_input() {
     folder.floors_with(&["plan", "--dry-run", "-"], &tabs(A.job)).expect(1, "", "-: would be filed: PLAN\n");
     folder.floors_with(&["status", "-q", "-"], &tabs(A.job)).expect(1, "-: error: no sheet; the answer is PLAN\n", "");
     assert!(folder.files().is_empty());
+}
+
+/// Hidden names are left out of a search, and not where they are named.
+#[test]
+fn a_hidden_job_that_is_named() {
+    let folder = Folder::new();
+    folder.put(".a.job", tabs(A.job));
+    folder.put(".git/b.job", tabs(B.job));
+    folder.floors(&["plan", "-q"]).expect(0, "", "");
+    assert_eq!(folder.files().len(), 2);
+    let summary = "2 jobs: 1 plan, 1 cannot, 0 refused; sheets: 2 right, 0 missing, 0 wrong; 2 filed\n";
+    let filed = format!(".a.sheet: filed PLAN\n.git/b.sheet: filed CANNOT\n{summary}");
+    folder.floors(&["plan", ".a.job", ".git"]).expect(0, &filed, "");
 }

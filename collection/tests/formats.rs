@@ -27,7 +27,7 @@ fn a_table_with_tabs() {
     let wrong: String = later.split_inclusive('\n').filter(|row| !row.contains("\tright\t")).collect();
     folder.floors(&["status", "--format=tsv", "-q"]).expect(1, &wrong, "");
     folder.put("h.job", tabs(G.job));
-    let missing = "path\tjob\tsheet\tfiling\tnumber\tline\twords\nh.job\tcannot\tmissing\tdue\t1\t0\tno sheet\n";
+    let missing = "path\tjob\tsheet\tfiling\tnumber\tline\twords\nh.job\tcannot\tmissing\tdue\t\t\tno sheet\n";
     folder.floors(&["plan", "--dry-run", "--format=tsv", "-q", "h.job"]).expect(1, missing, "");
 }
 
@@ -38,7 +38,7 @@ fn json() {
     folder.put("r.job", tabs("FLOOR 1\nCART 1\n"));
     let shown = "{\"jobs\": [\n  \
         {\"path\": \"a \\\"b\\\"\\u000a.job\", \"job\": \"plan\", \"sheet\": \"missing\", \"filing\": \"left\", \
-        \"number\": 0, \"line\": 0, \"words\": \"no sheet\", \"to_do\": \"floors plan writes it\"},\n  \
+        \"words\": \"no sheet\", \"to_do\": \"floors plan writes it\"},\n  \
         {\"path\": \"r.job\", \"job\": \"refused\", \"sheet\": \"unknown\", \"filing\": \"left\", \
         \"number\": 5, \"line\": 2, \"words\": \"a cart on a cell that the floor has not\", \
         \"to_do\": \"mend that line: 1 to 256 cells, cells below their number, deadlines to 255\"}\n], \

@@ -111,6 +111,21 @@ fn unheard() -> Stdio {
     writer.into()
 }
 
+/// Both outputs in one file: what is said first stands first.
+#[test]
+fn in_one_file() {
+    let folder = Folder::new();
+    folder.put("a.job", tabs(A.job));
+    folder.put("a.sheet", tabs(A.sheet));
+    folder.put("b.job/c.job", tabs(D.job));
+    folder.put("b.job/c.sheet/x", "");
+    let mut shell = Command::new("sh");
+    shell.args(["-c", "exec \"$0\" status 2>&1"]).arg(env!("CARGO_BIN_EXE_floors")).current_dir(&folder.0);
+    let lines = "a.sheet: right PLAN\nb.job/c.sheet: error: cannot be read: it is no file\n\
+        2 jobs: 2 plan, 0 cannot, 0 refused; sheets: 1 right, 0 missing, 0 wrong; 1 not read or not written\n";
+    ran(shell, b"").expect(2, lines, "");
+}
+
 #[test]
 fn outputs_that_take_nothing() {
     let folder = Folder::new();

@@ -11,7 +11,7 @@ use std::process::Command;
 
 use harness::examples::{A, B, C, D, F, G};
 use kit::nobody::Theirs;
-use kit::{tabs, Folder};
+use kit::{ran, tabs, Folder};
 
 const DENIED: &str = "Permission denied (os error 13)";
 
@@ -63,6 +63,9 @@ fn folders_that_cannot_be_written_to() {
         format!("1/a.sheet: error: cannot be written: {DENIED}\n2/f.sheet: error: cannot be written: {DENIED}\n");
     theirs.floors(&["plan", "--again", "-q"]).expect(2, shown, &named);
     theirs.floors(&["check", "-q"]).expect(1, shown, "");
+    let table = "path\tjob\tsheet\tfiling\tnumber\tline\twords\n1/a.job\tplan\tmissing\tfailed\t\t\tno sheet\n";
+    let first = named.split_inclusive('\n').next().expect("a line");
+    theirs.floors(&["plan", "-q", "--format=tsv", "1"]).expect(2, table, first);
     assert_eq!(folder.get("2/f.sheet"), tabs("PLAN 0\n"));
     assert_eq!(folder.get("3/g.sheet"), tabs(G.sheet));
     assert_eq!(folder.files().len(), 5);
@@ -140,11 +143,35 @@ fn odd_names() {
     assert_eq!(table.out.lines().count(), 9);
     assert!(table.out.lines().all(|line| line.split('\t').count() == 7), "{}", table.out);
     let json = folder.floors(&["status", "--format", "json"]).out;
+    let parsed = paths_of(&json);
+    let named = names.map(|name| String::from_utf8_lossy(name).into_owned());
+    assert_eq!(parsed, named.join("\0") + "\0");
     assert!(
         json.contains("\"path\": \"no utf \u{fffd}\u{fffd}.job\", \"path_hex\": \"6e6f2075746620fffe2e6a6f62\""),
         "{json}"
     );
     assert!(json.contains("\"path\": \"bell\\u0007.job\""), "{json}");
+}
+
+/// The names in a report, as a reader of JSON sees them, each with a zero behind it.
+fn paths_of(json: &str) -> String {
+    let read = "import json,sys; [sys.stdout.write(job['path'] + chr(0)) for job in json.load(sys.stdin)['jobs']]";
+    let mut python = Command::new("python3");
+    python.args(["-c", read]).env("PYTHONIOENCODING", "utf-8");
+    let ended = ran(python, json.as_bytes());
+    assert_eq!((ended.status, ended.err.as_str()), (0, ""));
+    ended.out
+}
+
+/// A folder that is removed while one is in it is named; its jobs are no longer there to be found.
+#[test]
+fn a_folder_that_has_been_removed() {
+    let folder = Folder::new();
+    folder.put("here/a.job", tabs(A.job));
+    let mut shell = Command::new("sh");
+    shell.args(["-c", "rm -r ../here; exec \"$0\" status -q"]).arg(env!("CARGO_BIN_EXE_floors"));
+    shell.current_dir(folder.path("here"));
+    ran(shell, b"").expect(2, "", ".: error: has been removed\n");
 }
 
 /// The sheet's name is longer than the job's, and too long where the job's is at the limit of 255 bytes.

@@ -13,6 +13,7 @@ use std::time::Duration;
 use harness::child::{finish, piped, Ended};
 use kit::{is_right, Folder};
 
+const HUP: i32 = 1;
 const INT: i32 = 2;
 const TERM: i32 = 15;
 
@@ -51,15 +52,14 @@ fn plan(folder: &Folder) -> Command {
 #[test]
 fn killed_at_many_moments() {
     let (folder, entries) = Folder::with_jobs(200, 2);
-    let (mut halfway, mut left_behind) = (0, 0);
+    let mut halfway = 0;
     for moment in 0..60 {
         let mut child = plan(&folder).spawn().expect("the program");
         thread::sleep(Duration::from_millis(moment));
         let _ = child.kill();
         child.wait().expect("an end");
-        let (sheets, parts) = assert_no_half_sheet(&folder.files());
+        let (sheets, _) = assert_no_half_sheet(&folder.files());
         halfway += usize::from(sheets > 0 && sheets < entries.len());
-        left_behind += parts;
         if moment % 3 == 0 {
             folder.floors(&["plan", "-q"]).expect(0, "", "");
             assert_eq!(assert_no_half_sheet(&folder.files()), (entries.len(), 0), "after {moment} ms");
@@ -68,13 +68,13 @@ fn killed_at_many_moments() {
             let _ = fs::remove_file(folder.path(&kit::sheet_name(&entry.name)));
         }
     }
-    assert!(halfway > 0 && left_behind > 0, "{halfway} runs came halfway, {left_behind} files were left behind");
+    assert!(halfway > 0, "no run came halfway");
 }
 
 /// An interrupt ends the run behind the jobs that are begun, and leaves nothing behind.
 #[test]
 fn interrupted() {
-    for signal in [INT, TERM] {
+    for signal in [HUP, INT, TERM] {
         let (folder, entries) = Folder::with_jobs(3000, 3);
         let child = piped(plan(&folder)).spawn().expect("the program");
         while !folder.path("0010/0.sheet").exists() {
@@ -88,6 +88,36 @@ fn interrupted() {
         assert!(sheets < entries.len());
         let named = format!("floors: interrupted after {sheets} of {} jobs\n", entries.len());
         assert_eq!(String::from_utf8_lossy(&err), named);
+    }
+}
+
+/// As `nohup` starts a program.
+#[test]
+fn a_hang_up_that_is_ignored() {
+    let (folder, entries) = Folder::with_jobs(1000, 7);
+    let mut shell = Command::new("sh");
+    shell.args(["-c", "trap '' HUP; exec \"$0\" plan -q"]).arg(env!("CARGO_BIN_EXE_floors")).current_dir(&folder.0);
+    let child = piped(shell).spawn().expect("the program");
+    while !folder.path("0010/0.sheet").exists() {
+        thread::sleep(Duration::from_millis(1));
+    }
+    send(&child, HUP);
+    let Ended { status, .. } = finish(child, Vec::new()).expect("an end");
+    assert_eq!((status.code(), assert_no_half_sheet(&folder.files())), (Some(0), (entries.len(), 0)));
+}
+
+/// As many threads as are asked for, and one that reports.
+#[test]
+fn threads() {
+    let (folder, _) = Folder::with_jobs(1000, 8);
+    for (words, threads) in [(["-j", "1"], 2), (["-j", "5"], 6)] {
+        let mut child = piped(plan(&folder)).args(words).arg("--force").spawn().expect("the program");
+        let tasks = format!("/proc/{}/task", child.id());
+        let mut most = 0;
+        while child.try_wait().expect("a child to wait for").is_none() {
+            most = most.max(fs::read_dir(&tasks).map_or(0, Iterator::count));
+        }
+        assert_eq!((finish(child, Vec::new()).expect("an end").status.code(), most), (Some(0), threads));
     }
 }
 

@@ -78,6 +78,7 @@ fn colour() {
         on_terminal(command, true, false).0
     };
     assert_eq!(without("NO_COLOR", "1"), plain);
+    assert_eq!(without("NO_COLOR", ""), coloured);
     assert_eq!(without("TERM", "dumb"), plain);
     for format in ["tsv", "json"] {
         let (shown, _) = on_terminal(floors(&folder, &["status", "--format", format]), true, false);
@@ -92,6 +93,14 @@ fn progress() {
     let last = format!(" of {} jobs\r\x1b[K", entries.len());
     assert!(shown.contains(&last) && shown.ends_with("\r\x1b[K"), "{shown}");
     assert!(out.ends_with("; 1500 filed\n") && !out.contains('\x1b'));
+    // Both outputs on one terminal: what is shown of the progress goes before each line.
+    let (both, _) = on_terminal(floors(&folder, &["plan", "-j1", "--force"]), true, true);
+    let shown = both.matches(&last).count();
+    assert_eq!(both.matches(" of 1500 jobs").count(), shown);
+    assert!(
+        both.lines().all(|line| !line.rsplit("\x1b[K").next().unwrap_or_default().contains(" of 1500 jobs")),
+        "{both}"
+    );
     let (quiet, out) = on_terminal(floors(&folder, &["plan", "--force", "-q"]), false, true);
     assert_eq!((quiet.as_str(), out.as_str()), ("", ""));
     let ran = folder.floors(&["status", "-j1"]);

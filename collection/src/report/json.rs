@@ -14,22 +14,17 @@ pub fn row(finding: &Finding, is_first: bool) -> String {
     let path = path(&finding.job);
     let mut text = format!("{comma}\n  {{{path}, \"job\": \"{job}\", \"sheet\": \"{sheet}\", \"filing\": \"{filing}\"");
     if let Some(answer) = finding.answer() {
-        let (number, line) = (answer.number, answer.line);
-        let (says, advice) = (string(finding.says), string(finding.advice));
-        push(
-            &mut text,
-            format_args!(", \"number\": {number}, \"line\": {line}, \"words\": {says}, \"to_do\": {advice}"),
-        );
+        push(&mut text, format_args!(", \"number\": {}, \"line\": {}", answer.number, answer.line));
     }
-    text.push('}');
+    push(&mut text, format_args!(", \"words\": {}, \"to_do\": {}}}", string(finding.says), string(finding.advice)));
     text
 }
 
 pub fn tail(summary: &Summary) -> String {
     let mut text = String::from("\n], \"summary\": {");
-    for (i, (name, count)) in summary.counts().iter().enumerate() {
+    for (i, name) in Summary::NAMES.into_iter().enumerate() {
         let comma = if i == 0 { "" } else { ", " };
-        push(&mut text, format_args!("{comma}\"{name}\": {count}"));
+        push(&mut text, format_args!("{comma}\"{name}\": {}", summary.of(name)));
     }
     text.push_str("}}\n");
     text

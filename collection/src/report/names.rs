@@ -5,6 +5,9 @@ use std::path::Path;
 
 /// The name with its control characters, backslashes and bytes that are no UTF-8 written out.
 pub fn shown_name(path: &Path) -> String {
+    if path.as_os_str().is_empty() {
+        return "''".to_string();
+    }
     let mut text = String::new();
     for chunk in path.as_os_str().as_encoded_bytes().utf8_chunks() {
         for c in chunk.valid().chars() {

@@ -1,74 +1,49 @@
 //! How many of each.
 
+use std::collections::BTreeMap;
 use std::fmt;
 
-use crate::buffers::Verdict;
-use crate::finding::{Filing, Finding, Sheet};
+use super::states;
+use crate::finding::Finding;
 
+/// Counts by their names: jobs, troubles (files and folders that could not be read or written), and the states of jobs,
+/// sheets and filings.
 #[derive(Default)]
-pub struct Summary {
-    jobs: usize,
-    plan: usize,
-    cannot: usize,
-    refused: usize,
-    right: usize,
-    missing: usize,
-    wrong: usize,
-    filed: usize,
-    due: usize,
-    /// Files and folders that could not be read or written.
-    pub troubles: usize,
-}
+pub struct Summary(BTreeMap<&'static str, usize>);
 
 impl Summary {
+    /// Those that programs are told.
+    pub const NAMES: [&str; 10] =
+        ["jobs", "plan", "cannot", "refused", "right", "missing", "wrong", "filed", "due", "troubles"];
+
     pub fn add(&mut self, finding: &Finding) {
-        self.jobs += 1;
-        self.troubles += finding.troubles.len();
-        match finding.verdict {
-            Some(Verdict::Plan) => self.plan += 1,
-            Some(Verdict::Cannot) => self.cannot += 1,
-            Some(Verdict::Refused(_)) => self.refused += 1,
-            None => {}
-        }
-        match finding.sheet_now() {
-            Sheet::Right => self.right += 1,
-            Sheet::Missing => self.missing += 1,
-            Sheet::Wrong(_) => self.wrong += 1,
-            Sheet::Unknown => {}
-        }
-        match finding.filing {
-            Filing::Filed => self.filed += 1,
-            Filing::Due => self.due += 1,
-            Filing::Left | Filing::Failed => {}
+        self.count("jobs", 1);
+        self.count("troubles", finding.troubles.len());
+        for state in states(finding) {
+            self.count(state, 1);
         }
     }
 
-    /// Each count with its name.
-    pub fn counts(&self) -> [(&'static str, usize); 10] {
-        [
-            ("jobs", self.jobs),
-            ("plan", self.plan),
-            ("cannot", self.cannot),
-            ("refused", self.refused),
-            ("right", self.right),
-            ("missing", self.missing),
-            ("wrong", self.wrong),
-            ("filed", self.filed),
-            ("due", self.due),
-            ("troubles", self.troubles),
-        ]
+    pub fn count(&mut self, name: &'static str, more: usize) {
+        *self.0.entry(name).or_default() += more;
+    }
+
+    pub fn of(&self, name: &str) -> usize {
+        self.0.get(name).copied().unwrap_or(0)
     }
 }
 
 impl fmt::Display for Summary {
     fn fmt(&self, f: &mut fmt::Formatter) -> fmt::Result {
-        let Summary { jobs, plan, cannot, refused, right, missing, wrong, filed, due, troubles } = self;
-        let s = if *jobs == 1 { "" } else { "s" };
-        write!(f, "{jobs} job{s}: {plan} plan, {cannot} cannot, {refused} refused; ")?;
+        let jobs = self.of("jobs");
+        let [plan, cannot, refused] = ["plan", "cannot", "refused"].map(|name| self.of(name));
+        let [right, missing, wrong] = ["right", "missing", "wrong"].map(|name| self.of(name));
+        write!(f, "{jobs} job{}: {plan} plan, {cannot} cannot, {refused} refused; ", if jobs == 1 { "" } else { "s" })?;
         write!(f, "sheets: {right} right, {missing} missing, {wrong} wrong")?;
-        for (count, what) in [(filed, "filed"), (due, "to be filed"), (troubles, "not read or not written")] {
-            if *count > 0 {
-                write!(f, "; {count} {what}")?;
+        for (name, words) in [("filed", "filed"), ("due", "to be filed"), ("troubles", "not read or not written")] {
+            let count = self.of(name);
+            if count > 0 {
+                write!(f, "; {count} {words}")?;
             }
         }
         Ok(())

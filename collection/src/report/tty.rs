@@ -39,12 +39,14 @@ fn answer(finding: &Finding, manner: Manner) -> String {
 fn error(path: &Path, finding: &Finding, manner: Manner) -> String {
     let place = shown_name(path);
     let what = match finding.answer() {
-        Some(found) if finding.sheet_now() != Sheet::Missing => {
+        Some(found) => {
             let line = if found.line == 0 { String::new() } else { format!(":{}", found.line) };
             let error = paint(RED, &format!("error[{}]", found.number), manner);
             format!("{line}: {error}: {}", finding.says)
         }
-        _ => format!(": {}: {}; the answer is {}", paint(RED, "error", manner), finding.says, answer(finding, manner)),
+        None => {
+            format!(": {}: {}; the answer is {}", paint(RED, "error", manner), finding.says, answer(finding, manner))
+        }
     };
     match manner.is_quiet {
         true => format!("{place}{what}\n"),

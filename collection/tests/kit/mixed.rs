@@ -20,7 +20,9 @@ pub fn mixed() -> Folder {
     folder.put("r.job", tabs("FLOOR 2\nCART 0\nCART 0\n"));
     folder.put("r.sheet", tabs("PLAN 0\n"));
     folder.put("u.job", tabs("FLOOR 1\nCART 0\n"));
-    folder.put("notes.txt", "no job");
+    for name in ["notes.txt", "xjob", "x.jobs", "x.JOB", "x.job~"] {
+        folder.put(name, "no job");
+    }
     folder.put(".hidden.job", "no job");
     folder.put(".git/x.job", "no job");
     folder

@@ -4,6 +4,7 @@
 
 pub mod mixed;
 pub mod nobody;
+pub mod shim;
 
 use std::collections::BTreeMap;
 use std::fs;

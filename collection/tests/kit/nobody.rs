@@ -3,7 +3,7 @@
 use std::fs::{self, Permissions};
 use std::os::unix::fs::{chown, PermissionsExt};
 use std::os::unix::process::CommandExt;
-use std::path::Path;
+use std::path::{Path, PathBuf};
 use std::process::Command;
 
 use super::{ran, Folder, Ran};
@@ -29,7 +29,9 @@ impl Theirs {
     pub fn new() -> Theirs {
         let place = std::env::temp_dir();
         let (folder, program) = (Folder::within(&place), Folder::within(&place));
-        fs::copy(env!("CARGO_BIN_EXE_floors"), program.path("floors")).expect("a copy");
+        // By another process: a file that this one writes cannot be run while any child begun meanwhile has it open.
+        let copied = Command::new("cp").arg(env!("CARGO_BIN_EXE_floors")).arg(&program.0).status();
+        assert!(copied.is_ok_and(|copied| copied.success()));
         set_mode(&program.0, 0o755);
         Theirs { folder, program }
     }
@@ -44,13 +46,22 @@ impl Theirs {
 
     /// Runs the program as nobody, to whom everything in the folder belongs.
     pub fn floors(&self, words: &[&str]) -> Ran {
-        let mut command = Command::new(self.program.path("floors"));
-        command.current_dir(&self.folder.0).args(words);
+        let mut command = self.as_them(Command::new(self.program()));
+        command.args(words);
+        ran(command, b"")
+    }
+
+    pub fn program(&self) -> PathBuf {
+        self.program.path("floors")
+    }
+
+    pub fn as_them(&self, mut command: Command) -> Command {
+        command.current_dir(&self.folder.0);
         if is_root() {
             give(&self.folder.0);
             command.uid(NOBODY).gid(NOBODY);
         }
-        ran(command, b"")
+        command
     }
 }
 
