@@ -120,6 +120,7 @@ fn check(job: &[u8], sheet: &[u8], buffers: &mut Buffers, finding: &mut Finding)
     }
 }
 
+/// The planner's verdict, and its sheet filed if one is due. `None` as above.
 fn plan(texts: &Texts, task: Task, buffers: &mut Buffers, finding: &mut Finding) -> Option<()> {
     let Some((verdict, sheet)) = buffers.plan(&texts.job) else {
         finding.troubles.push(planner_and_check_differ(&finding.job));
