@@ -3,8 +3,11 @@
 
 mod kit;
 
-use std::fs::{self, File};
+use std::ffi::OsStr;
+use std::fs::{self, File, TryLockError};
+use std::os::unix::ffi::OsStrExt;
 use std::os::unix::fs::{symlink, MetadataExt};
+use std::path::PathBuf;
 use std::process::Command;
 use std::thread;
 use std::time::Duration;
@@ -107,6 +110,35 @@ fn files_left_behind() {
     assert!(!folder.path(alive).exists());
 }
 
+/// A file that is being written is locked, so that no other run takes it for one left behind.
+#[test]
+fn a_file_being_written_is_locked() {
+    let folder = Folder::new();
+    folder.put("a.job", tabs(A.job));
+    let child = piped(command(&folder, &["plan", "-q"], &[("SLOW", "1000")])).spawn().expect("the program");
+    let part = part_in(&folder);
+    // The flush comes after the lock, and takes a second.
+    thread::sleep(Duration::from_millis(300));
+    let file = File::open(&part).expect("a file that is being written");
+    assert!(matches!(file.try_lock(), Err(TryLockError::WouldBlock)));
+    folder.floors(&["plan", "-q", "--dry-run"]);
+    folder.floors(&["status", "-q"]);
+    assert!(part.exists());
+    assert_eq!(finish(child, Vec::new()).expect("an end").status.code(), Some(0));
+    assert_eq!(folder.get("a.sheet"), tabs(A.sheet));
+}
+
+/// Waits until there is a file to be renamed.
+fn part_in(folder: &Folder) -> PathBuf {
+    loop {
+        let files = folder.files();
+        if let Some(name) = files.keys().find(|name| name.ends_with(b".part")) {
+            return folder.0.join(OsStr::from_bytes(name));
+        }
+        thread::sleep(Duration::from_millis(1));
+    }
+}
+
 /// While a sheet is flushed somebody files another one, or changes the job.
 #[test]
 fn changed_meanwhile() {
@@ -117,10 +149,7 @@ fn changed_meanwhile() {
     let other = right.iter().find(|sheet| **sheet != planned).expect("two sheets that differ");
     let meanwhile = |words: &[&str], name: &str, bytes: &[u8]| {
         let child = piped(command(&folder, words, &[("SLOW", "600")])).spawn().expect("the program");
-        // It is flushing as soon as there is a file to be renamed.
-        while !folder.files().keys().any(|name| name.ends_with(b".part")) {
-            thread::sleep(Duration::from_millis(1));
-        }
+        part_in(&folder);
         folder.put(name, bytes);
         let ended = finish(child, Vec::new()).expect("an end");
         (ended.status.code(), String::from_utf8(ended.out).expect("text"))

@@ -2,9 +2,10 @@
 //! its work. Where nothing is to be built, none of them says or builds anything.
 
 use std::fs;
+use std::os::unix::fs::symlink;
 use std::process::{Child, Command};
 
-use harness::child::{finish, piped, Ended};
+use harness::child::{finish, output, piped, Ended};
 use harness::examples::{tabs, A};
 
 const ROOT: &str = concat!(env!("CARGO_MANIFEST_DIR"), "/..");
@@ -49,4 +50,30 @@ fn floorplan() {
 #[test]
 fn floors() {
     many_at_once("floors", &["plan", "-"], "collection/target/release/floors.begun", "building floors");
+}
+
+/// Called by a link from another folder, and with a `CDPATH`, which changes what `cd` does and prints.
+#[test]
+fn from_elsewhere() {
+    let folder = format!("{}/a folder {}", env!("CARGO_TARGET_TMPDIR"), std::process::id());
+    fs::create_dir_all(&folder).expect("a folder");
+    for (script, words) in [("floorplan", &[][..]), ("floors", &["plan", "-"])] {
+        let link = format!("{folder}/{script}");
+        let _ = fs::remove_file(&link);
+        symlink(format!("{ROOT}/{script}"), &link).expect("a link");
+        let mut command = Command::new(&link);
+        command.args(words).current_dir("/").env("CDPATH", ROOT);
+        let sheet = output(command, tabs(A.job));
+        assert_eq!(sheet, tabs(A.sheet), "{script}");
+    }
+    fs::remove_dir_all(&folder).expect("a folder of ours");
+}
+
+#[test]
+fn floorplan_takes_no_words() {
+    let mut command = Command::new(format!("{ROOT}/floorplan"));
+    command.arg("--help");
+    let Ended { status, out, err } = finish(piped(command).spawn().expect("the script"), Vec::new()).expect("an end");
+    assert_eq!((status.code(), out.len()), (Some(2), 0));
+    assert!(err.starts_with(b"usage: ./floorplan < JOB"));
 }
