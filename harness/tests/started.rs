@@ -4,9 +4,17 @@
 use std::fs;
 use std::os::unix::fs::symlink;
 use std::process::{Child, Command};
+use std::sync::{Mutex, MutexGuard, PoisonError};
 
 use harness::child::{finish, output, piped, Ended};
 use harness::examples::{tabs, A};
+
+/// One test at a time: what one has built another would have to build no more.
+static TURN: Mutex<()> = Mutex::new(());
+
+fn my_turn() -> MutexGuard<'static, ()> {
+    TURN.lock().unwrap_or_else(PoisonError::into_inner)
+}
 
 const ROOT: &str = concat!(env!("CARGO_MANIFEST_DIR"), "/..");
 
@@ -29,6 +37,7 @@ fn start(times: usize, script: &str, words: &[&str]) -> Vec<String> {
 
 /// `begun` is the file that says when the building began.
 fn many_at_once(script: &str, words: &[&str], begun: &str, builds: &str) {
+    let _turn = my_turn();
     start(1, script, words);
     fs::remove_file(format!("{ROOT}/{begun}")).expect("a file that says when the building began");
     let said = start(8, script, words);
@@ -55,6 +64,7 @@ fn floors() {
 /// Called by a link from another folder, and with a `CDPATH`, which changes what `cd` does and prints.
 #[test]
 fn from_elsewhere() {
+    let _turn = my_turn();
     let folder = format!("{}/a folder {}", env!("CARGO_TARGET_TMPDIR"), std::process::id());
     fs::create_dir_all(&folder).expect("a folder");
     for (script, words) in [("floorplan", &[][..]), ("floors", &["plan", "-"])] {
