@@ -115,9 +115,9 @@ fn files_left_behind() {
 fn a_file_being_written_is_locked() {
     let folder = Folder::new();
     folder.put("a.job", tabs(A.job));
-    let child = piped(command(&folder, &["plan", "-q"], &[("SLOW", "1000")])).spawn().expect("the program");
+    let child = piped(command(&folder, &["plan", "-q"], &[("SLOW", "3000")])).spawn().expect("the program");
     let part = part_in(&folder);
-    // The flush comes after the lock, and takes a second.
+    // The flush comes after the lock, and takes three seconds.
     thread::sleep(Duration::from_millis(300));
     let file = File::open(&part).expect("a file that is being written");
     assert!(matches!(file.try_lock(), Err(TryLockError::WouldBlock)));
@@ -148,7 +148,7 @@ fn changed_meanwhile() {
     let right = ["PLAN 1\nPATH 0 0 0 0 0\n", "PLAN 1\nPATH 0 0 0 1 0\n"].map(tabs);
     let other = right.iter().find(|sheet| **sheet != planned).expect("two sheets that differ");
     let meanwhile = |words: &[&str], name: &str, bytes: &[u8]| {
-        let child = piped(command(&folder, words, &[("SLOW", "600")])).spawn().expect("the program");
+        let child = piped(command(&folder, words, &[("SLOW", "1500")])).spawn().expect("the program");
         part_in(&folder);
         folder.put(name, bytes);
         let ended = finish(child, Vec::new()).expect("an end");
