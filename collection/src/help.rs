@@ -48,7 +48,8 @@ the planner says what the job's answer is. Nothing is written.
     031/3.job: error: no sheet; the answer is CANNOT
         to do: floors plan writes it
 
-With - for PATH a job is read from standard input; it has no sheet.
+With - for PATH a job is read from standard input; it has no sheet. A sheet that is found in a folder without a job beside
+it is named on standard error: nobody can say whether it is right.
 
 --format tsv has a line for each job that is shown, and a first line with the names of its fields: path, job (plan, cannot,
 refused, unknown), sheet (right, wrong, missing, unknown), filing (filed, due, failed, left), number, line, words. Number

@@ -12,7 +12,7 @@ use crate::finding::{Filing, Finding, Trouble};
 use crate::options::Options;
 use crate::piped::piped;
 use crate::progress::Progress;
-use crate::report::{Manner, Report, Summary};
+use crate::report::{shown_name, Manner, Report, Summary};
 use crate::search::Search;
 use crate::signals;
 
@@ -46,6 +46,9 @@ fn all(options: &Options) -> u8 {
     let mut run = Run::new(options, search.jobs.len());
     for trouble in &search.troubles {
         run.trouble(trouble);
+    }
+    for stray in search.strays.iter().filter(|_| !options.is_quiet) {
+        complain(format_args!("{}: warning: no job beside it", shown_name(stray)));
     }
     look_at_all(&search.jobs, options.task, options.threads, |finding| run.finding(&finding));
     let status = run.end();

@@ -15,6 +15,8 @@ use crate::signals;
 #[derive(Default)]
 pub struct Search {
     pub jobs: Vec<PathBuf>,
+    /// Sheets without a job beside them, of which nobody can say whether they are right.
+    pub strays: Vec<PathBuf>,
     /// What kept the search from finding more.
     pub troubles: Vec<Trouble>,
     /// Whether to take away what killed runs have left behind.
@@ -49,6 +51,7 @@ impl Search {
         }
         let (entries, faults) = entries_of(folder);
         let known = canonical(folder);
+        let names: HashSet<OsString> = entries.iter().map(|(name, _)| name.clone()).collect();
         for (name, kind) in entries {
             let path = if folder == Path::new(".") { PathBuf::from(&name) } else { folder.join(&name) };
             if self.is_tidying && kind.is_file() && is_part(&name) {
@@ -59,6 +62,8 @@ impl Search {
                 self.folder(&path);
             } else if is_job(&path) && !leads_to_folder(&path, kind) {
                 self.job(&known, path);
+            } else if is_stray(&path, &names) {
+                self.strays.push(path);
             }
         }
         for fault in faults {
@@ -95,7 +100,17 @@ fn entries_of(folder: &Path) -> (Vec<(OsString, FileType)>, Vec<io::Error>) {
 }
 
 fn is_job(path: &Path) -> bool {
-    path.extension().is_some_and(|ending| ending == "job")
+    has_ending(path, "job")
+}
+
+/// Whether it is a sheet whose job is not among these names.
+fn is_stray(path: &Path, names: &HashSet<OsString>) -> bool {
+    let job = path.with_extension("job");
+    has_ending(path, "sheet") && job.file_name().is_some_and(|job| !names.contains(job))
+}
+
+fn has_ending(path: &Path, ending: &str) -> bool {
+    path.extension().is_some_and(|found| found == ending)
 }
 
 fn is_hidden(name: &OsStr) -> bool {

@@ -170,6 +170,23 @@ fn one_job_on_standard_input() {
     assert!(folder.files().is_empty());
 }
 
+/// A sheet without its job cannot be checked: it is named, and left alone.
+#[test]
+fn a_sheet_without_its_job() {
+    let folder = Folder::new();
+    folder.put("1/a.job", tabs(A.job));
+    folder.put("1/a.sheet", tabs(A.sheet));
+    folder.put("1/b.sheet", tabs(B.sheet));
+    folder.put("2/.c.sheet", tabs(C.sheet));
+    let summary = "1 job: 1 plan, 0 cannot, 0 refused; sheets: 1 right, 0 missing, 0 wrong\n";
+    for command in ["check", "plan"] {
+        folder.floors(&[command]).expect(0, summary, "1/b.sheet: warning: no job beside it\n");
+        folder.floors(&[command, "-q"]).expect(0, "", "");
+    }
+    folder.floors(&["check", "1/a.job"]).expect(0, summary, "");
+    assert_eq!(folder.files().len(), 4);
+}
+
 /// Hidden names are left out of a search, and not where they are named.
 #[test]
 fn a_hidden_job_that_is_named() {

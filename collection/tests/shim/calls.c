@@ -37,31 +37,20 @@ static int fails(const char *call)
     return 1;
 }
 
-static int opened(const char *path, int flags, mode_t mode)
+int open64(const char *path, int flags, ...)
 {
     int (*real)(const char *, int, ...) = dlsym(RTLD_NEXT, "open64");
-    if (flags & O_CREAT)
-        note("create", path);
+    if (!(flags & O_CREAT))
+        return real(path, flags);
+    va_list more;
+    va_start(more, flags);
+    mode_t mode = va_arg(more, mode_t);
+    va_end(more);
+    note("create", path);
     return real(path, flags, mode);
 }
 
-int open64(const char *path, int flags, ...)
-{
-    va_list more;
-    va_start(more, flags);
-    mode_t mode = flags & O_CREAT ? va_arg(more, mode_t) : 0;
-    va_end(more);
-    return opened(path, flags, mode);
-}
-
-int open(const char *path, int flags, ...)
-{
-    va_list more;
-    va_start(more, flags);
-    mode_t mode = flags & O_CREAT ? va_arg(more, mode_t) : 0;
-    va_end(more);
-    return opened(path, flags, mode);
-}
+int open(const char *path, int flags, ...) __attribute__((alias("open64")));
 
 int fsync(int file)
 {
