@@ -1,5 +1,5 @@
-/* A controller in small: plans the job on standard input, has the sheet checked, and prints it.
- * It ends with 0 if the check agrees with the planner, or if the job is refused and nothing was written. */
+/* A controller in small: plans the job on standard input, has the sheet checked, and prints it if the check passes it.
+ * It ends with 0 if the sheet was printed, or if the job is refused and that was. */
 #include "cartfloor.h"
 
 #include <stdio.h>
@@ -38,9 +38,8 @@ int main(void)
     } else {
         size_t written = (size_t)CARTFLOOR_VALUE(r);
         uint64_t checked = cartfloor_check(job, job_len, store, store_len, sheet, written);
-        if (checked != CARTFLOOR_ANSWER(r))
+        if (checked != CARTFLOOR_ANSWER(r) || fwrite(sheet, 1, written, stdout) != written)
             status = 1;
-        fwrite(sheet, 1, written, stdout);
     }
     free(store);
     free(sheet);

@@ -12,12 +12,11 @@ pub fn complain(what: impl Display) {
     let _ = writeln!(io::stderr(), "{what}");
 }
 
-/// Whoever has closed the pipe knows; anybody else is told. No output was written, in any case.
-pub fn output_failed(fault: &io::Error) -> bool {
+/// Whoever has closed a pipe knows that it takes nothing more; of any other fault of standard output people are told.
+pub fn tell_of_output(fault: &io::Error) {
     if fault.kind() != ErrorKind::BrokenPipe {
         complain(format_args!("floors: standard output cannot be written: {fault}"));
     }
-    false
 }
 
 pub fn tell(trouble: &Trouble) {

@@ -4,7 +4,7 @@ use std::io::{self, IsTerminal, Read, Write};
 use std::path::Path;
 
 use crate::buffers::Buffers;
-use crate::console::{output_failed, takes_colour, tell};
+use crate::console::{takes_colour, tell, tell_of_output};
 use crate::finding::{Filing, Finding, Sheet, Trouble, PIPED};
 use crate::look::{planner_and_check_differ, Task, Which, TEXT_ENOUGH};
 use crate::options::Options;
@@ -53,6 +53,9 @@ fn written(sheet: &[u8]) -> bool {
     let mut out = io::stdout().lock();
     match out.write_all(sheet).and_then(|()| out.flush()) {
         Ok(()) => true,
-        Err(fault) => output_failed(&fault),
+        Err(fault) => {
+            tell_of_output(&fault);
+            false
+        }
     }
 }

@@ -5,7 +5,7 @@ use std::io::{self, BufWriter, IsTerminal, Write};
 use std::mem;
 use std::path::PathBuf;
 
-use crate::console::{complain, output_failed, takes_colour, tell};
+use crate::console::{complain, takes_colour, tell, tell_of_output};
 use crate::crew::look_at_all;
 use crate::filing::{flush_folder, folder_of};
 use crate::finding::{Filing, Finding, Trouble};
@@ -119,7 +119,9 @@ impl Run {
         if signals::interrupted() {
             complain(format_args!("floors: interrupted after {} of {} jobs", self.progress.done, self.progress.all));
         }
-        let is_written = self.report.failed.is_none_or(|fault| output_failed(&fault));
-        status(self.has_faults, self.summary.of("troubles") > 0 || !is_written)
+        if let Some(fault) = &self.report.failed {
+            tell_of_output(fault);
+        }
+        status(self.has_faults, self.summary.of("troubles") > 0 || self.report.failed.is_some())
     }
 }

@@ -6,7 +6,7 @@ use std::fs;
 
 use collection::help;
 use collection::words::NUMBERS;
-use kit::Folder;
+use kit::{is_right, Folder};
 
 const ROOT: &str = concat!(env!("CARGO_MANIFEST_DIR"), "/..");
 
@@ -28,6 +28,7 @@ fn the_plan_of_the_first_command() {
     let job = fs::read(format!("{ROOT}/examples/hall.job")).expect("an example");
     let ran = Folder::new().floors_with(&["plan", "-"], &job);
     assert_eq!((ran.status, ran.err.as_str()), (0, ""));
+    assert!(is_right(&job, ran.out.as_bytes()));
     let written: Vec<String> = ran.out.lines().map(|line| line.replace('\t', " ")).collect();
     assert_eq!(written.len(), 9);
     assert_eq!(shown.len(), 4);

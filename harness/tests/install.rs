@@ -201,6 +201,16 @@ fn a_prefix_that_the_description_cannot_name() {
     }
 }
 
+/// Where one is does not matter, if the prefix is named from the root.
+#[test]
+fn from_a_folder_that_the_description_could_not_name() {
+    let here = fs::canonicalize(folder("with a #")).expect("a folder");
+    let prefix = fs::canonicalize(folder("named from the root")).expect("a folder");
+    assert_installs(&here, prefix.to_str().expect("a name in UTF-8"));
+    assert_eq!(files(&prefix), expected(&prefix));
+    assert_refused(&here, ".");
+}
+
 fn assert_refused(from: &Path, prefix: &str) {
     let before = files(from);
     let Ended { status, out, err } = install(from, &[prefix]);

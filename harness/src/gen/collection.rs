@@ -14,7 +14,7 @@ pub struct Entry {
     pub job: Job,
 }
 
-/// So many jobs, in the order of their names. About every fourth has no plan.
+/// So many jobs, in the order of their names. About one in seven has no plan.
 pub fn collection(count: usize, seed: u64) -> Vec<Entry> {
     let mut rng = Rng::new(seed);
     let mut entries = Vec::with_capacity(count);
