@@ -8,14 +8,15 @@ use lib.Seq.{length-take-le, getD-take, set-getD, getD-set-same, getD-set-other}
 use borrow.Rule.Slice.PartMut.{mid-len}
 use Rattle.model.specs.Limits.{maxCells, maxCalls, maxSteps}
 use Rattle.model.specs.Lists.{In, NoDup, Rising}
-use Rattle.model.specs.Job.{Job, call, callOf}
+use Rattle.model.specs.Job.{Job, lift, call, callOf}
 use Rattle.model.specs.Choke.{point}
 use Rattle.model.specs.Plan.{Path, Before}
 use Rattle.model.specs.Contracts.{RightPlan}
 use Rattle.model.proofs.Decide.{dec-lt}
 use Rattle.model.proofs.Lists.{in-getD, rising-of}
 use Rattle.job.specs.Held.{Room, pathAt, pathsTo}
-use Rattle.job.proofs.Rows.{withRow, room-more, path-kept, path-new, paths-length, path-at, paths-in}
+use Rattle.job.proofs.Rows.{withRow, room-more, path-kept, path-new}
+use Rattle.job.proofs.UpTo.{up-count, up-at, in-up}
 use Rattle.flow.specs.Flow.{end}
 use Rattle.network.specs.declared.planes.Grid.{Grid}
 use Rattle.network.specs.Links.{backLink, onLink}
@@ -23,7 +24,7 @@ use Rattle.network.specs.Traced.{Traced}
 use Rattle.network.proofs.Plans as plans
 use Rattle.network.proofs.Plans.{starts-on-cart, flow-plan}
 use Rattle.network.proofs.Points.{point-cell, point-step}
-use Rattle.network.proofs.ChokeLifts.{nodeOf}
+use Rattle.network.proofs.ChokeTargets.{nodeOf}
 use Rattle.network.proofs.Calm.{stood-flow, stood-calm, stood-ends}
 use Rattle.answer.specs.Full.{FullFlow}
 use Rattle.answer.specs.Trail.{backFrom, HasCart, Trail}
@@ -44,7 +45,7 @@ pub row-long : {first order lasts rows : List ℕ} {i : ℕ} → Room first orde
     → length (take (i * maxSteps + maxSteps - i * maxSteps) (drop (i * maxSteps) rows)) ≡ maxSteps
 row-long {i = i} r few = mid-len (i * maxSteps) (i * maxSteps + maxSteps) _ (omega (arith, r .cells)) ∙ omega arith
 
-module _ {j : Job} {lifts deadlines : List ℕ} {calls : ℕ} {cartOn order : List ℕ} {grid : Grid} {s : List ℕ} (g : FullFlow j lifts deadlines calls cartOn order grid s) where
+module _ {j : Job} {targets deadlines : List ℕ} {calls : ℕ} {cartOn order : List ℕ} {grid : Grid} {s : List ℕ} (g : FullFlow j targets deadlines calls cartOn order grid s) where
   abbrev q : ℕ → ℕ
   q i = getD order i 0
 
@@ -57,19 +58,19 @@ module _ {j : Job} {lifts deadlines : List ℕ} {calls : ℕ} {cartOn order : Li
   pub few : calls ≤ maxCalls
   few = omega (arith, g .listed .counted, g .holds .ready .fit .few-calls)
 
-  -- The next call. The code has its number, lift cell and deadline in locals.
-  module _ {i : ℕ} (more : i < calls) {u p d : ℕ} (number : u ≡ getD order i 0) (lift : p ≡ getD lifts u 0) (deadline : d ≡ getD deadlines u 0) where
+  -- The next call. The code has its number, cell and deadline in locals.
+  module _ {i : ℕ} (more : i < calls) {u p d : ℕ} (number : u ≡ getD order i 0) (target : p ≡ getD targets u 0) (deadline : d ≡ getD deadlines u 0) where
     here : point p d ≡ nodeOf (callOf j (q i))
-    here = node-read (g .listed) (call-known more) number lift deadline
+    here = node-read (g .listed) (call-known more) number target deadline
 
     served : onLink j s (point p d) ≡ end
-    served = ap (onLink j s) here ∙ g .full (callOf j (q i)) (in-getD (j .calls) (q i) (call 0 0) (is-call more))
+    served = ap (onLink j s) here ∙ g .full (callOf j (q i)) (in-getD (j .calls) (q i) (call lift 0 0) (is-call more))
 
     pub can-follow : HasCart j s (point p d)
-    can-follow = plans.lifts (stood-flow (g .holds .flow)) (point p d) (stood-ends (g .holds .flow) (point p d) served)
+    can-follow = plans.targets (stood-flow (g .holds .flow)) (point p d) (stood-ends (g .holds .flow) (point p d) served)
 
     by-last : d < maxSteps
-    by-last = omega (arith, ap (λ x. x .step) here, g .holds .ready .fit .known-calls (callOf j (q i)) (in-getD (j .calls) (q i) (call 0 0) (is-call more)) .1)
+    by-last = omega (arith, ap (λ x. x .step) here, g .holds .ready .fit .known-calls (callOf j (q i)) (in-getD (j .calls) (q i) (call lift 0 0) (is-call more)) .1)
 
     module _ {row row₀ : List ℕ} {r : ℕ} (tr : Trail j s (point p d) row₀ row r) where
       on-cart : In r (j .carts)
@@ -126,7 +127,7 @@ module _ {j : Job} {lifts deadlines : List ℕ} {calls : ℕ} {cartOn order : Li
     pub right-plan : {m : ℕ} → m ≡ calls → PathsTraced j order s first lasts rows m → RightPlan j (pathsTo first order lasts rows (length (j .calls)))
     right-plan {m} e w = (
       flow-plan j (g .holds .ready) (stood-flow (g .holds .flow)) (stood-calm (backLink j s)) (λ q h. stood-ends (g .holds .flow) (nodeOf q) (g .full q h)) ps
-          (paths-length first order lasts rows all) own (λ p i. traced p (paths-in first order lasts rows all p i)),
+          (up-count (pathAt first order lasts rows) all) own (λ p i. traced p (in-up (pathAt first order lasts rows) all p .0 i)),
       rises,
     )
       where
@@ -141,8 +142,8 @@ module _ {j : Job} {lifts deadlines : List ℕ} {calls : ℕ} {cartOn order : Li
 
         rises : Rising (Before j) ps
         rises = rising-of none (Before j) ps (λ k l.
-            let b : suc k < all = omega (arith, paths-length first order lasts rows all) in
-            rw (path-at first order lasts rows all k none (omega arith), path-at first order lasts rows all (suc k) none b) (g .ordered .rises k b))
+            let b : suc k < all = omega (arith, up-count (pathAt first order lasts rows) all) in
+            rw (up-at (pathAt first order lasts rows) all k none (omega arith), up-at (pathAt first order lasts rows) all (suc k) none b) (g .ordered .rises k b))
 
         own : NoDup (map (λ p. p .call) ps)
         own = rising-once (λ p. p .call) (Before j) (λ x y z. precedes-on j (x .call) (y .call) (z .call)) (λ x y. precedes-apart j (x .call) (y .call)) ps rises

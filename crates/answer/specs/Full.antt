@@ -13,8 +13,8 @@ use Rattle.network.specs.Links.{onLink}
 use Rattle.network.specs.Holds.{Holds}
 
 -- The arrays, the table of carts and the order are the job's. The store holds a flow of it in which every call is served.
-pub record FullFlow (j : Job) (lifts deadlines : List ℕ) (calls : ℕ) (cartOn order : List ℕ) (grid : Grid) (s : List ℕ) : Type 0 where
-  pub listed : Calls j lifts deadlines calls
+pub record FullFlow (j : Job) (targets deadlines : List ℕ) (calls : ℕ) (cartOn order : List ℕ) (grid : Grid) (s : List ℕ) : Type 0 where
+  pub listed : Calls j targets deadlines calls
   pub carts : CartOn j cartOn
   pub ordered : Order j order
   pub holds : Holds j grid s

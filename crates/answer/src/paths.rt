@@ -60,7 +60,7 @@ fn follow(store: &[u8], grid: Grid, row: &mut [u8], node: Node) -> usize
 
 // The carts' numbers go into first, the last steps into lasts, the cells of the i-th path into row i. The calls' numbers stand in second, in their order.
 pub fn write_paths<'a>(
-    lifts: &'a [u8; Limits::CALLS],
+    targets: &'a [u8; Limits::CALLS],
     deadlines: &'a [u8; Limits::CALLS],
     calls: usize,
     cart_on: &[u8],
@@ -71,13 +71,13 @@ pub fn write_paths<'a>(
     lasts: &mut [u8],
     rows: &mut [u8],
 )
-    requires { ⌜ ((j : model.Job) × FullFlow j (now lifts) (now deadlines) calls (now «cart_on») (now second) grid (now store)) × Room (now first) (now second) (now lasts) (now rows) ⌝ }
-    ensures { λ _. ⌜ Room (now (first .exit)) (now (second .entry)) (now (lasts .exit)) (now (rows .exit)) × ((j : model.Job) → FullFlow j (now (lifts .entry)) (now (deadlines .entry)) calls (now («cart_on» .entry)) (now (second .entry)) grid (now (store .entry)) → RightPlan j (pathsTo (now (first .exit)) (now (second .entry)) (now (lasts .exit)) (now (rows .exit)) (length (j .calls)))) ⌝ }
+    requires { ⌜ ((j : model.Job) × FullFlow j (now targets) (now deadlines) calls (now «cart_on») (now second) grid (now store)) × Room (now first) (now second) (now lasts) (now rows) ⌝ }
+    ensures { λ _. ⌜ Room (now (first .exit)) (now (second .entry)) (now (lasts .exit)) (now (rows .exit)) × ((j : model.Job) → FullFlow j (now (targets .entry)) (now (deadlines .entry)) calls (now («cart_on» .entry)) (now (second .entry)) grid (now (store .entry)) → RightPlan j (pathsTo (now (first .exit)) (now (second .entry)) (now (lasts .exit)) (now (rows .exit)) (length (j .calls)))) ⌝ }
 {
     let mut i = 0;
     while i < calls {
         let q = wide(second[i]);
-        let cell = wide(lifts[q]);
+        let cell = wide(targets[q]);
         let step = wide(deadlines[q]);
         let a = i * Limits::STEPS;
         let e = a + Limits::STEPS;

@@ -60,9 +60,9 @@ module _ (s : Job) (w : Whole s) (ready : Ready (jobOf s)) {near begin : List �
         back ((u, f, p), q) is = ((u, is u f, r .all u v (known t u (is u f)) (arc-even (jobOf s) u v p)), λ o. q (choked (suc t) v .1 o))
 
     -- a call that is reached refutes the list
-    pub chokes-wrong : SomeCallIn (s .lifts) (s .deadlines) (s .calls) InLayer → RightChokes (jobOf s) (pointsOf cells steps n) → ⊥
+    pub chokes-wrong : SomeCallIn (s .targets) (s .deadlines) (s .calls) InLayer → RightChokes (jobOf s) (pointsOf cells steps n) → ⊥
     chokes-wrong (k, b, p) o =
-        let q : Call = call (getD (s .lifts) k 0) (getD (s .deadlines) k 0) in
+        let q : Call = call (getD (s .targets) k 0) (getD (s .deadlines) k 0) in
         chokes (jobOf s) (pointsOf cells steps n) .1 (o .0 .chokes) q (in-calls s w q .1 (k, b, refl)) (free (q .deadline) (q .cell) .0 p)
 
     module _ (all : (x : Point) → In x (pointsOf cells steps n) → knownPoint (jobOf s) x ≡ true) where
@@ -77,7 +77,7 @@ module _ (s : Job) (w : Whole s) (ready : Ready (jobOf s)) {near begin : List �
       points-known k b = seen (point (getD cells k 0) (getD steps k 0)) (in-pairs point cells steps n h g (point (getD cells k 0) (getD steps k 0)) .1 (k, b, refl)) .0
 
       -- a list that no call refutes is right
-      pub chokes-right : (SomeCallIn (s .lifts) (s .deadlines) (s .calls) InLayer → ⊥) → n < s .calls → ChokesInOrder (pointsOf cells steps n) → RightChokes (jobOf s) (pointsOf cells steps n)
+      pub chokes-right : (SomeCallIn (s .targets) (s .deadlines) (s .calls) InLayer → ⊥) → n < s .calls → ChokesInOrder (pointsOf cells steps n) → RightChokes (jobOf s) (pointsOf cells steps n)
       chokes-right out few order =
           (record { known = seen; few = omega (arith, few, pairs-count point cells steps n h g, calls-count s w); chokes = chokes (jobOf s) (pointsOf cells steps n) .0 none }, order)
         where

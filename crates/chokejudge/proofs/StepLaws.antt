@@ -32,7 +32,7 @@ module _ (near begin starts : List ℕ) (carts : ℕ) (cells steps : List ℕ) (
 
 -- No call with a deadline before t is in its layer.
 abbrev pub Unmet : (ℕ → ℕ → Type 0) → List ℕ → List ℕ → ℕ → ℕ → Type 0
-Unmet L lifts deadlines calls t = (k : ℕ) → k < calls → getD deadlines k 0 < t → L (getD deadlines k 0) (getD lifts k 0) → ⊥
+Unmet L targets deadlines calls t = (k : ℕ) → k < calls → getD deadlines k 0 < t → L (getD deadlines k 0) (getD targets k 0) → ⊥
 
 -- What taking out the choke points of step t gives.
 abbrev pub Gone : List ℕ → List ℕ → ℕ → ℕ → ℕ → List ℕ → List ℕ → ℕ → Type 0
@@ -88,15 +88,15 @@ module _ {near begin starts : List ℕ} {carts : ℕ} {cells steps : List ℕ} {
           at = points-of steps n t opens (h .from) cells end (h .to)
 
     -- The calls of the step.
-    module _ (lifts deadlines : List ℕ) (calls : ℕ) where
+    module _ (targets deadlines : List ℕ) (calls : ℕ) where
       abbrev pub Now : Type 0
-      Now = Some calls (λ k. (getD deadlines k 0 ≡ t) × (0 < getD since (getD lifts k 0) 0))
+      Now = Some calls (λ k. (getD deadlines k 0 ≡ t) × (0 < getD since (getD targets k 0) 0))
 
-      pub call-in : Now → SomeCallIn lifts deadlines calls (Reached near begin starts carts cells steps n)
-      call-in (k, b, (e, p)) = (k, b, rw e (h .stands .layer (getD lifts k 0) .0 p))
+      pub call-in : Now → SomeCallIn targets deadlines calls (Reached near begin starts carts cells steps n)
+      call-in (k, b, (e, p)) = (k, b, rw e (h .stands .layer (getD targets k 0) .0 p))
 
-      pub unmet-more : (Now → ⊥) → Unmet (Reached near begin starts carts cells steps n) lifts deadlines calls t → Unmet (Reached near begin starts carts cells steps n) lifts deadlines calls (t + 1)
+      pub unmet-more : (Now → ⊥) → Unmet (Reached near begin starts carts cells steps n) targets deadlines calls t → Unmet (Reached near begin starts carts cells steps n) targets deadlines calls (t + 1)
       unmet-more out u k b d r = ⊎-elim
-          (λ e. out (k, b, (e, h .stands .layer (getD lifts k 0) .1 (rw e at r))))
+          (λ e. out (k, b, (e, h .stands .layer (getD targets k 0) .1 (rw e at r))))
           (λ l. u k b l r)
           (eq-or-lt-of-le {n = getD deadlines k 0} {m = t} (omega arith))

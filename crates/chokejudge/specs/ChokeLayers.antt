@@ -30,4 +30,4 @@ Reached near begin starts carts cells steps n = Layer (Placed starts carts) (Sid
 
 -- One of the first n calls has its cell in the layer of its deadline.
 abbrev pub SomeCallIn : List ℕ → List ℕ → ℕ → (ℕ → ℕ → Type 0) → Type 0
-SomeCallIn lifts deadlines n L = Some n (λ k. L (getD deadlines k 0) (getD lifts k 0))
+SomeCallIn targets deadlines n L = Some n (λ k. L (getD deadlines k 0) (getD targets k 0))

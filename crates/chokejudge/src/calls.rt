@@ -25,18 +25,18 @@ pub fn chain(deadlines: &[u8; Limits::CALLS], calls: usize, latest: &mut [u8], b
 
 // Whether a call that is due at t has its cell in the layer.
 pub fn has_due(
-    lifts: &[u8; Limits::CALLS],
+    targets: &[u8; Limits::CALLS],
     latest: &[u8],
     before: &[u8],
     t: usize,
     since: &[u16],
 ) -> bool
     requires { ⌜ (t < maxSteps) × (length (now since) ≡ maxCells) × ((deadlines : List ℕ) × (calls : ℕ) × (calls ≤ maxCalls) × Chains deadlines calls (now latest) (now before)) ⌝ }
-    ensures { λ r. ⌜ ((deadlines : List ℕ) → (calls : ℕ) → (calls ≤ maxCalls) × Chains deadlines calls (now (latest .entry)) (now (before .entry)) → Decides r (Some calls (λ k. (getD deadlines k 0 ≡ t) × (0 < getD (now (since .entry)) (getD (now (lifts .entry)) k 0) 0)))) ⌝ }
+    ensures { λ r. ⌜ ((deadlines : List ℕ) → (calls : ℕ) → (calls ≤ maxCalls) × Chains deadlines calls (now (latest .entry)) (now (before .entry)) → Decides r (Some calls (λ k. (getD deadlines k 0 ≡ t) × (0 < getD (now (since .entry)) (getD (now (targets .entry)) k 0) 0)))) ⌝ }
 {
     let mut h = wide(latest[t]);
     while 0 < h {
-        let v = wide(lifts[h - 1]);
+        let v = wide(targets[h - 1]);
         if since[v] != 0 {
             return true;
         }

@@ -53,7 +53,7 @@ fn reaches<'a>(
     begin: &[u16],
     starts: &'a [u8; Limits::CARTS],
     carts: usize,
-    lifts: &'a [u8; Limits::CALLS],
+    targets: &'a [u8; Limits::CALLS],
     deadlines: &'a [u8; Limits::CALLS],
     calls: usize,
     cells: &[u8],
@@ -61,7 +61,7 @@ fn reaches<'a>(
     n: usize,
 ) -> bool
     requires { ⌜ (carts ≤ maxCarts) × (calls ≤ maxCalls) × (n ≤ maxCalls) × (n ≤ length (now cells)) × (n ≤ length (now steps)) × Climbs (now steps) n × ((j : model.Job) × Near j (now near) (now begin) × ((k : ℕ) → k < carts → getD (now starts) k 0 < j .cells) × ((k : ℕ) → k < n → getD (now cells) k 0 < j .cells)) ⌝ }
-    ensures { λ r. ⌜ Decides r (SomeCallIn (now (lifts .entry)) (now (deadlines .entry)) calls (Reached (now (near .entry)) (now (begin .entry)) (now (starts .entry)) carts (now (cells .entry)) (now (steps .entry)) n)) ⌝ }
+    ensures { λ r. ⌜ Decides r (SomeCallIn (now (targets .entry)) (now (deadlines .entry)) calls (Reached (now (near .entry)) (now (begin .entry)) (now (starts .entry)) carts (now (cells .entry)) (now (steps .entry)) n)) ⌝ }
 {
     let last = job::size::horizon(deadlines, calls);
     let mut latest = [0u8; Limits::STEPS];
@@ -75,7 +75,7 @@ fn reaches<'a>(
     let mut end = close(cells, steps, n, 0, 0, &mut since);
     let mut t = 0;
     while t <= last {
-        if has_due(lifts, &latest, &before, t, &since) {
+        if has_due(targets, &latest, &before, t, &since) {
             return true;
         }
         t += 1;
@@ -122,7 +122,7 @@ pub fn is_choke_list(job: Job, cells: &[u8], steps: &[u8], n: usize) -> bool
         &begin,
         &job.starts,
         job.carts,
-        &job.lifts,
+        &job.targets,
         &job.deadlines,
         job.calls,
         cells,

@@ -1,13 +1,15 @@
--- Tables of the floor: the cells that one step leads from, the deadlines of lift cells, the carts' cells.
+-- Tables of the floor: the cells that one step leads from, the deadlines of the calls' cells, when bays close, the carts' cells.
 use Prim.Native.Nat.{ℕ, _+_, _-_, _*_, _<_, _≤_}
 use mathlib.Core.Path.{_≡_}
-use mathlib.Core.List.{List}
-use mathlib.Core.Logic.{_⊎_, _↔_}
+use mathlib.Core.List.{List, []}
+use mathlib.Core.Bool.{cond}
+use lib.Dec.{ltb}
+use mathlib.Core.Logic.{_↔_}
 use lib.ListN.{length, getD, take, drop}
-use Rattle.model.specs.Limits.{maxCells, maxTracks}
+use Rattle.model.specs.Limits.{maxCells, maxTracks, maxSteps}
 use Rattle.model.specs.Lists.{In}
-use Rattle.model.specs.Job.{Job, call}
-use Rattle.model.specs.Walk.{Arc}
+use Rattle.model.specs.Job.{Job, CallKind, call}
+use Rattle.model.specs.Walk.{Open, Move}
 
 -- as many entries as all rows can have: each cell, and both ends of each track
 abbrev pub nearSize : ℕ
@@ -33,13 +35,22 @@ pub record Rows (n : ℕ) (near begin : List ℕ) : Type 0 where
 -- Row c has c itself and the cells that a track joins to c, and no others.
 pub record Near (j : Job) (near begin : List ℕ) : Type 0 where
   pub rows : Rows (j .cells) near begin
-  pub only : (c x : ℕ) → c < j .cells → In x (rowOf near begin c) → (x ≡ c) ⊎ Arc j x c
-  pub all : (c x : ℕ) → c < j .cells → (x ≡ c) ⊎ Arc j x c → In x (rowOf near begin c)
+  pub only : (c x : ℕ) → c < j .cells → In x (rowOf near begin c) → Move j x c
+  pub all : (c x : ℕ) → c < j .cells → Move j x c → In x (rowOf near begin c)
 
 -- Entry c of `due` is one more than the deadline of the call on c, or 0.
 pub record Due (j : Job) (due : List ℕ) : Type 0 where
   pub size : length due ≡ maxCells
-  pub lifts : (c t : ℕ) → c < j .cells → (getD due c 0 ≡ t + 1) ↔ In (call c t) (j .calls)
+  pub targets : (c t : ℕ) → c < j .cells → (getD due c 0 ≡ t + 1) ↔ ((k : CallKind) × In (call k c t) (j .calls))
+
+-- Entry c of `shut` is the first step at which c is closed, or one past all steps.
+pub record Shut (j : Job) (shut : List ℕ) : Type 0 where
+  pub size : length shut ≡ maxCells
+  pub opens : (c t : ℕ) → c < maxCells → t ≤ maxSteps → (t < getD shut c 0) ↔ Open j t c
+
+-- row c at the step t: none where c is closed then
+abbrev pub rowAt : List ℕ → List ℕ → List ℕ → ℕ → ℕ → List ℕ
+rowAt near begin shut c t = cond (ltb t (getD shut c 0)) (rowOf near begin c) []
 
 -- Entry c of `cartOn` is one more than the number of the cart that starts on c, or 0.
 pub record CartOn (j : Job) (cartOn : List ℕ) : Type 0 where
@@ -48,7 +59,8 @@ pub record CartOn (j : Job) (cartOn : List ℕ) : Type 0 where
   pub has-cart : (c : ℕ) → In c (j .carts) → 0 < getD cartOn c 0
 
 -- What the tables say.
-pub record Tables (j : Job) (near begin due cartOn : List ℕ) : Type 0 where
+pub record Tables (j : Job) (near begin due shut cartOn : List ℕ) : Type 0 where
   pub sides : Near j near begin
   pub dues : Due j due
+  pub shuts : Shut j shut
   pub carts : CartOn j cartOn

@@ -1,4 +1,4 @@
--- Paths held in rows: how many there are, which stands at an index, and what one more makes of them. Row k written anew leaves the paths before it as they are, since a
+-- Paths held in rows: what one more makes of them. Row k written anew leaves the paths before it as they are, since a
 -- path's cells keep within its row. Assumes nothing.
 use Prim.Native.Nat.{ℕ, zero, suc, _+_, _*_, _-_, _≤_, _<_}
 use mathlib.Core.Path.{_≡_, refl, ap, _∙_}
@@ -15,6 +15,7 @@ use Rattle.model.specs.Plan.{Path}
 use Rattle.model.proofs.Decide.{dec-eq}
 use Rattle.model.proofs.Lists.{in-getD, in-place}
 use Rattle.job.specs.Held.{pathAt, pathsTo, Room}
+use Rattle.job.proofs.UpTo.{up-more}
 
 -- a part of what stands before m, whatever follows
 part-kept : (x d m : ℕ) (l ys : List ℕ) → x + d ≤ m → m ≤ length l → take d (drop x (take m l ++ ys)) ≡ take d (drop x l)
@@ -70,36 +71,4 @@ module _ {first second lasts rows : List ℕ} (room : Room first second lasts ro
   pub paths-more : ((i : ℕ) → i < k → getD lasts i 0 < maxSteps) → d < maxSteps
       → pathsTo (set first k a) (set second k b) (set lasts k d) (withRow rows k row) (k + 1)
       ≡ pathsTo first second lasts rows k ++ (record { cart = a; call = b; cells = take (suc d) row } ∷ [])
-  paths-more short h = rw (add-one, before k (omega arith), path-new h)
-    where
-      before : (i : ℕ) → i ≤ k → pathsTo (set first k a) (set second k b) (set lasts k d) (withRow rows k row) i ≡ pathsTo first second lasts rows i
-      before zero l = refl
-      before (suc i) l = rw (before i (omega arith), path-kept i (omega arith) (short i (omega arith)))
-
-module _ (carts calls lasts rows : List ℕ) where
-  abbrev P : ℕ → Path
-  P k = pathAt carts calls lasts rows k
-
-  abbrev Ps : ℕ → List Path
-  Ps n = pathsTo carts calls lasts rows n
-
-  pub paths-length : (n : ℕ) → length (Ps n) ≡ n
-  paths-length zero = refl
-  paths-length (suc n) = length-append (Ps n) (P n ∷ []) ∙ omega (arith, paths-length n)
-
-  pub path-at : (n k : ℕ) (d : Path) → k < n → getD (Ps n) k d ≡ P k
-  path-at zero k d h = absurd (omega arith)
-  path-at (suc n) k d h = go (dec-eq k n) (path-at n k d)
-    where
-      go : Dec (k ≡ n) → (k < n → getD (Ps n) k d ≡ P k) → getD (Ps (suc n)) k d ≡ P k
-      go (yes e) f = rw e (getD-at (Ps n) (P n) [] d n (paths-length n))
-      go (no m) f = List·getD-append (Ps n) (P n ∷ []) d k (rw (paths-length n) (omega arith)) ∙ f (omega arith)
-
-  pub in-paths : (n k : ℕ) → k < n → In (P k) (Ps n)
-  in-paths n k h = rw (path-at n k (P 0) h) at (in-getD (Ps n) k (P 0) (rw (paths-length n) h))
-
-  pub paths-in : (n : ℕ) (p : Path) → In p (Ps n) → (k : ℕ) × (k < n) × (p ≡ P k)
-  paths-in n p h =
-      let (k, l, e) = in-place p (Ps n) (P 0) h in
-      let l′ : k < n = rw (paths-length n) at l in
-      (k, l′, e ∙ path-at n k (P 0) l′)
+  paths-more short h = up-more (pathAt first second lasts rows) _ k _ (λ i l. path-kept i l (short i l)) (path-new h)

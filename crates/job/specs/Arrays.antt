@@ -1,11 +1,11 @@
 -- The job that the arrays hold.
-use Prim.Native.Nat.{ℕ, _≤_}
+use Prim.Native.Nat.{ℕ, zero, suc, _≤_}
 use mathlib.Core.Path.{_≡_}
-use mathlib.Core.List.{List, [], _∷_}
-use lib.ListN.{length, take}
+use mathlib.Core.List.{List, [], _∷_, _++_}
+use lib.ListN.{length, getD, take}
 use Rattle.model.specs.Limits.{maxTracks, maxCarts, maxCalls}
 use Rattle.model.specs.Job as model
-use Rattle.model.specs.Job.{track, call}
+use Rattle.model.specs.Job.{CallKind, lift, bay, track, call}
 use Rattle.job.specs.declared.state.Job.{Job}
 
 -- the pairs of two lists
@@ -14,12 +14,25 @@ pairs f [] ys = []
 pairs f (x ∷ xs) [] = []
 pairs f (x ∷ xs) (y ∷ ys) = f x y ∷ pairs f xs ys
 
+-- the first n values of f
+abbrev pub upTo : {A : Type 0} → (ℕ → A) → ℕ → List A
+upTo f zero = []
+upTo f (suc n) = upTo f n ++ (f n ∷ [])
+
+-- the kind of a call, by its byte
+abbrev pub kindOf : ℕ → CallKind
+kindOf zero = lift
+kindOf (suc n) = bay
+
+abbrev pub callAt : List ℕ → List ℕ → List ℕ → ℕ → model.Call
+callAt kinds targets deadlines k = call (kindOf (getD kinds k 0)) (getD targets k 0) (getD deadlines k 0)
+
 abbrev pub jobOf : Job → model.Job
 jobOf s = record {
   cells = s .cells;
   tracks = pairs track (take (s .tracks) (s .from)) (take (s .tracks) (s .to));
   carts = take (s .carts) (s .starts);
-  calls = pairs call (take (s .calls) (s .lifts)) (take (s .calls) (s .deadlines));
+  calls = upTo (callAt (s .kinds) (s .targets) (s .deadlines)) (s .calls);
 }
 
 -- The counts keep within the arrays.
@@ -33,5 +46,6 @@ pub record Long (s : Job) : Type 0 where
   pub from : length (s .from) ≡ maxTracks
   pub to : length (s .to) ≡ maxTracks
   pub starts : length (s .starts) ≡ maxCarts
-  pub lifts : length (s .lifts) ≡ maxCalls
+  pub kinds : length (s .kinds) ≡ maxCalls
+  pub targets : length (s .targets) ≡ maxCalls
   pub deadlines : length (s .deadlines) ≡ maxCalls

@@ -1,13 +1,13 @@
 -- Paths and choke points as they are held: two lists with the first and second number of each line; for a path also its last step, and a row of steps with its cells.
-use Prim.Native.Nat.{ℕ, zero, suc, _*_, _<_}
+use Prim.Native.Nat.{ℕ, suc, _*_, _<_}
 use mathlib.Core.Path.{_≡_}
-use mathlib.Core.List.{List, [], _∷_, _++_}
+use mathlib.Core.List.{List}
 use mathlib.Core.Bool.{Bool, true, false}
 use lib.ListN.{length, getD, take, drop}
 use Rattle.model.specs.Limits.{maxCalls, maxSteps}
 use Rattle.model.specs.Plan.{Path}
 use Rattle.model.specs.Choke.{Point, point}
-use Rattle.job.specs.Arrays.{pairs}
+use Rattle.job.specs.Arrays.{pairs, upTo}
 
 -- the path of the k-th line: its cells are the first of row k, up to its last step
 abbrev pub pathAt : List ℕ → List ℕ → List ℕ → List ℕ → ℕ → Path
@@ -19,8 +19,7 @@ pathAt carts calls lasts rows k = record {
 
 -- the first n paths
 abbrev pub pathsTo : List ℕ → List ℕ → List ℕ → List ℕ → ℕ → List Path
-pathsTo carts calls lasts rows zero = []
-pathsTo carts calls lasts rows (suc k) = pathsTo carts calls lasts rows k ++ (pathAt carts calls lasts rows k ∷ [])
+pathsTo carts calls lasts rows = upTo (pathAt carts calls lasts rows)
 
 -- the first n choke points
 abbrev pub pointsOf : List ℕ → List ℕ → ℕ → List Point

@@ -1,7 +1,7 @@
 // A job as arrays with their counts.
 use model::Limits;
 
-// The first `tracks` entries of `from` and `to` are the tracks, and so for carts and calls.
+// The first `tracks` entries of `from` and `to` are the tracks, and so for carts and calls. Of a call: its kind, 0 for a lift and 1 for a bay, its cell and its deadline.
 pub struct Job {
     pub cells: usize,
     pub tracks: usize,
@@ -10,6 +10,7 @@ pub struct Job {
     pub carts: usize,
     pub starts: [u8; Limits::CARTS],
     pub calls: usize,
-    pub lifts: [u8; Limits::CALLS],
+    pub kinds: [u8; Limits::CALLS],
+    pub targets: [u8; Limits::CALLS],
     pub deadlines: [u8; Limits::CALLS],
 }

@@ -5,11 +5,12 @@ use mathlib.Core.List.{List, [], _∷_, map}
 use native.Mathlib.Omega.{arith}
 use lib.ListN.{length, getD}
 use Rattle.model.specs.Lists.{In, NoDup, Rising}
-use Rattle.model.specs.Job.{Job, Track, Call, track, cartCell, callOf, horizon}
-use Rattle.model.specs.Walk.{At, Step, Walk, Serves}
+use Rattle.model.specs.Job.{Job, Track, CallKind, lift, bay, Call, track, cartCell, callOf, horizon}
+use Rattle.model.specs.Walk.{At, Open, Step, Walk, Serves}
 use Rattle.model.specs.Plan.{Path, Plan, Leads, OnFloor, Share, Trade, NoShare, NoTrade, Before}
 use Rattle.model.specs.Choke.{Point, Known, StandsOn, TrueChokes, Rises}
 use Rattle.model.specs.Contracts.{RightPlan, RightChokes}
+use Rattle.model.proofs.Basics.{nope}
 use Rattle.model.proofs.Decide.{dec-by, dec-and, dec-or, dec-imp, dec-not, dec-eq, dec-le, dec-lt, all-below, all-in, any-in, dec-in}
 use Rattle.model.proofs.Listed.{walks, walk-listed}
 
@@ -23,8 +24,19 @@ track-parts e = (ap (λ t. t .from) e, ap (λ t. t .to) e)
 abbrev pub dec-track : (s t : Track) → Dec (s ≡ t)
 dec-track s t = dec-by track-eq track-parts (dec-and (dec-eq (s .from) (t .from)) (dec-eq (s .to) (t .to)))
 
+pub no-bay : lift ≡ bay → ⊥
+no-bay e = nope (cc)
+
+abbrev pub dec-bay : (k : CallKind) → Dec (k ≡ bay)
+dec-bay lift = no no-bay
+dec-bay bay = yes refl
+
+abbrev pub dec-open : (j : Job) (t v : ℕ) → Dec (Open j t v)
+dec-open j t v = all-in (λ q. dec-imp (dec-bay (q .kind)) (dec-imp (dec-eq (q .cell) v) (dec-le _ _))) (j .calls)
+
 abbrev pub dec-step : (j : Job) (t u v : ℕ) → Dec (Step j t u v)
-dec-step j t u v = dec-or (dec-eq u v) (dec-or (dec-in dec-track (track u v) (j .tracks)) (dec-in dec-track (track v u) (j .tracks)))
+dec-step j t u v =
+    dec-and (dec-or (dec-eq u v) (dec-or (dec-in dec-track (track u v) (j .tracks)) (dec-in dec-track (track v u) (j .tracks)))) (dec-open j (suc t) v)
 
 abbrev pub dec-at : (w : List ℕ) (t v : ℕ) → Dec (At w t v)
 dec-at w t v = dec-and (dec-lt t (length w)) (dec-eq (getD w t 0) v)

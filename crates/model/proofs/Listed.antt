@@ -10,7 +10,7 @@ use lib.Dec.{leb}
 use borrow.Author.Tests.{leb-true, leb-false}
 use Rattle.model.specs.Lists.{In}
 use Rattle.model.specs.Job.{Job, Call, track}
-use Rattle.model.specs.Walk.{Step, Walk, Serves}
+use Rattle.model.specs.Walk.{Move, Walk, Serves}
 use Rattle.model.proofs.Lists.{in-map, in-left, in-right}
 
 abbrev pub each : {A B : Type 0} → (A → List B) → List A → List B
@@ -47,24 +47,24 @@ abbrev pub walks : Job → ℕ → ℕ → List (List ℕ)
 walks j zero c = (c ∷ []) ∷ []
 walks j (suc n) c = each (λ d. map (λ w. c ∷ w) (walks j n d)) (c ∷ ends j)
 
-step-in : (j : Job) (t u v : ℕ) → Step j t u v → In v (u ∷ ends j)
-step-in j t u v (inl e) = inl (sym e)
-step-in j t u v (inr (inl h)) = inr (in-right v (map (λ t. t .from) (j .tracks)) (map (λ t. t .to) (j .tracks)) (in-map (λ t. t .to) (track u v) (j .tracks) h))
-step-in j t u v (inr (inr h)) = inr (in-left v (map (λ t. t .from) (j .tracks)) (map (λ t. t .to) (j .tracks)) (in-map (λ t. t .from) (track v u) (j .tracks) h))
+move-in : (j : Job) (u v : ℕ) → Move j u v → In v (u ∷ ends j)
+move-in j u v (inl e) = inl (sym e)
+move-in j u v (inr (inl h)) = inr (in-right v (map (λ t. t .from) (j .tracks)) (map (λ t. t .to) (j .tracks)) (in-map (λ t. t .to) (track u v) (j .tracks) h))
+move-in j u v (inr (inr h)) = inr (in-left v (map (λ t. t .from) (j .tracks)) (map (λ t. t .to) (j .tracks)) (in-map (λ t. t .from) (track v u) (j .tracks) h))
 
-Steps : Job → List ℕ → Type 0
-Steps j w = (t : ℕ) → suc t < length w → Step j t (getD w t 0) (getD w (suc t) 0)
+Moves : Job → List ℕ → Type 0
+Moves j w = (t : ℕ) → suc t < length w → Move j (getD w t 0) (getD w (suc t) 0)
 
-in-walks : (j : Job) (n : ℕ) (w : List ℕ) → length w ≡ suc n → Steps j w → In w (walks j n (getD w 0 0))
-unfolding Steps
+in-walks : (j : Job) (n : ℕ) (w : List ℕ) → length w ≡ suc n → Moves j w → In w (walks j n (getD w 0 0))
+unfolding Moves
 in-walks j n [] e s = absurd (omega arith)
 in-walks j zero (a ∷ []) e s = inl refl
 in-walks j zero (a ∷ b ∷ w) e s = absurd (omega arith)
 in-walks j (suc n) (a ∷ []) e s = absurd (omega arith)
 in-walks j (suc n) (a ∷ b ∷ w) e s =
-    in-each (λ d. map (λ w. a ∷ w) (walks j n d)) b (a ∷ b ∷ w) (a ∷ ends j) (step-in j 0 a b (s 0 (omega arith)))
+    in-each (λ d. map (λ w. a ∷ w) (walks j n d)) b (a ∷ b ∷ w) (a ∷ ends j) (move-in j a b (s 0 (omega arith)))
     (in-map (λ w. a ∷ w) (b ∷ w) (walks j n b) (in-walks j n (b ∷ w) (omega arith) (λ t h. s (suc t) (omega arith))))
 
 pub walk-listed : (j : Job) (c : ℕ) (q : Call) (w : List ℕ) → Walk j c w → Serves w q → In w (walks j (q .deadline) c)
-unfolding Steps
-walk-listed j c q w wk sv = rw (wk .starts .1) at (in-walks j (q .deadline) w (sv .size) (wk .steps))
+unfolding Moves
+walk-listed j c q w wk sv = rw (wk .starts .1) at (in-walks j (q .deadline) w (sv .size) (λ t h. wk .steps t h .0))

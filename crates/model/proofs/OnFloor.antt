@@ -7,7 +7,7 @@ use mathlib.Core.Logic.{_↔_, inl, inr, ⊎-elim}
 use native.Mathlib.Omega.{arith}
 use lib.ListN.{length, getD}
 use Rattle.model.specs.Lists.{In, NoDup}
-use Rattle.model.specs.Job.{Job, Call, call, callOf}
+use Rattle.model.specs.Job.{Job, Call, lift, call, callOf}
 use Rattle.model.specs.Plan.{Path, Plan, OnFloor}
 use Rattle.model.proofs.Lists.{remove, remove-length, remove-keeps, in-map, one-of}
 use Rattle.model.proofs.Decide.{dec-by, dec-and, dec-eq, dec-le, dec-lt, any-in}
@@ -79,7 +79,7 @@ count-places d x (a ∷ l) = omega (arith, count-below (λ k. d (getD (a ∷ l) 
 
 pub as-many : (j : Job) (ps : List Path) → length (j .carts) ≡ length (j .calls) → Plan j ps → (t : ℕ)
     → count (dec-on-floor ps t) (below (length (j .carts))) ≡ count (dec-due t) (j .calls)
-as-many j ps even pl t = sym carts ∙ calls ∙ count-places (dec-due t) (call 0 0) (j .calls)
+as-many j ps even pl t = sym carts ∙ calls ∙ count-places (dec-due t) (call lift 0 0) (j .calls)
   where
     has : (p : Path) → Dec (t < length (p .cells))
     has p = dec-lt t (length (p .cells))

@@ -4,7 +4,7 @@ use mathlib.Core.List.{List, [], _∷_}
 use Rattle.model.specs.Lists.{In}
 use Rattle.model.specs.ReadJob.{readJob}
 use Rattle.model.specs.ReadSheet.{readSheet}
-use Rattle.model.specs.Filed.{Row, plans, checks, wrote, refuses, RowHolds, big, jobA, jobB, jobD, jobF}
+use Rattle.model.specs.Filed.{Row, plans, checks, wrote, refuses, RowHolds, big, jobA, jobB, jobD, jobF, jobClosed, jobUnclosed}
 use Rattle.model.proofs.Decide.{decided, all-in}
 use Rattle.model.proofs.Filed.{dec-row, row-holds}
 
@@ -53,6 +53,23 @@ moves =
     ∷ checks "FLOOR\t2\nTRACK\t0\t1\nCART\t0\nCART\t1\nCALL\t1\t1\nCALL\t0\t2\n" big "PLAN\t2\nPATH\t1\t0\t1\t1\nPATH\t0\t1\t0\t1\t0\n" 12
     ∷ []
 
+-- a bay's cell is closed from the step behind the bay's on: no path may come there, and a choke point there stops nothing; a bay's path ends at its step, and BAY lines are
+-- tested like CALL lines
+abbrev bays : List Row
+bays =
+    checks jobClosed big "PLAN\t2\nPATH\t1\t0\t1\nPATH\t0\t1\t0\t1\t2\n" 12
+    ∷ checks jobUnclosed big "PLAN\t2\nPATH\t1\t0\t1\nPATH\t0\t1\t0\t1\t2\n" 0
+    ∷ checks jobClosed big "CANNOT\t1\nCHOKE\t1\t1\n" 12
+    ∷ checks jobClosed big "CANNOT\t1\nCHOKE\t1\t3\n" (at 2)
+    ∷ checks "FLOOR\t2\nTRACK\t0\t1\nCART\t0\nBAY\t1\t1\n" big "PLAN\t1\nPATH\t0\t0\t0\t1\t1\n" (at 2)
+    ∷ plans "FLOOR\t1\nCART\t0\nCALL\t0\t1\nBAY\t0\t2\n" big big (refuses 7 4)
+    ∷ plans "FLOOR\t1\nCART\t0\nBAY\t0\t1\nBAY\t0\t2\n" big big (refuses 7 4)
+    ∷ plans "FLOOR\t2\nCART\t0\nBAY\t0\t1\nCALL\t1\t2\n" big big (refuses 8 0)
+    ∷ plans "FLOOR\t1\nCART\t0\nBAY\t0\n" big big (refuses 3 3)
+    ∷ plans "FLOOR\t1\nCART\t0\nBAY\t0\t256\n" big big (refuses 5 3)
+    ∷ plans "FLOOR\t1\nCART\t0\nBAY\t0\t255\n" 12287 big (refuses 9 0)
+    ∷ []
+
 pub buffers-hold : (x : Row) → In x buffers → RowHolds x
 unfolding readJob readSheet
 buffers-hold x m = row-holds x (decided (all-in dec-row buffers) tt x m)
@@ -60,6 +77,10 @@ buffers-hold x m = row-holds x (decided (all-in dec-row buffers) tt x m)
 pub sheets-hold : (x : Row) → In x sheets → RowHolds x
 unfolding readJob readSheet
 sheets-hold x m = row-holds x (decided (all-in dec-row sheets) tt x m)
+
+pub bays-hold : (x : Row) → In x bays → RowHolds x
+unfolding readJob readSheet
+bays-hold x m = row-holds x (decided (all-in dec-row bays) tt x m)
 
 pub moves-hold : (x : Row) → In x moves → RowHolds x
 unfolding readJob readSheet

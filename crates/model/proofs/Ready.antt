@@ -14,9 +14,9 @@ use Rattle.model.specs.declared.answer.Answer.{Answer}
 use Rattle.model.specs.declared.answer.Answer.the-variants.{TextTooLong, BadLine, Uneven}
 use Rattle.model.specs.Limits.{maxCells, maxTracks, maxCarts, maxCalls, maxSteps, maxText}
 use Rattle.model.specs.Lists.{In, NoDup}
-use Rattle.model.specs.Job.{Job, Track, track, call}
+use Rattle.model.specs.Job.{Job, Track, lift, bay, track, call}
 use Rattle.model.specs.Ready.{SameEnds, Fit, Ready}
-use Rattle.model.specs.Text.{Lines, done, cut, more, linesOf, numbersOf, opens, after, floorWord, trackWord, cartWord, callWord}
+use Rattle.model.specs.Text.{Lines, done, cut, more, linesOf, numbersOf, opens, after, floorWord, trackWord, cartWord, callWord, bayWord}
 use Rattle.model.specs.ReadJob.{refused, accepted, Kind, floorLine, trackLine, cartLine, callLine, noJob, member, leads, inRange, hasRoom}
 use Rattle.model.specs.ReadJob.{isNew, add, mayFollow, fieldCount, Said, wrong, right, numbersSay, fieldsSay, lineSays, goOn, linesSay, readJob}
 use Rattle.model.proofs.Basics.{nope, and-left, and-right}
@@ -56,15 +56,17 @@ fields-added j j′ k fs e =
     numbers-added j j′ k (numbersOf fs) (and-left (mayFollow j k) (eqb (length fs) (fieldCount k)) (h .0)) (h .1)
 
 line-added : (j j′ : Job) (l : List ℕ) → lineSays j l ≡ right j′ → RightLine j j′
-line-added j j′ l e = go (opens floorWord l) (opens trackWord l) (opens cartWord l) (opens callWord l) e
+line-added j j′ l e = go (opens floorWord l) (opens trackWord l) (opens cartWord l) (opens callWord l) (opens bayWord l) e
   where
-    go : (t u v w : Bool) → cond t (fieldsSay j floorLine (after floorWord l)) (cond u (fieldsSay j trackLine (after trackWord l))
-        (cond v (fieldsSay j cartLine (after cartWord l)) (cond w (fieldsSay j callLine (after callWord l)) (wrong BadLine)))) ≡ right j′ → RightLine j j′
-    go true u v w e = fields-added j j′ floorLine (after floorWord l) e
-    go false true v w e = fields-added j j′ trackLine (after trackWord l) e
-    go false false true w e = fields-added j j′ cartLine (after cartWord l) e
-    go false false false true e = fields-added j j′ callLine (after callWord l) e
-    go false false false false e = nope (cc)
+    go : (t u v w x : Bool) → cond t (fieldsSay j floorLine (after floorWord l)) (cond u (fieldsSay j trackLine (after trackWord l))
+        (cond v (fieldsSay j cartLine (after cartWord l)) (cond w (fieldsSay j (callLine lift) (after callWord l))
+        (cond x (fieldsSay j (callLine bay) (after bayWord l)) (wrong BadLine))))) ≡ right j′ → RightLine j j′
+    go true u v w x e = fields-added j j′ floorLine (after floorWord l) e
+    go false true v w x e = fields-added j j′ trackLine (after trackWord l) e
+    go false false true w x e = fields-added j j′ cartLine (after cartWord l) e
+    go false false false true x e = fields-added j j′ (callLine lift) (after callWord l) e
+    go false false false false true e = fields-added j j′ (callLine bay) (after bayWord l) e
+    go false false false false false e = nope (cc)
 
 -- A member more, at the end.
 in-snoc : {A : Type 0} (a x : A) (l : List A) → In a (l ++ (x ∷ [])) → In a l ⊎ (a ≡ x)
@@ -141,7 +143,7 @@ no-fit = record {
   no-loop = λ t h. absurd h;
   own-tracks = λ i k l m. absurd (omega arith);
   own-cells = tt;
-  own-lifts = tt;
+  own-targets = tt;
 }
 
 module _ (j : Job) (f : Fit j) (a b : ℕ) where
@@ -161,7 +163,7 @@ module _ (j : Job) (f : Fit j) (a b : ℕ) where
     no-loop = f .no-loop;
     own-tracks = f .own-tracks;
     own-cells = f .own-cells;
-    own-lifts = f .own-lifts;
+    own-targets = f .own-targets;
   }
   add-fit trackLine m r h n = record {
     few-cells = f .few-cells;
@@ -175,7 +177,7 @@ module _ (j : Job) (f : Fit j) (a b : ℕ) where
     no-loop = all-snoc (j .tracks) (track a b) (f .no-loop) (eqb-false a b (or-left (eqb a b) (leads a b (j .tracks)) fresh));
     own-tracks = own-snoc (j .tracks) a b (or-right (eqb a b) (leads a b (j .tracks)) fresh) (or-right (eqb a b || leads a b (j .tracks)) (leads b a (j .tracks)) unseen) (f .own-tracks);
     own-cells = f .own-cells;
-    own-lifts = f .own-lifts;
+    own-targets = f .own-targets;
   }
     where
       unseen : (eqb a b || leads a b (j .tracks) || leads b a (j .tracks)) ≡ false
@@ -193,22 +195,22 @@ module _ (j : Job) (f : Fit j) (a b : ℕ) where
     own-tracks = f .own-tracks;
     known-carts = all-snoc (j .carts) a (f .known-carts) (ltb-true a (j .cells) r);
     known-calls = f .known-calls;
-    own-lifts = f .own-lifts;
+    own-targets = f .own-targets;
     own-cells = nodup-snoc (j .carts) a (f .own-cells) (member-in a (j .carts) (not-true (member a (j .carts)) n));
   }
-  add-fit callLine m r h n = record {
+  add-fit (callLine k) m r h n = record {
     few-cells = f .few-cells;
     few-tracks = f .few-tracks;
     few-carts = f .few-carts;
-    few-calls = omega (arith, length-append (j .calls) (call a b ∷ []), ltb-true (length (j .calls)) maxCalls h);
+    few-calls = omega (arith, length-append (j .calls) (call k a b ∷ []), ltb-true (length (j .calls)) maxCalls h);
     known-tracks = f .known-tracks;
     no-loop = f .no-loop;
     own-tracks = f .own-tracks;
     known-carts = f .known-carts;
     own-cells = f .own-cells;
-    known-calls = all-snoc (j .calls) (call a b) (f .known-calls)
+    known-calls = all-snoc (j .calls) (call k a b) (f .known-calls)
         (ltb-true a (j .cells) (and-left (ltb a (j .cells)) (ltb b maxSteps) r), ltb-true b maxSteps (and-right (ltb a (j .cells)) (ltb b maxSteps) r));
-    own-lifts = rw map-append (nodup-snoc (map (λ q. q .cell) (j .calls)) a (f .own-lifts) (member-in a (map (λ q. q .cell) (j .calls)) (not-true (member a (map (λ q. q .cell) (j .calls))) n)));
+    own-targets = rw map-append (nodup-snoc (map (λ q. q .cell) (j .calls)) a (f .own-targets) (member-in a (map (λ q. q .cell) (j .calls)) (not-true (member a (map (λ q. q .cell) (j .calls))) n)));
   }
 
 lines-ready : (j j′ : Job) (n : ℕ) (ls : Lines) → Fit j → linesSay j n ls ≡ accepted j′ → Ready j′

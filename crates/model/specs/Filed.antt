@@ -52,6 +52,17 @@ jobD = "FLOOR\t1\nCART\t0\nCALL\t0\t0\n"
 abbrev pub jobF : String
 jobF = "FLOOR\t2\nTRACK\t0\t1\nCART\t0\nCART\t1\nCALL\t0\t1\nCALL\t1\t1\n"
 
+-- the bay is met by the cart from cell 4, after the other one crossed its cell
+abbrev pub jobBay : String
+jobBay = "FLOOR\t5\nTRACK\t0\t1\nTRACK\t1\t2\nTRACK\t1\t3\nTRACK\t3\t4\nCART\t0\nCART\t4\nBAY\t1\t2\nCALL\t2\t2\n"
+
+-- the cart on cell 0 finds the bay's cell closed; without a bay it would pass there
+abbrev pub jobClosed : String
+jobClosed = "FLOOR\t3\nTRACK\t0\t1\nTRACK\t1\t2\nCART\t0\nCART\t1\nBAY\t1\t0\nCALL\t2\t2\n"
+
+abbrev pub jobUnclosed : String
+jobUnclosed = "FLOOR\t3\nTRACK\t0\t1\nTRACK\t1\t2\nCART\t0\nCART\t1\nCALL\t1\t0\nCALL\t2\t2\n"
+
 abbrev pub big : ℕ
 big = 65536
 
@@ -69,4 +80,10 @@ filed =
     ∷ plans "" big big (refuses 3 1)
     ∷ plans "FLOOR\t1\nTRACK\t0\t0\n" big big (refuses 7 2)
     ∷ plans "FLOOR\t1\nCART\t0\n" big big (refuses 8 0)
+    ∷ plans "FLOOR\t2\nTRACK\t0\t1\nCART\t0\nBAY\t1\t1\n" big big (wrote 0 "PLAN\t1\nPATH\t0\t0\t0\t1\n")
+    ∷ plans jobBay big big (wrote 0 "PLAN\t2\nPATH\t1\t0\t4\t3\t1\nPATH\t0\t1\t0\t1\t2\n")
+    ∷ plans jobClosed big big (wrote 1 "CANNOT\t1\nCHOKE\t1\t0\n")
+    ∷ plans jobUnclosed big big (wrote 0 "PLAN\t2\nPATH\t1\t0\t1\nPATH\t0\t1\t0\t1\t2\n")
+    ∷ plans "FLOOR\t1\nCART\t0\nBAY\t0\t1\nCALL\t0\t2\n" big big (refuses 7 4)
+    ∷ plans "FLOOR\t2\nCART\t0\nBAY\t0\t1\nCART\t1\n" big big (refuses 3 4)
     ∷ []

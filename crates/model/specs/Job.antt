@@ -8,8 +8,13 @@ pub record Track : Type 0 where
   pub from : ℕ
   pub to : ℕ
 
--- a lift cell, and the step at which its cart stands there
+-- At a lift a cart leaves the floor, in a bay it parks for the rest of the job.
+pub data CallKind : Type 0 where
+  lift bay : CallKind
+
+-- a lift or bay cell, and the step at which the call's cart stands there
 pub record Call : Type 0 where
+  pub kind : CallKind
   pub cell : ℕ
   pub deadline : ℕ
 
@@ -23,8 +28,8 @@ pub record Job : Type 0 where
 abbrev pub track : ℕ → ℕ → Track
 track u v = record { from = u; to = v }
 
-abbrev pub call : ℕ → ℕ → Call
-call v t = record { cell = v; deadline = t }
+abbrev pub call : CallKind → ℕ → ℕ → Call
+call k v t = record { kind = k; cell = v; deadline = t }
 
 abbrev pub trackOf : Job → ℕ → Track
 trackOf j k = getD (j .tracks) k (track 0 0)
@@ -33,9 +38,9 @@ abbrev pub cartCell : Job → ℕ → ℕ
 cartCell j k = getD (j .carts) k 0
 
 abbrev pub callOf : Job → ℕ → Call
-callOf j k = getD (j .calls) k (call 0 0)
+callOf j k = getD (j .calls) k (call lift 0 0)
 
--- H: the largest deadline, 0 if there are no calls
+-- H: the largest deadline, a bay's step among them; 0 if there are no calls
 abbrev pub latest : List Call → ℕ
 latest [] = 0
 latest (q ∷ qs) = max (q .deadline) (latest qs)

@@ -8,15 +8,17 @@ use lib.ListN.{length, getD}
 use Rattle.model.specs.Limits.{maxCells, maxTracks, maxCarts, maxCalls, maxSteps, maxText}
 use Rattle.model.specs.declared.answer.Answer.{Answer}
 use Rattle.model.specs.declared.answer.Answer.the-variants.{TextTooLong, BadLine, NoNumber, OutOfRange, TooMany, Doubled, Uneven}
-use Rattle.model.specs.Job.{Job, Track, track, call}
-use Rattle.model.specs.Text.{Lines, done, cut, more, linesOf, numbersOf, opens, after, floorWord, trackWord, cartWord, callWord}
+use Rattle.model.specs.Job.{Job, Track, CallKind, lift, bay, track, call}
+use Rattle.model.specs.Text.{Lines, done, cut, more, linesOf, numbersOf, opens, after, floorWord, trackWord, cartWord, callWord, bayWord}
 
 pub data Verdict : Type 0 where
   refused : (answer : Answer) (line : ℕ) → Verdict
   accepted : Job → Verdict
 
+-- the kinds of lines: CALL and BAY lines differ only in the kind of their call
 pub data Kind : Type 0 where
-  floorLine trackLine cartLine callLine : Kind
+  floorLine trackLine cartLine : Kind
+  callLine : CallKind → Kind
 
 abbrev pub noJob : Job
 noJob = record { cells = 0; tracks = []; carts = []; calls = [] }
@@ -34,45 +36,45 @@ abbrev pub leads : ℕ → ℕ → List Track → Bool
 leads a b [] = false
 leads a b (t ∷ ts) = (eqb a (t .from) && eqb b (t .to)) || leads a b ts
 
--- 3: one FLOOR first, then all TRACK, then all CART, then all CALL lines
+-- 3: one FLOOR first, then all TRACK, then all CART, then all CALL and BAY lines in any mixture
 abbrev pub mayFollow : Job → Kind → Bool
 mayFollow j floorLine = eqb (j .cells) 0
 mayFollow j trackLine = ltb 0 (j .cells) && isEmpty (j .carts) && isEmpty (j .calls)
 mayFollow j cartLine = ltb 0 (j .cells) && isEmpty (j .calls)
-mayFollow j callLine = ltb 0 (j .cells)
+mayFollow j (callLine k) = ltb 0 (j .cells)
 
 abbrev pub fieldCount : Kind → ℕ
 fieldCount floorLine = 1
 fieldCount trackLine = 2
 fieldCount cartLine = 1
-fieldCount callLine = 2
+fieldCount (callLine k) = 2
 
 -- 5: of the line's numbers, a is the first and b the second, if it has two
 abbrev pub inRange : Job → Kind → ℕ → ℕ → Bool
 inRange j floorLine a b = ltb 0 a && leb a maxCells
 inRange j trackLine a b = ltb a (j .cells) && ltb b (j .cells)
 inRange j cartLine a b = ltb a (j .cells)
-inRange j callLine a b = ltb a (j .cells) && ltb b maxSteps
+inRange j (callLine k) a b = ltb a (j .cells) && ltb b maxSteps
 
--- 6: one more of its kind is allowed
+-- 6: one more of its kind is allowed; calls and bays are counted together
 abbrev pub hasRoom : Job → Kind → Bool
 hasRoom j floorLine = true
 hasRoom j trackLine = ltb (length (j .tracks)) maxTracks
 hasRoom j cartLine = ltb (length (j .carts)) maxCarts
-hasRoom j callLine = ltb (length (j .calls)) maxCalls
+hasRoom j (callLine k) = ltb (length (j .calls)) maxCalls
 
--- 7: no track from a cell to itself or between cells joined already, either way round; no second cart or call on a cell
+-- 7: no track from a cell to itself or between cells joined already, either way round; no second cart, and no second call or bay, on a cell
 abbrev pub isNew : Job → Kind → ℕ → ℕ → Bool
 isNew j floorLine a b = true
 isNew j trackLine a b = not (eqb a b || leads a b (j .tracks) || leads b a (j .tracks))
 isNew j cartLine a b = not (member a (j .carts))
-isNew j callLine a b = not (member a (map (λ q. q .cell) (j .calls)))
+isNew j (callLine k) a b = not (member a (map (λ q. q .cell) (j .calls)))
 
 abbrev pub add : Job → Kind → ℕ → ℕ → Job
 add j floorLine a b = record { cells = a; tracks = j .tracks; carts = j .carts; calls = j .calls }
 add j trackLine a b = record { cells = j .cells; tracks = j .tracks ++ (track a b ∷ []); carts = j .carts; calls = j .calls }
 add j cartLine a b = record { cells = j .cells; tracks = j .tracks; carts = j .carts ++ (a ∷ []); calls = j .calls }
-add j callLine a b = record { cells = j .cells; tracks = j .tracks; carts = j .carts; calls = j .calls ++ (call a b ∷ []) }
+add j (callLine k) a b = record { cells = j .cells; tracks = j .tracks; carts = j .carts; calls = j .calls ++ (call k a b ∷ []) }
 
 -- What a line says: the job with it, or the answer of the first test that fails.
 pub data Said : Type 0 where
@@ -95,8 +97,9 @@ lineSays j l =
     cond (opens floorWord l) (fieldsSay j floorLine (after floorWord l))
     (cond (opens trackWord l) (fieldsSay j trackLine (after trackWord l))
     (cond (opens cartWord l) (fieldsSay j cartLine (after cartWord l))
-    (cond (opens callWord l) (fieldsSay j callLine (after callWord l))
-    (wrong BadLine))))
+    (cond (opens callWord l) (fieldsSay j (callLine lift) (after callWord l))
+    (cond (opens bayWord l) (fieldsSay j (callLine bay) (after bayWord l))
+    (wrong BadLine)))))
 
 abbrev pub goOn : Said → ℕ → (Job → Verdict) → Verdict
 goOn (wrong a) n on = refused a n

@@ -24,7 +24,7 @@ pub record Fit (j : Job) : Type 0 where
   pub no-loop : (t : Track) → In t (j .tracks) → t .from ≡ t .to → ⊥
   pub own-tracks : (i k : ℕ) → i < k → k < length (j .tracks) → SameEnds (trackOf j i) (trackOf j k) → ⊥
   pub own-cells : NoDup (j .carts)
-  pub own-lifts : NoDup (map (λ q. q .cell) (j .calls))
+  pub own-targets : NoDup (map (λ q. q .cell) (j .calls))
 
 -- of a whole job
 pub record Ready (j : Job) : Type 0 where

@@ -1,19 +1,27 @@
 -- A walk is the list of its cells, from step 0 on.
-use Prim.Native.Nat.{ℕ, suc, _<_}
+use Prim.Native.Nat.{ℕ, suc, _<_, _≤_}
 use mathlib.Core.Path.{_≡_}
 use mathlib.Core.List.{List}
 use mathlib.Core.Logic.{_⊎_}
 use lib.ListN.{length, getD}
 use Rattle.model.specs.Lists.{In}
-use Rattle.model.specs.Job.{Job, Call, track}
+use Rattle.model.specs.Job.{Job, Call, bay, track}
 
 -- A track joins its cells both ways.
 abbrev pub Arc : Job → ℕ → ℕ → Type 0
 Arc j u v = In (track u v) (j .tracks) ⊎ In (track v u) (j .tracks)
 
--- From the step t to the next a cart stands, or goes along one track. It may do so at every step.
+-- The cell v is open at the step t: no bay on it has an earlier step.
+abbrev pub Open : Job → ℕ → ℕ → Type 0
+Open j t v = (q : Call) → In q (j .calls) → q .kind ≡ bay → q .cell ≡ v → t ≤ q .deadline
+
+-- In a step a cart stands, or goes along one track.
+abbrev pub Move : Job → ℕ → ℕ → Type 0
+Move j u v = (u ≡ v) ⊎ Arc j u v
+
+-- It does so from the step t to the next, and the cell that it comes to is open then.
 abbrev pub Step : Job → ℕ → ℕ → ℕ → Type 0
-Step j t u v = (u ≡ v) ⊎ Arc j u v
+Step j t u v = Move j u v × Open j (suc t) v
 
 -- The walk w has the step t, and is on the cell v then.
 abbrev pub At : List ℕ → ℕ → ℕ → Type 0

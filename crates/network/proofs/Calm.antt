@@ -98,7 +98,7 @@ module _ {j : Job} {back on : Point → Link Point} (ok : Flow (graph j) back on
       let d = ok .edge v u e in
       record {
         falls = d .falls;
-        moves = inl refl;
+        moves = (inl refl, d .moves .1);
         leaves = ok .edge _ _ f .leaves;
         in-time = d .in-time;
         known = d .known;

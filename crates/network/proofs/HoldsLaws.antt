@@ -16,31 +16,31 @@ use Rattle.model.proofs.Lists.{in-unmap}
 use Rattle.floor.specs.Tables.{Due}
 use Rattle.flow.specs.Flow.{Link, off, end, to}
 use Rattle.flow.proofs.Flow.{flow-same}
-use Rattle.network.specs.Graph.{isLift}
+use Rattle.network.specs.Graph.{isTarget}
 use Rattle.network.specs.Store.{gridOf, idx, placeAt, usedAt, nextAt, isUsed, Within}
 use Rattle.network.specs.Links.{FlowIn, backLink, onLink}
 use Rattle.network.specs.Holds.{Holds, SameFlow}
 use Rattle.network.specs.declared.planes.Grid.{Grid}
 use Rattle.network.proofs.StoreBytes.{idx-below}
 use Rattle.network.proofs.NodeBytes.{used, link-to}
-use Rattle.network.proofs.ChokeLifts.{nodeOf, lift-in, in-lift}
+use Rattle.network.proofs.ChokeTargets.{nodeOf, target-in, in-target}
 
 -- A call's node, by the table of deadlines.
 module _ {j : Job} {due : List ℕ} (d : Due j due) {x : Point} (k : Known j x) where
-  pub due-lift : isLift j x ≡ true → getD due (x .cell) 0 ≡ x .step + 1
-  due-lift e =
-      let (q, m, f) = in-unmap nodeOf x (j .calls) (lift-in (j .calls) x e) in
-      d .lifts (x .cell) (x .step) (k .0) .1 (rw (ap (λ (y : Point). call (y .cell) (y .step)) f) at m)
+  pub due-target : isTarget j x ≡ true → getD due (x .cell) 0 ≡ x .step + 1
+  due-target e =
+      let (q, m, f) = in-unmap nodeOf x (j .calls) (target-in (j .calls) x e) in
+      d .targets (x .cell) (x .step) (k .0) .1 (q .kind, rw (ap (λ (y : Point). call (q .kind) (y .cell) (y .step)) f) at m)
 
-  pub no-lift : (getD due (x .cell) 0 ≡ x .step + 1 → ⊥) → isLift j x ≡ false
-  no-lift ne = go (isLift j x) refl
+  pub no-target : (getD due (x .cell) 0 ≡ x .step + 1 → ⊥) → isTarget j x ≡ false
+  no-target ne = go (isTarget j x) refl
     where
-      go : (b : Bool) → isLift j x ≡ b → isLift j x ≡ false
-      go true e = absurd (ne (due-lift e))
+      go : (b : Bool) → isTarget j x ≡ b → isTarget j x ≡ false
+      go true e = absurd (ne (due-target e))
       go false e = e
 
-  pub not-due : isLift j x ≡ false → getD due (x .cell) 0 ≡ x .step + 1 → ⊥
-  not-due e f = nope (cc (in-lift (j .calls) (call (x .cell) (x .step)) (d .lifts (x .cell) (x .step) (k .0) .0 f), e))
+  pub not-due : isTarget j x ≡ false → getD due (x .cell) 0 ≡ x .step + 1 → ⊥
+  not-due e f = let (kind, m) = d .targets (x .cell) (x .step) (k .0) .0 f in nope (cc (in-target (j .calls) (call kind (x .cell) (x .step)) m, e))
 
 module _ {j : Job} {g : Grid} {s : List ℕ} (h : Holds j g s) {x : Point} (k : Known j x) where
   pub place-below : placeAt g x < g .nodes
@@ -54,7 +54,7 @@ module _ {j : Job} {g : Grid} {s : List ℕ} (h : Holds j g s) {x : Point} (k : 
       → (onLink j s x ≡ to (point (nextAt g s (placeAt g x)) (x .step + 1))) × Known j (point (nextAt g s (placeAt g x)) (x .step + 1))
   leads-on d u ne =
       let u′ : usedAt (gridOf j) s (idx j x) ≡ 0 → ⊥ = rw (h .grid) at u in
-      let e : onLink j s x ≡ to (point (nextAt (gridOf j) s (idx j x)) (x .step + 1)) = link-to (isUsed j s x) (isLift j x) _ (used j s x k u′) (no-lift d k ne) in
+      let e : onLink j s x ≡ to (point (nextAt (gridOf j) s (idx j x)) (x .step + 1)) = link-to (isUsed j s x) (isTarget j x) _ (used j s x k u′) (no-target d k ne) in
       let f = h .flow .edge _ x (h .flow .back _ x e) in
       rw (h .grid) (e, (f .known, f .in-time))
 
@@ -73,7 +73,7 @@ module _ (j : Job) {s t : List ℕ} (same : SameFlow (gridOf j) s t) where
   back-same = fun-ext (links-same (λ x c. cond (eqb (x .step) 0) end (to (point c (x .step - 1)))) _ _ (λ x k. same .prev (idx j x) (idx-below j k)))
 
   pub on-same : onLink j t ≡ onLink j s
-  on-same = fun-ext (links-same (λ x c. cond (isLift j x) end (to (point c (x .step + 1)))) _ _ (λ x k. same .next (idx j x) (idx-below j k)))
+  on-same = fun-ext (links-same (λ x c. cond (isTarget j x) end (to (point c (x .step + 1)))) _ _ (λ x k. same .next (idx j x) (idx-below j k)))
 
 -- A store of the same length that holds a flow.
 pub holds-flow : {j : Job} {g : Grid} {s t : List ℕ} → Holds j g s → length t ≡ length s → FlowIn j t → Holds j g t

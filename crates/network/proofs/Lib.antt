@@ -1,4 +1,4 @@
-pub mod ChokeLifts
+pub mod ChokeTargets
 pub mod ChokeWalk
 pub mod ChokeLines
 pub mod ChokeFew

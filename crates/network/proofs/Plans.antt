@@ -8,7 +8,7 @@ use mathlib.Core.Logic.{inl, inr}
 use native.Mathlib.Omega.{arith}
 use lib.ListN.{length, getD}
 use Rattle.model.specs.Lists.{In, NoDup}
-use Rattle.model.specs.Job.{Job, Call, call, callOf}
+use Rattle.model.specs.Job.{Job, Call, lift, call, callOf}
 use Rattle.model.specs.Plan.{Path, Leads, Share, Trade, Plan}
 use Rattle.model.specs.Choke.{Point, point}
 use Rattle.model.specs.Ready.{Ready}
@@ -27,8 +27,8 @@ module _ {j : Job} {back on : Point → Link Point} (ok : Flow (graph j) back on
   starts-on-cart x e = ok .goals x e .1
 
   -- A line begins on a used node.
-  pub lifts : (v : Point) → on v ≡ end → back v ≡ off → ⊥
-  lifts v e f = nope (cc (ok .off-prev v f))
+  pub targets : (v : Point) → on v ≡ end → back v ≡ off → ⊥
+  targets v e f = nope (cc (ok .off-prev v f))
 
   pub began : (v : Point) → (back v ≡ off → ⊥) → v .step ≡ 0 → back v ≡ end
   began v used h = go (back v) refl
@@ -66,7 +66,7 @@ module _ (j : Job) (r : Ready j) {back on : Point → Link Point} (ok : Flow (gr
   stand p t = point (getD (p .cells) t 0) t
 
   begins : (p : Path) → Traced j back p → on (goal p) ≡ end
-  begins p tr = full (callOf j (p .call)) (in-getD (j .calls) (p .call) (call 0 0) (tr .known-call))
+  begins p tr = full (callOf j (p .call)) (in-getD (j .calls) (p .call) (call lift 0 0) (tr .known-call))
 
   -- The path follows the links from its call's node.
   on-line : (p : Path) → Traced j back p → (k t : ℕ) → t + k ≡ callOf j (p .call) .deadline → Chain back k (goal p) (stand p t)
@@ -83,7 +83,7 @@ module _ (j : Job) (r : Ready j) {back on : Point → Link Point} (ok : Flow (gr
       let k′ = callOf j (q .call) .deadline - t in
       let same : stand p t ≡ stand q t = point-eq e refl in
       let c : Chain back k (goal p) (stand q t) = rw same at (on-line p tr k t (omega (arith, tr .size))) in
-      place-of (λ q. q .cell) (j .calls) (r .fit .own-lifts) (p .call) (q .call) (call 0 0) (tr .known-call) (tr′ .known-call)
+      place-of (λ q. q .cell) (j .calls) (r .fit .own-targets) (p .call) (q .call) (call lift 0 0) (tr .known-call) (tr′ .known-call)
       (point-cell (one-line ok (stand q t) (goal p) (goal q) (λ u f. nope (cc (begins p tr))) (λ u f. nope (cc (begins q tr′)))
       (k, c) (k′, on-line q tr′ k′ t (omega (arith, tr′ .size)))))
 

@@ -12,18 +12,18 @@ use Rattle.model.specs.Choke.{Point}
 use Rattle.flow.specs.Flow.{Graph}
 
 -- The point is the node of one of the calls: its cell at its deadline.
-abbrev pub liftIn : List Call → Point → Bool
-liftIn [] x = false
-liftIn (q ∷ qs) x = (eqb (q .cell) (x .cell) && eqb (q .deadline) (x .step)) || liftIn qs x
+abbrev pub targetIn : List Call → Point → Bool
+targetIn [] x = false
+targetIn (q ∷ qs) x = (eqb (q .cell) (x .cell) && eqb (q .deadline) (x .step)) || targetIn qs x
 
-abbrev pub isLift : Job → Point → Bool
-isLift j x = liftIn (j .calls) x
+abbrev pub isTarget : Job → Point → Bool
+isTarget j x = targetIn (j .calls) x
 
--- From x a cart could have come from y. Nothing comes from a call's node, where a cart is lifted.
+-- From x a cart could have come from y. Nothing comes from a call's node, where a cart is lifted or parked.
 pub record Earlier (j : Job) (x y : Point) : Type 0 where
   pub falls : x .step ≡ suc (y .step)
   pub moves : Step j (y .step) (y .cell) (x .cell)
-  pub leaves : isLift j y ≡ false
+  pub leaves : isTarget j y ≡ false
   pub in-time : x .step ≤ horizon j
   pub known : x .cell < j .cells
   pub known-before : y .cell < j .cells
@@ -31,6 +31,6 @@ pub record Earlier (j : Job) (x y : Point) : Type 0 where
 abbrev pub graph : Job → Graph Point
 graph j = record {
   Edge = λ x y. Earlier j x y;
-  Start = λ x. isLift j x ≡ true;
+  Start = λ x. isTarget j x ≡ true;
   Goal = λ x. (x .step ≡ 0) × In (x .cell) (j .carts);
 }

@@ -1,7 +1,7 @@
 -- The tests of `plan`, put together, are what makes paths a plan in the written order, both ways. Different numbers of paths stand for different
 -- carts: on one side because they do not share a cell at step 0, on the other because no cart has two paths. Assumes nothing.
 use Prim.Native.Nat.{ℕ, suc, _+_, _≤_, _<_}
-use mathlib.Core.Path.{_≡_, sym, ap, _∙_}
+use mathlib.Core.Path.{_≡_, refl, sym, ap, _∙_}
 use mathlib.Core.List.{List, map}
 use mathlib.Core.Logic.{inl, inr, ⊎-elim}
 use mathlib.Core.Bool.{true}
@@ -10,8 +10,8 @@ use native.Mathlib.Numerals.{add-one}
 use lib.ListN.{length, getD}
 use Rattle.model.specs.Lists.{In, NoDup}
 use Rattle.model.specs.Limits.{maxCells, maxSteps}
-use Rattle.model.specs.Job.{track, call, cartCell, callOf, horizon}
-use Rattle.model.specs.Walk.{Step}
+use Rattle.model.specs.Job.{track, cartCell, callOf, horizon}
+use Rattle.model.specs.Walk.{Move, Step}
 use Rattle.model.specs.Plan.{Path, Leads, Plan, Before, PlanInOrder, Share, Trade}
 use Rattle.model.specs.Ready.{Ready}
 use Rattle.model.specs.ReadSheet.{knownPath}
@@ -19,13 +19,14 @@ use Rattle.model.specs.Contracts.{RightPlan}
 use Rattle.model.proofs.Decide.{dec-eq, dec-le}
 use Rattle.model.proofs.Lists.{place-of, rising-of, rising-at}
 use Rattle.model.proofs.Decisions.{track-eq, track-parts}
-use Rattle.job.specs.Arrays.{jobOf}
+use Rattle.job.specs.Arrays.{callAt, jobOf}
 use Rattle.job.specs.declared.state.Job.{Job}
 use Rattle.job.specs.Held.{pathAt, pathsTo}
 use Rattle.job.proofs.Triangle.{pair-back}
-use Rattle.planjudge.specs.PlanTests.{cellOf, Fits, PairIn, Ordered, Marks, Goes, AllLed, Unshared, Untraded, Clear}
+use Rattle.planjudge.specs.PlanTests.{cellOf, Fits, PairIn, Ordered, Marks, Goes, Allowed, AllLed, Unshared, Untraded, Clear}
 use Rattle.job.proofs.Arrays.{Whole, calls-count, carts-count, call-at, cart-at, in-tracks, deadline-by}
-use Rattle.job.proofs.Rows.{paths-length, path-at, in-paths, paths-in}
+use Rattle.job.proofs.UpTo.{up-count, up-at, in-up}
+use Rattle.floor.specs.Tables.{Shut}
 use Rattle.planjudge.proofs.PlanLaws.{Ranged, known-ranged, nodup-of, cell-at, cells-count}
 use Rattle.planjudge.proofs.PlanSteps.{other-call}
 
@@ -48,16 +49,16 @@ module _ {s : Job} {carts calls lasts rows : List ℕ} (g : Given s carts calls 
   size = calls-count s (g .full)
 
   in-plan : (k : ℕ) → k < s .calls → In (P k) Ps
-  in-plan k h = in-paths carts calls lasts rows (length (jobOf s .calls)) k (omega (arith, size))
+  in-plan k h = in-up P (length (jobOf s .calls)) (P k) .1 (k, omega (arith, size), refl)
 
   plan-in : (p : Path) → In p Ps → (k : ℕ) × (k < s .calls) × (p ≡ P k)
-  plan-in p h = let (k, l, e) = paths-in carts calls lasts rows (length (jobOf s .calls)) p h in (k, omega (arith, size), e)
+  plan-in p h = let (k, l, e) = in-up P (length (jobOf s .calls)) p .0 h in (k, omega (arith, size), e)
 
   plan-length : length Ps ≡ s .calls
-  plan-length = paths-length carts calls lasts rows (length (jobOf s .calls)) ∙ size
+  plan-length = up-count P (length (jobOf s .calls)) ∙ size
 
   plan-at : (k : ℕ) → k < s .calls → getD Ps k (P 0) ≡ P k
-  plan-at k h = path-at carts calls lasts rows (length (jobOf s .calls)) k (P 0) (omega (arith, size))
+  plan-at k h = up-at P (length (jobOf s .calls)) k (P 0) (omega (arith, size))
 
   -- No two paths have one number, by the numbers of the paths.
   module _ (f : Path → ℕ) where
@@ -98,28 +99,28 @@ module _ {s : Job} {carts calls lasts rows : List ℕ} (g : Given s carts calls 
   small k t h l = omega (arith, ranged k h .cells t (omega (arith, long k h)), at k t h l, g .ready .fit .few-cells)
 
   -- Order.
-  call-is : (k : ℕ) → k < s .calls → callOf (jobOf s) (getD calls k 0) ≡ call (getD (s .lifts) (getD calls k 0) 0) (getD (s .deadlines) (getD calls k 0) 0)
+  call-is : (k : ℕ) → k < s .calls → callOf (jobOf s) (getD calls k 0) ≡ callAt (s .kinds) (s .targets) (s .deadlines) (getD calls k 0)
   call-is k h = call-at s (g .full) (getD calls k 0) (known-call k h)
 
-  in-order : Ordered (s .lifts) (s .deadlines) calls (s .calls) → PlanInOrder (jobOf s) Ps
+  in-order : Ordered (s .targets) (s .deadlines) calls (s .calls) → PlanInOrder (jobOf s) Ps
   in-order o = rising-of (P 0) (Before (jobOf s)) Ps (λ k h.
       let a : k < s .calls = omega (arith, plan-length) in
       let b : suc k < s .calls = omega (arith, plan-length) in
       rw (plan-at k a, plan-at (suc k) b, call-is k a, call-is (suc k) b) (rw add-one at (o k (omega arith))))
 
-  pub right-ordered : PlanInOrder (jobOf s) Ps → Ordered (s .lifts) (s .deadlines) calls (s .calls)
+  pub right-ordered : PlanInOrder (jobOf s) Ps → Ordered (s .targets) (s .deadlines) calls (s .calls)
   right-ordered r k h =
       let a : k < s .calls = omega arith in
       let b : suc k < s .calls = omega arith in
       rw add-one (rw (plan-at k a, plan-at (suc k) b, call-is k a, call-is (suc k) b) at (rising-at (P 0) (Before (jobOf s)) Ps r k (omega (arith, plan-length))))
 
-  own-call : Ordered (s .lifts) (s .deadlines) calls (s .calls) → (i k : ℕ) → i < s .calls → k < s .calls → getD calls i 0 ≡ getD calls k 0 → i ≡ k
+  own-call : Ordered (s .targets) (s .deadlines) calls (s .calls) → (i k : ℕ) → i < s .calls → k < s .calls → getD calls i 0 ≡ getD calls k 0 → i ≡ k
   own-call o i k a b e = go (dec-le i k) (dec-le k i)
     where
       go : Dec (i ≤ k) → Dec (k ≤ i) → i ≡ k
       go (yes l) (yes m) = omega arith
-      go (yes l) (no m) = absurd (other-call (s .lifts) (s .deadlines) calls (s .calls) o i k (omega arith) b e)
-      go (no l) m = absurd (other-call (s .lifts) (s .deadlines) calls (s .calls) o k i (omega arith) a (sym e))
+      go (yes l) (no m) = absurd (other-call (s .targets) (s .deadlines) calls (s .calls) o i k (omega arith) b e)
+      go (no l) m = absurd (other-call (s .targets) (s .deadlines) calls (s .calls) o k i (omega arith) a (sym e))
 
   -- No two paths in one place.
   pub plan-clear : Plan (jobOf s) Ps → (t : ℕ) → Clear lasts rows (s .calls) t
@@ -147,33 +148,49 @@ module _ {s : Job} {carts calls lasts rows : List ℕ} (g : Given s carts calls 
   listed-track : (u v : ℕ) → PairIn (s .from) (s .to) (s .tracks) u v → In (track u v) (jobOf s .tracks)
   listed-track u v (i, l, e, f) = in-tracks s (g .full) (track u v) .1 (i, l, track-eq (sym e, sym f))
 
-  module _ {table : List ℕ} (marks : Marks (s .from) (s .to) (s .tracks) table) where
-    goes : (t u v : ℕ) → u < maxCells → v < maxCells → Step (jobOf s) t u v → Goes table u v
-    goes t u v a b (inl e) = inl e
-    goes t u v a b (inr (inl x)) = inr (marks .all u v a b (track-listed u v x))
-    goes t u v a b (inr (inr x)) = inr (rw (pair-back u v) (marks .all v u b a (track-listed v u x)))
+  module _ {table shut : List ℕ} (marks : Marks (s .from) (s .to) (s .tracks) table) (shuts : Shut (jobOf s) shut) where
+    goes : (u v : ℕ) → u < maxCells → v < maxCells → Move (jobOf s) u v → Goes table u v
+    goes u v a b (inl e) = inl e
+    goes u v a b (inr (inl x)) = inr (marks .all u v a b (track-listed u v x))
+    goes u v a b (inr (inr x)) = inr (rw (pair-back u v) (marks .all v u b a (track-listed v u x)))
 
-    step : (t u v : ℕ) → u < maxCells → v < maxCells → Goes table u v → Step (jobOf s) t u v
-    step t u v a b (inl e) = inl e
-    step t u v a b (inr x) = inr (⊎-elim (λ l. inl (listed-track u v l)) (λ l. inr (listed-track v u l)) (marks .only u v a b x))
+    move : (u v : ℕ) → u < maxCells → v < maxCells → Goes table u v → Move (jobOf s) u v
+    move u v a b (inl e) = inl e
+    move u v a b (inr x) = inr (⊎-elim (λ l. inl (listed-track u v l)) (λ l. inr (listed-track v u l)) (marks .only u v a b x))
+
+    -- A step of path k, by the job and by the tables.
+    module _ (k t : ℕ) (h : k < s .calls) (b : t < getD lasts k 0) where
+      here : cellOf rows k t < maxCells
+      here = small k t h (omega arith)
+
+      next : cellOf rows k (t + 1) < maxCells
+      next = small k (t + 1) h (omega arith)
+
+      early : suc t ≤ maxSteps
+      early = omega (arith, g .bytes k)
+
+      allowed : Step (jobOf s) t (cellOf rows k t) (cellOf rows k (t + 1)) → Allowed table shut t (cellOf rows k t) (cellOf rows k (t + 1))
+      allowed (m, o) = (goes _ _ here next m, omega (arith, shuts .opens _ (suc t) next early .1 o))
+
+      step : Allowed table shut t (cellOf rows k t) (cellOf rows k (t + 1)) → Step (jobOf s) t (cellOf rows k t) (cellOf rows k (t + 1))
+      step (x, l) = (move _ _ here next x, shuts .opens _ (suc t) next early .0 (omega arith))
 
     start : (k : ℕ) → k < s .calls → cartCell (jobOf s) (getD carts k 0) ≡ getD (s .starts) (getD carts k 0) 0
     start k h = cart-at s (g .full) (getD carts k 0) (known-cart k h)
 
-    lift : (k : ℕ) → k < s .calls → callOf (jobOf s) (getD calls k 0) .cell ≡ getD (s .lifts) (getD calls k 0) 0
-    lift k h = ap (λ q. q .cell) (call-is k h)
+    target : (k : ℕ) → k < s .calls → callOf (jobOf s) (getD calls k 0) .cell ≡ getD (s .targets) (getD calls k 0) 0
+    target k h = ap (λ q. q .cell) (call-is k h)
 
     abbrev All : Type 0
-    All = AllLed table rows lasts carts (s .starts) calls (s .lifts) (s .calls)
+    All = AllLed table shut rows lasts carts (s .starts) calls (s .targets) (s .calls)
 
     pub plan-led : ((p : Path) → In p Ps → Leads (jobOf s) p) → All
     plan-led f k h =
         let l = f (P k) (in-plan k h) in
         record {
           starts = sym (at k 0 h (omega arith)) ∙ l .walks .starts .1 ∙ start k h;
-          walks = λ t b. goes t (cellOf rows k t) (cellOf rows k (t + 1)) (small k t h (omega arith)) (small k (t + 1) h (omega arith))
-              (rw (at k t h (omega arith), next-at k t h b) at (l .walks .steps t (omega (arith, long k h))));
-          ends = sym (end-at k h) ∙ l .serves .ends ∙ lift k h;
+          walks = λ t b. allowed k t h b (rw (at k t h (omega arith), next-at k t h b) at (l .walks .steps t (omega (arith, long k h))));
+          ends = sym (end-at k h) ∙ l .serves .ends ∙ target k h;
         }
 
     leads : All → (k : ℕ) → k < s .calls → Leads (jobOf s) (P k)
@@ -184,11 +201,11 @@ module _ {s : Job} {carts calls lasts rows : List ℕ} (g : Given s carts calls 
         starts = (omega (arith, long k h), at k 0 h (omega arith) ∙ f k h .starts ∙ sym (start k h));
         steps = λ t l.
             let b : t < getD lasts k 0 = omega (arith, long k h) in
-            rw (at k t h (omega arith), next-at k t h b) (step t (cellOf rows k t) (cellOf rows k (t + 1)) (small k t h (omega arith)) (small k (t + 1) h (omega arith)) (f k h .walks t b));
+            rw (at k t h (omega arith), next-at k t h b) (step k t h b (f k h .walks t b));
       };
       serves = record {
         size = ranged k h .size;
-        ends = end-at k h ∙ f k h .ends ∙ sym (lift k h);
+        ends = end-at k h ∙ f k h .ends ∙ sym (target k h);
       };
     }
 
@@ -234,10 +251,10 @@ module _ {s : Job} {carts calls lasts rows : List ℕ} (g : Given s carts calls 
       own-cart f i k a b e =
           clear 0 (omega arith) .0 i k a b (omega arith) (omega arith) (f i a .starts ∙ ap (λ c. getD (s .starts) c 0) e ∙ sym (f k b .starts))
 
-      pub tests-right : Ordered (s .lifts) (s .deadlines) calls (s .calls) → All → RightPlan (jobOf s) Ps
+      pub tests-right : Ordered (s .targets) (s .deadlines) calls (s .calls) → All → RightPlan (jobOf s) Ps
       tests-right o f = (
         record {
-          size = paths-length carts calls lasts rows (length (jobOf s .calls));
+          size = up-count P (length (jobOf s .calls));
           leads = λ p i. let (k, a, e) = plan-in p i in rw e (leads f k a);
           own-call = own-of (λ p. p .call) (own-call o);
           own-cart = own-of (λ p. p .cart) (own-cart f);

@@ -22,9 +22,9 @@ pub at-both : (F : ℕ → ℕ → Type 0) {x y p q : ℕ} → x ≡ p → y ≡
 at-both F e f h = rw (e, f) at h
 
 -- Order.
-module _ (lifts deadlines calls : List ℕ) where
+module _ (targets deadlines calls : List ℕ) where
   abbrev PathBefore : ℕ → ℕ → Type 0
-  PathBefore k m = SoonerIn lifts deadlines (getD calls k 0) (getD calls m 0)
+  PathBefore k m = SoonerIn targets deadlines (getD calls k 0) (getD calls m 0)
 
   path-before-next : (k m l : ℕ) → PathBefore k m → PathBefore m l → PathBefore k l
   path-before-next k m l (inl a) (inl b) = inl (omega arith)
@@ -32,7 +32,7 @@ module _ (lifts deadlines calls : List ℕ) where
   path-before-next k m l (inr a) (inl b) = inl (omega arith)
   path-before-next k m l (inr a) (inr b) = inr (omega arith, omega arith)
 
-  path-before-all : (n : ℕ) → Ordered lifts deadlines calls n → (m k : ℕ) → k < m → m < n → PathBefore k m
+  path-before-all : (n : ℕ) → Ordered targets deadlines calls n → (m k : ℕ) → k < m → m < n → PathBefore k m
   path-before-all n o zero k h l = absurd (omega arith)
   path-before-all n o (suc m) k h l = go (dec-eq k m) (λ h′. path-before-all n o m k h′ (omega arith))
     where
@@ -44,7 +44,7 @@ module _ (lifts deadlines calls : List ℕ) where
       go (no n) f = path-before-next k m (suc m) (f (omega arith)) next
 
   -- no call is twice
-  pub other-call : (n : ℕ) → Ordered lifts deadlines calls n → (i k : ℕ) → i < k → k < n → getD calls i 0 ≡ getD calls k 0 → ⊥
+  pub other-call : (n : ℕ) → Ordered targets deadlines calls n → (i k : ℕ) → i < k → k < n → getD calls i 0 ≡ getD calls k 0 → ⊥
   other-call n o i k a b e = go (path-before-all n o k i a b)
     where
       go : PathBefore i k → ⊥

@@ -25,7 +25,7 @@ Below numbers n = (k : ℕ) → k < n → getD numbers k 0 < maxCalls
 
 -- Each of the first n paths' calls stands before the next.
 abbrev pub Ordered : List ℕ → List ℕ → List ℕ → ℕ → Type 0
-Ordered lifts deadlines calls n = (k : ℕ) → k + 1 < n → SoonerIn lifts deadlines (getD calls k 0) (getD calls (k + 1) 0)
+Ordered targets deadlines calls n = (k : ℕ) → k + 1 < n → SoonerIn targets deadlines (getD calls k 0) (getD calls (k + 1) 0)
 
 -- One of the first n pairs of the two lists is u and v.
 abbrev pub PairIn : List ℕ → List ℕ → ℕ → ℕ → ℕ → Type 0
@@ -40,20 +40,24 @@ pub record Marks (from to : List ℕ) (n : ℕ) (table : List ℕ) : Type 0 wher
 abbrev pub Goes : List ℕ → ℕ → ℕ → Type 0
 Goes table u v = (u ≡ v) ⊎ (bitAt table (pairAt u v) ≡ true)
 
--- By the table, path k walks up to the step d.
-abbrev pub Walks : List ℕ → List ℕ → ℕ → ℕ → Type 0
-Walks table rows k d = (t : ℕ) → t < d → Goes table (cellOf rows k t) (cellOf rows k (t + 1))
+-- By the tables, it may do so from the step t to the next: `shut` has for each cell the first step at which it is closed.
+abbrev pub Allowed : List ℕ → List ℕ → ℕ → ℕ → ℕ → Type 0
+Allowed table shut t u v = Goes table u v × (t + 1 < getD shut v 0)
+
+-- By the tables, path k walks up to the step d.
+abbrev pub Walks : List ℕ → List ℕ → List ℕ → ℕ → ℕ → Type 0
+Walks table shut rows k d = (t : ℕ) → t < d → Allowed table shut t (cellOf rows k t) (cellOf rows k (t + 1))
 
 -- Path k walks from the cell a to the cell b, on which it is at the step d.
-pub record Led (table rows : List ℕ) (k d a b : ℕ) : Type 0 where
+pub record Led (table shut rows : List ℕ) (k d a b : ℕ) : Type 0 where
   pub starts : cellOf rows k 0 ≡ a
-  pub walks : Walks table rows k d
+  pub walks : Walks table shut rows k d
   pub ends : cellOf rows k d ≡ b
 
--- Each of the first n paths goes from its cart's start to its call's lift cell.
-abbrev pub AllLed : List ℕ → List ℕ → List ℕ → List ℕ → List ℕ → List ℕ → List ℕ → ℕ → Type 0
-AllLed table rows lasts carts starts calls lifts n =
-    (k : ℕ) → k < n → Led table rows k (getD lasts k 0) (getD starts (getD carts k 0) 0) (getD lifts (getD calls k 0) 0)
+-- Each of the first n paths goes from its cart's start to its call's target cell.
+abbrev pub AllLed : List ℕ → List ℕ → List ℕ → List ℕ → List ℕ → List ℕ → List ℕ → List ℕ → ℕ → Type 0
+AllLed table shut rows lasts carts starts calls targets n =
+    (k : ℕ) → k < n → Led table shut rows k (getD lasts k 0) (getD starts (getD carts k 0) 0) (getD targets (getD calls k 0) 0)
 
 -- No two of the first n paths share a cell at the step t.
 abbrev pub Unshared : List ℕ → List ℕ → ℕ → ℕ → Type 0

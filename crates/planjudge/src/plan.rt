@@ -18,7 +18,7 @@ ghost use Rattle.model.specs.Contracts.{RightPlan};
 ghost use Rattle.job.specs.Bits.{bitAt, pairsBelow};
 ghost use Rattle.job.specs.Arrays.{jobOf, Sized};
 ghost use Rattle.job.specs.Held.{Room, pathsTo, Decides};
-ghost use Rattle.planjudge.specs.PlanTests.{cellOf, Fits, Below, Ordered, Marks, Goes, Walks, Led, AllLed, Unshared, Trades, Untraded, Clear, Standing};
+ghost use Rattle.planjudge.specs.PlanTests.{cellOf, Fits, Below, Ordered, Marks, Goes, Allowed, Walks, Led, AllLed, Unshared, Trades, Untraded, Clear, Standing};
 
 // In the place of a path's number: no path.
 const NONE: u8 = Limits::CALLS as u8;
@@ -36,17 +36,17 @@ fn cell(rows: &[u8], k: usize, t: usize) -> usize
 
 // Whether the calls of the first n paths are in order, each before the next.
 fn in_order<'a>(
-    lifts: &'a [u8; Limits::CALLS],
+    targets: &'a [u8; Limits::CALLS],
     deadlines: &'a [u8; Limits::CALLS],
     calls: &[u8],
     n: usize,
 ) -> bool
     requires { ⌜ (length (now calls) ≡ maxCalls) × (n ≤ maxCalls) × Below (now calls) n ⌝ }
-    ensures { λ r. ⌜ Decides r (Ordered (now (lifts .entry)) (now (deadlines .entry)) (now (calls .entry)) n) ⌝ }
+    ensures { λ r. ⌜ Decides r (Ordered (now (targets .entry)) (now (deadlines .entry)) (now (calls .entry)) n) ⌝ }
 {
     let mut k = 0;
     while k + 1 < n {
-        if !sooner(lifts, deadlines, wide(calls[k]), wide(calls[k + 1])) {
+        if !sooner(targets, deadlines, wide(calls[k]), wide(calls[k + 1])) {
             return false;
         }
         k += 1;
@@ -84,14 +84,38 @@ fn goes(table: &[u8; PAIRS / 8], u: usize, v: usize) -> bool
     bits::has(table, pair(u, v))
 }
 
+// Whether it may do so from the step t to the next: v must not be closed then.
+fn allowed(
+    table: &[u8; PAIRS / 8],
+    shut: &[u16; Limits::CELLS],
+    t: usize,
+    u: usize,
+    v: usize,
+) -> bool
+    requires { ⌜ (t < maxSteps) × (u < maxCells) × (v < maxCells) ⌝ }
+    ensures { λ r. ⌜ Decides r (Allowed (now (table .entry)) (now (shut .entry)) t u v) ⌝ }
+{
+    if !goes(table, u, v) {
+        return false;
+    }
+    let next = (t + 1) as u16;
+    next < shut[v]
+}
+
 // Whether path k is a walk up to the step d.
-fn walks(table: &[u8; PAIRS / 8], rows: &[u8], k: usize, d: usize) -> bool
+fn walks(
+    table: &[u8; PAIRS / 8],
+    shut: &[u16; Limits::CELLS],
+    rows: &[u8],
+    k: usize,
+    d: usize,
+) -> bool
     requires { ⌜ (length (now rows) ≡ maxCalls * maxSteps) × (k < maxCalls) × (d < maxSteps) ⌝ }
-    ensures { λ r. ⌜ Decides r (Walks (now (table .entry)) (now (rows .entry)) k d) ⌝ }
+    ensures { λ r. ⌜ Decides r (Walks (now (table .entry)) (now (shut .entry)) (now (rows .entry)) k d) ⌝ }
 {
     let mut t = 0;
     while t < d {
-        if !goes(table, cell(rows, k, t), cell(rows, k, t + 1)) {
+        if !allowed(table, shut, t, cell(rows, k, t), cell(rows, k, t + 1)) {
             return false;
         }
         t += 1;
@@ -100,9 +124,17 @@ fn walks(table: &[u8; PAIRS / 8], rows: &[u8], k: usize, d: usize) -> bool
 }
 
 // Whether path k is a walk from the cell a to the cell b, and there at the step d.
-fn leads(table: &[u8; PAIRS / 8], rows: &[u8], k: usize, d: usize, a: usize, b: usize) -> bool
+fn leads(
+    table: &[u8; PAIRS / 8],
+    shut: &[u16; Limits::CELLS],
+    rows: &[u8],
+    k: usize,
+    d: usize,
+    a: usize,
+    b: usize,
+) -> bool
     requires { ⌜ (length (now rows) ≡ maxCalls * maxSteps) × (k < maxCalls) × (d < maxSteps) ⌝ }
-    ensures { λ r. ⌜ Decides r (Led (now (table .entry)) (now (rows .entry)) k d a b) ⌝ }
+    ensures { λ r. ⌜ Decides r (Led (now (table .entry)) (now (shut .entry)) (now (rows .entry)) k d a b) ⌝ }
 {
     if cell(rows, k, 0) != a {
         return false;
@@ -110,22 +142,23 @@ fn leads(table: &[u8; PAIRS / 8], rows: &[u8], k: usize, d: usize, a: usize, b: 
     if cell(rows, k, d) != b {
         return false;
     }
-    walks(table, rows, k, d)
+    walks(table, shut, rows, k, d)
 }
 
 // Whether each of the first n paths leads from its cart to its call.
 fn all_lead<'a>(
     table: &[u8; PAIRS / 8],
+    shut: &[u16; Limits::CELLS],
     rows: &[u8],
     lasts: &[u8],
     carts: &[u8],
     starts: &'a [u8; Limits::CARTS],
     calls: &[u8],
-    lifts: &'a [u8; Limits::CALLS],
+    targets: &'a [u8; Limits::CALLS],
     n: usize,
 ) -> bool
     requires { ⌜ Fits (now lasts) (now rows) n × (length (now carts) ≡ maxCalls) × (length (now calls) ≡ maxCalls) × Below (now carts) n × Below (now calls) n ⌝ }
-    ensures { λ r. ⌜ Decides r (AllLed (now (table .entry)) (now (rows .entry)) (now (lasts .entry)) (now (carts .entry)) (now (starts .entry)) (now (calls .entry)) (now (lifts .entry)) n) ⌝ }
+    ensures { λ r. ⌜ Decides r (AllLed (now (table .entry)) (now (shut .entry)) (now (rows .entry)) (now (lasts .entry)) (now (carts .entry)) (now (starts .entry)) (now (calls .entry)) (now (targets .entry)) n) ⌝ }
 {
     let mut k = 0;
     while k < n {
@@ -133,11 +166,12 @@ fn all_lead<'a>(
         let call = wide(calls[k]);
         if !leads(
             table,
+            shut,
             rows,
             k,
             wide(lasts[k]),
             wide(starts[cart]),
-            wide(lifts[call]),
+            wide(targets[call]),
         ) {
             return false;
         }
@@ -232,19 +266,22 @@ pub fn is_plan(job: Job, carts: &[u8], calls: &[u8], lasts: &[u8], rows: &[u8]) 
     ensures { λ r. ⌜ Decides r (RightPlan (jobOf job) (pathsTo (now (carts .entry)) (now (calls .entry)) (now (lasts .entry)) (now (rows .entry)) (length (jobOf job .calls)))) ⌝ }
 {
     let n = job.calls;
-    if !in_order(&job.lifts, &job.deadlines, calls, n) {
+    if !in_order(&job.targets, &job.deadlines, calls, n) {
         return false;
     }
     let mut table = [0u8; PAIRS / 8];
     mark(&job.from, &job.to, job.tracks, &mut table);
+    let mut shut = [0u16; Limits::CELLS];
+    floor::tables::bays(&job.kinds, &job.targets, &job.deadlines, n, &mut shut);
     if !all_lead(
         &table,
+        &shut,
         rows,
         lasts,
         carts,
         &job.starts,
         calls,
-        &job.lifts,
+        &job.targets,
         n,
     ) {
         return false;

@@ -12,7 +12,7 @@ use lib.ListN.{length, getD, take}
 use lib.Seq.{length-take-le, getD-take}
 use Rattle.model.specs.Limits.{maxCells, maxCalls}
 use Rattle.model.specs.Lists.{In, NoDup}
-use Rattle.model.specs.Job.{Job, Call, call, callOf}
+use Rattle.model.specs.Job.{Job, Call, lift, call, callOf}
 use Rattle.model.specs.Choke.{Point, point, Known}
 use Rattle.model.proofs.Basics.{nope}
 use Rattle.model.proofs.Decide.{dec-lt}
@@ -23,11 +23,11 @@ use Rattle.floor.specs.Tables.{Rows}
 use Rattle.flow.specs.Flow.{Link, off, end}
 use Rattle.flow.proofs.Flow.{empty-flow, flow-same}
 use Rattle.network.specs.declared.planes.Grid.{Grid}
-use Rattle.network.specs.Graph.{isLift}
+use Rattle.network.specs.Graph.{isTarget}
 use Rattle.network.specs.Store.{nodes, gridOf, idx, usedAt, markAt, isUsed}
 use Rattle.network.specs.Links.{backLink, onLink}
 use Rattle.network.specs.Holds.{Holds}
-use Rattle.network.proofs.ChokeLifts.{nodeOf, in-lift, by-horizon}
+use Rattle.network.proofs.ChokeTargets.{nodeOf, in-target, by-horizon}
 use Rattle.network.proofs.NodeBytes.{link-off, link-end, used-byte, used-known}
 use Rattle.network.proofs.Points.{point-cell}
 use Rattle.network.proofs.StoreBytes.{idx-below}
@@ -58,8 +58,8 @@ pub record SoFar (j : Job) (order s : List ℕ) (g : Grid) (i stamp : ℕ) : Typ
 not-end : (l : Link Point) → l ≡ off → l ≡ end → ⊥
 not-end l e f = nope (cc)
 
-module _ {j : Job} {lifts deadlines : List ℕ} {calls : ℕ} {near begin due cartOn order s₀ : List ℕ} {g : Grid}
-    (b : Begun j lifts deadlines calls near begin due cartOn order s₀ g) where
+module _ {j : Job} {targets deadlines : List ℕ} {calls : ℕ} {near begin due shut cartOn order s₀ : List ℕ} {g : Grid}
+    (b : Begun j targets deadlines calls near begin due shut cartOn order s₀ g) where
   abbrev n : ℕ
   n = length (j .calls)
 
@@ -132,28 +132,28 @@ module _ {j : Job} {lifts deadlines : List ℕ} {calls : ℕ} {near begin due ca
     call-known = omega (arith, is-call, b .listed .counted)
 
     listed : In (callOf j q) (j .calls)
-    listed = in-getD (j .calls) q (call 0 0) is-call
+    listed = in-getD (j .calls) q (call lift 0 0) is-call
 
     -- It is none of those before it: they have other numbers, so other cells.
     later : Among j order i (orderNode j order i) → ⊥
     later (m, l, e) =
         let h : m < n = omega (arith, b .listed .counted) in
-        let f : getD order m 0 ≡ q = place-of (λ (c : Call). c .cell) (j .calls) (b .ready .fit .own-lifts) (getD order m 0) q (call 0 0) (b .ordered .known m h) is-call (sym (point-cell e)) in
+        let f : getD order m 0 ≡ q = place-of (λ (c : Call). c .cell) (j .calls) (b .ready .fit .own-targets) (getD order m 0) q (call lift 0 0) (b .ordered .known m h) is-call (sym (point-cell e)) in
         omega (arith, different m i h (omega (arith, b .listed .counted)) f)
 
-    -- The code has its number, lift cell and deadline in locals.
-    module _ {u p d : ℕ} (number : u ≡ getD order i 0) (lift : p ≡ getD lifts u 0) (deadline : d ≡ getD deadlines u 0) where
+    -- The code has its number, cell and deadline in locals.
+    module _ {u p d : ℕ} (number : u ≡ getD order i 0) (target : p ≡ getD targets u 0) (deadline : d ≡ getD deadlines u 0) where
       abbrev x : Point
       x = point p d
 
       here : x ≡ orderNode j order i
-      here = node-read (b .listed) call-known number lift deadline
+      here = node-read (b .listed) call-known number target deadline
 
       known : Known j x
       known = subst (Known j) (sym here) (b .ready .fit .known-calls (callOf j q) listed .0, by-horizon (j .calls) (callOf j q) listed)
 
-      is-lift : isLift j x ≡ true
-      is-lift = ap (isLift j) here ∙ in-lift (j .calls) (callOf j q) listed
+      is-target : isTarget j x ≡ true
+      is-target = ap (isTarget j) here ∙ in-target (j .calls) (callOf j q) listed
 
       pub call-cell : p < g .cells
       call-cell = rw (b .grid) (known .0)
@@ -164,12 +164,12 @@ module _ {j : Job} {lifts deadlines : List ℕ} {calls : ℕ} {near begin due ca
           where
             go : (u : Bool) → isUsed j s x ≡ u → backLink j s x ≡ off
             go false e = link-off (isUsed j s x) _ e
-            go true e = let a : Among j order i x = v .served x .0 (link-end (isUsed j s x) (isLift j x) _ e is-lift) in absurd (later (rw here at a))
+            go true e = let a : Among j order i x = v .served x .0 (link-end (isUsed j s x) (isTarget j x) _ e is-target) in absurd (later (rw here at a))
 
         -- Its search may start.
-        pub call-serving : {hint : List ℕ} → length hint ≡ maxCells → Serving j near begin due cartOn hint s g (point p d) stamp (eqb i 0)
+        pub call-serving : {hint : List ℕ} → length hint ≡ maxCells → Serving j near begin due shut cartOn hint s g (point p d) stamp (eqb i 0)
         call-serving h = record {
-          search = record { tables = b .tables; holds = v .holds; hints = h; known = known; lift = is-lift; idle = free };
+          search = record { tables = b .tables; holds = v .holds; hints = h; known = known; target = is-target; idle = free };
           small = omega (arith, v .high, few);
           marks = v .marks;
           clean = λ e. v .fresh (eqb-true i 0 e);
@@ -201,6 +201,6 @@ module _ {j : Job} {lifts deadlines : List ℕ} {calls : ℕ} {near begin due ca
 
   pub all-served : {s : List ℕ} {stamp i : ℕ} → i ≡ calls → SoFar j order s g i stamp → ServedAll j s (Yes stamp)
   all-served e v c h =
-      let (k, l, f) = in-place c (j .calls) (call 0 0) h in
+      let (k, l, f) = in-place c (j .calls) (call lift 0 0) h in
       let (m, d, a) = each k l in
       v .served (nodeOf c) .1 (m, omega (arith, b .listed .counted), ap nodeOf (f ∙ ap (callOf j) (sym a)))

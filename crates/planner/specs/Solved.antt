@@ -31,10 +31,10 @@ pub record Wiped (j : Job) (order s : List ℕ) (g : Grid) : Type 0 where
   pub blank : Blank g s
 
 -- The arrays, the tables and the order are the job's. The store has room for it, and no node is used or marked.
-pub record Begun (j : Job) (lifts deadlines : List ℕ) (calls : ℕ) (near begin due cartOn order s : List ℕ) (g : Grid) : Type 0 where
+pub record Begun (j : Job) (targets deadlines : List ℕ) (calls : ℕ) (near begin due shut cartOn order s : List ℕ) (g : Grid) : Type 0 where
   pub ready : Ready j
-  pub listed : Calls j lifts deadlines calls
-  pub tables : Tables j near begin due cartOn
+  pub listed : Calls j targets deadlines calls
+  pub tables : Tables j near begin due shut cartOn
   pub ordered : Order j order
   pub grid : g ≡ gridOf j
   pub room : Spacious g s

@@ -26,37 +26,46 @@ pub enum Solution {
 }
 
 // The tables of the job's floor.
-fn fill_tables(job: Job, near: &mut [u8], begin: &mut [u16], due: &mut [u16], cart_on: &mut [u8])
-    requires { ⌜ Ready (jobOf job) × Sized job × (length (now near) ≡ nearSize) × (length (now begin) ≡ maxCells + 1) × (length (now due) ≡ maxCells) × (length (now «cart_on») ≡ maxCells) ⌝ }
-    ensures { λ _. ⌜ Tables (jobOf job) (now (near .exit)) (now (begin .exit)) (now (due .exit)) (now («cart_on» .exit)) ⌝ }
+fn fill_tables(
+    job: Job,
+    near: &mut [u8],
+    begin: &mut [u16],
+    due: &mut [u16],
+    shut: &mut [u16],
+    cart_on: &mut [u8],
+)
+    requires { ⌜ Ready (jobOf job) × Sized job × (length (now near) ≡ nearSize) × (length (now begin) ≡ maxCells + 1) × (length (now due) ≡ maxCells) × (length (now shut) ≡ maxCells) × (length (now «cart_on») ≡ maxCells) ⌝ }
+    ensures { λ _. ⌜ Tables (jobOf job) (now (near .exit)) (now (begin .exit)) (now (due .exit)) (now (shut .exit)) (now («cart_on» .exit)) ⌝ }
 {
     floor::tables::neighbours(&job.from, &job.to, job.tracks, job.cells, near, begin);
-    floor::tables::deadlines(&job.lifts, &job.deadlines, job.calls, due);
+    floor::tables::deadlines(&job.targets, &job.deadlines, job.calls, due);
+    floor::tables::bays(&job.kinds, &job.targets, &job.deadlines, job.calls, shut);
     floor::tables::carts(&job.starts, job.carts, cart_on);
 }
 
 // Serves the calls in their order, until one cannot be. No node is used or marked at the start.
 fn serve_all<'a>(
-    lifts: &'a [u8; Limits::CALLS],
+    targets: &'a [u8; Limits::CALLS],
     deadlines: &'a [u8; Limits::CALLS],
     calls: usize,
     near: &[u8],
     begin: &[u16],
     due: &[u16],
+    shut: &[u16],
     cart_on: &[u8],
     order: &[u8],
     store: &mut [u8],
     grid: Grid,
 ) -> Served
-    requires { ⌜ ((j : model.Job) × Begun j (now lifts) (now deadlines) calls (now near) (now begin) (now due) (now «cart_on») (now order) (now store) grid) ⌝ }
-    ensures { λ r. ⌜ (length (now (store .exit)) ≡ length (now (store .entry))) × ((j : model.Job) → Begun j (now (lifts .entry)) (now (deadlines .entry)) calls (now (near .entry)) (now (begin .entry)) (now (due .entry)) (now («cart_on» .entry)) (now (order .entry)) (now (store .entry)) grid → Holds j grid (now (store .exit)) × ServedAll j (now (store .exit)) r) ⌝ }
+    requires { ⌜ ((j : model.Job) × Begun j (now targets) (now deadlines) calls (now near) (now begin) (now due) (now shut) (now «cart_on») (now order) (now store) grid) ⌝ }
+    ensures { λ r. ⌜ (length (now (store .exit)) ≡ length (now (store .entry))) × ((j : model.Job) → Begun j (now (targets .entry)) (now (deadlines .entry)) calls (now (near .entry)) (now (begin .entry)) (now (due .entry)) (now (shut .entry)) (now («cart_on» .entry)) (now (order .entry)) (now (store .entry)) grid → Holds j grid (now (store .exit)) × ServedAll j (now (store .exit)) r) ⌝ }
 {
     let mut hint = [0u8; Limits::CELLS];
     let mut stamp = 1u8;
     let mut i = 0;
     while i < calls {
         let q = wide(order[i]);
-        let cell = wide(lifts[q]);
+        let cell = wide(targets[q]);
         let step = wide(deadlines[q]);
         aim::aim(near, begin, cart_on, store, grid, cell, &mut hint);
         let fresh = i == 0;
@@ -65,6 +74,7 @@ fn serve_all<'a>(
             near,
             begin,
             due,
+            shut,
             cart_on,
             &hint,
             store,
@@ -90,14 +100,16 @@ fn serve_job(job: Job, cart_on: &mut [u8], order: &[u8], store: &mut [u8], grid:
     let mut near = [0u8; Limits::CELLS + 2 * Limits::TRACKS];
     let mut begin = [0u16; Limits::CELLS + 1];
     let mut due = [0u16; Limits::CELLS];
-    fill_tables(job, &mut near, &mut begin, &mut due, cart_on);
+    let mut shut = [0u16; Limits::CELLS];
+    fill_tables(job, &mut near, &mut begin, &mut due, &mut shut, cart_on);
     serve_all(
-        &job.lifts,
+        &job.targets,
         &job.deadlines,
         job.calls,
         &near,
         &begin,
         &due,
+        &shut,
         cart_on,
         order,
         store,
@@ -122,7 +134,7 @@ fn write_answer(
 {
     let Served::No(stamp) = served else {
         answer::paths::write_paths(
-            &job.lifts,
+            &job.targets,
             &job.deadlines,
             job.calls,
             cart_on,
@@ -136,7 +148,7 @@ fn write_answer(
         return Solution::Plan;
     };
     let points = answer::cut::list_chokes(
-        &job.lifts,
+        &job.targets,
         &job.deadlines,
         job.calls,
         store,
@@ -165,7 +177,7 @@ pub fn solve(
     let nodes = (last + 1) * cells;
     let grid = Grid { cells, nodes };
     wipe(store, grid);
-    floor::order::by_deadline(&job.lifts, &job.deadlines, job.calls, second);
+    floor::order::by_deadline(&job.targets, &job.deadlines, job.calls, second);
     let mut cart_on = [0u8; Limits::CELLS];
     let served = serve_job(job, &mut cart_on, second, store, grid);
     write_answer(

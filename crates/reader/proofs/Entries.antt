@@ -13,8 +13,8 @@ use lib.Seq.{take-all}
 use borrow.Author.Tests.{ltb-true, ltb-false, eq-eqb, ne-eqb}
 use Rattle.model.specs.declared.answer.Answer.the-variants.{BadLine}
 use Rattle.model.specs.Job as model
-use Rattle.model.specs.Job.{track, call}
-use Rattle.model.specs.Text.{fieldsOf, andNumber, numbersOf, opens, floorWord, trackWord, cartWord, callWord}
+use Rattle.model.specs.Job.{lift, bay, track, call}
+use Rattle.model.specs.Text.{fieldsOf, andNumber, numbersOf, opens, floorWord, trackWord, cartWord, callWord, bayWord}
 use Rattle.model.specs.ReadJob.{Said, wrong, floorLine, trackLine, cartLine, callLine, mayFollow, fieldCount, numbersSay, fieldsSay, lineSays}
 use Rattle.model.specs.ReadJob as read
 use Rattle.text.specs.declared.scan.Scan.the-variants as scan
@@ -96,17 +96,17 @@ pub count-few : (k : read.Kind) → (fieldCount k ≡ 1) ⊎ (fieldCount k ≡ 2
 count-few floorLine = inl refl
 count-few trackLine = inr refl
 count-few cartLine = inl refl
-count-few callLine = inr refl
+count-few (callLine q) = inr refl
 
 -- The tests are asked of any job with these counts: here is one.
 pub some-job : (c : Counts) → (j : model.Job) × SameCounts c j
 some-job c = (
-  record { cells = c .cells; tracks = replicate (c .tracks) (track 0 0); carts = replicate (c .carts) 0; calls = replicate (c .calls) (call 0 0) },
+  record { cells = c .cells; tracks = replicate (c .tracks) (track 0 0); carts = replicate (c .carts) 0; calls = replicate (c .calls) (call lift 0 0) },
   record {
     cells = refl;
     tracks = sym (length-replicate (c .tracks) (track 0 0));
     carts = sym (length-replicate (c .carts) 0);
-    calls = sym (length-replicate (c .calls) (call 0 0));
+    calls = sym (length-replicate (c .calls) (call lift 0 0));
   },
 )
 
@@ -128,8 +128,12 @@ module _ (j : model.Job) (l : List ℕ) where
       line-cart c = part cartLine 5 ∙ simp (f, t, c)
 
       module _ (c : opens cartWord l ≡ false) where
-        pub line-call : opens callWord l ≡ true → fieldsSay j callLine (fieldsOf (take (length l - 5) (drop 5 l))) ≡ lineSays j l
-        line-call d = part callLine 5 ∙ simp (f, t, c, d)
+        pub line-call : opens callWord l ≡ true → fieldsSay j (callLine lift) (fieldsOf (take (length l - 5) (drop 5 l))) ≡ lineSays j l
+        line-call d = part (callLine lift) 5 ∙ simp (f, t, c, d)
 
-        pub line-none : opens callWord l ≡ false → wrong BadLine ≡ lineSays j l
-        line-none d = simp (f, t, c, d)
+        module _ (d : opens callWord l ≡ false) where
+          pub line-bay : opens bayWord l ≡ true → fieldsSay j (callLine bay) (fieldsOf (take (length l - 4) (drop 4 l))) ≡ lineSays j l
+          line-bay e = part (callLine bay) 4 ∙ simp (f, t, c, d, e)
+
+          pub line-none : opens bayWord l ≡ false → wrong BadLine ≡ lineSays j l
+          line-none e = simp (f, t, c, d, e)

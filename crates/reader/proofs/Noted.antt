@@ -1,5 +1,5 @@
 -- The table stays true to the job. A table of zeros is that of no job; a mark at a line's place adds the line and no other, since different
--- lines have different places: the pairs of cells that tracks join, then the row of the carts, then that of the calls. Assumes nothing.
+-- lines have different places: the pairs of cells that tracks join, then the row of the carts, then that of the calls and bays. Assumes nothing.
 use Prim.Native.Nat.{ℕ, _+_, _*_, _<_}
 use mathlib.Core.Path.{_≡_, refl, sym, ap, _∙_}
 use mathlib.Core.List.{List, [], _∷_, _++_, map, map-append}
@@ -12,12 +12,10 @@ use borrow.Author.Tests.{eqb-true, eq-eqb}
 use Rattle.model.specs.Limits.{maxCells}
 use Rattle.model.specs.Job as model
 use Rattle.model.specs.Job.{track, call}
-use Rattle.model.specs.ReadJob.{noJob, add, leads, member}
+use Rattle.model.specs.ReadJob.{Kind, floorLine, trackLine, cartLine, callLine, noJob, add, leads, member}
 use Rattle.model.proofs.Basics.{and-left, and-right, and-both, nope}
-use Rattle.reader.specs.declared.fill.Kind.{Kind}
-use Rattle.reader.specs.declared.fill.Kind.the-variants.{Floor, Track, Cart, Call}
 use Rattle.job.specs.Bits.{bitAt, withBit, pairAt}
-use Rattle.reader.specs.Lines.{kindOf, Small, cartRow, callRow, tableSize, placeOf, noted, Noted}
+use Rattle.reader.specs.Lines.{Small, cartRow, callRow, tableSize, placeOf, noted, Noted}
 use Rattle.job.proofs.BitLaws.{bit-set, bit-other, bits-length, no-bits}
 use Rattle.job.proofs.Triangle.{pair-small, pair-back, pair-same}
 
@@ -29,16 +27,16 @@ noted-zeros n = record {
 }
 
 pub place-small : (k : Kind) (a b : ℕ) → Small k a b → placeOf k a b < tableSize
-place-small Floor a b s = omega arith
-place-small Track a b s = omega (arith, pair-small a b (s .0) (s .1))
-place-small Cart a b s = omega arith
-place-small Call a b s = omega arith
+place-small floorLine a b s = omega arith
+place-small trackLine a b s = omega (arith, pair-small a b (s .0) (s .1))
+place-small cartLine a b s = omega arith
+place-small (callLine q) a b s = omega arith
 
 pub noted-length : (seen : List ℕ) (k : Kind) (a b : ℕ) → length (noted seen k a b) ≡ length seen
-noted-length seen Floor a b = refl
-noted-length seen Track a b = bits-length seen (pairAt a b)
-noted-length seen Cart a b = bits-length seen (cartRow + a)
-noted-length seen Call a b = bits-length seen (callRow + a)
+noted-length seen floorLine a b = refl
+noted-length seen trackLine a b = bits-length seen (pairAt a b)
+noted-length seen cartLine a b = bits-length seen (cartRow + a)
+noted-length seen (callLine q) a b = bits-length seen (callRow + a)
 
 -- One track or one cell more.
 leads-more : (a b u v : ℕ) (ts : List model.Track) → leads a b (ts ++ (track u v ∷ [])) ≡ (leads a b ts || (eqb a u && eqb b v))
@@ -118,21 +116,21 @@ module _ (seen : List ℕ) (j : model.Job) (long : 8 * length seen ≡ tableSize
       (place-joins a b u v)
       (m .tracks a b h k))
 
-  pub noted-add : (k : Kind) (a b : ℕ) → Small k a b → Noted (noted seen k a b) (add j (kindOf k) a b)
-  noted-add Floor u v s = record { tracks = m .tracks; carts = m .carts; calls = m .calls }
-  noted-add Track u v (s, t) = record {
+  pub noted-add : (k : Kind) (a b : ℕ) → Small k a b → Noted (noted seen k a b) (add j k a b)
+  noted-add floorLine u v s = record { tracks = m .tracks; carts = m .carts; calls = m .calls }
+  noted-add trackLine u v (s, t) = record {
     tracks = λ a b h k. told-track u v a b s t h k;
     carts = λ a h. kept (pairAt u v) (cartRow + a) (omega (arith, pair-small u v s t)) (λ e. omega (arith, pair-small u v s t)) (m .carts a h);
     calls = λ a h. kept (pairAt u v) (callRow + a) (omega (arith, pair-small u v s t)) (λ e. omega (arith, pair-small u v s t)) (m .calls a h);
   }
-  noted-add Cart u v s = record {
+  noted-add cartLine u v s = record {
     tracks = λ a b h k. kept (cartRow + u) (pairAt a b) (omega arith) (λ e. omega (arith, pair-small a b h k)) (m .tracks a b h k);
     carts = λ a h. told-cell cartRow u a (j .carts) (omega arith) (m .carts a h);
     calls = λ a h. kept (cartRow + u) (callRow + a) (omega arith) (λ e. omega arith) (m .calls a h);
   }
-  noted-add Call u v (s, t) = record {
+  noted-add (callLine q) u v (s, t) = record {
     tracks = λ a b h k. kept (callRow + u) (pairAt a b) (omega arith) (λ e. omega (arith, pair-small a b h k)) (m .tracks a b h k);
     carts = λ a h. kept (callRow + u) (cartRow + a) (omega arith) (λ e. omega arith) (m .carts a h);
     calls = λ a h.
-        rw (map-append (λ q. q .cell) (j .calls) (call u v ∷ [])) (told-cell callRow u a (map (λ q. q .cell) (j .calls)) (omega arith) (m .calls a h));
+        rw (map-append (λ r. r .cell) (j .calls) (call q u v ∷ [])) (told-cell callRow u a (map (λ r. r .cell) (j .calls)) (omega arith) (m .calls a h));
   }

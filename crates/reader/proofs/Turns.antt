@@ -12,11 +12,11 @@ use Rattle.model.specs.Answers.{number}
 use Rattle.model.specs.Limits.{maxCells, maxTracks, maxCarts, maxCalls, maxText}
 use Rattle.model.specs.Job as model
 use Rattle.model.specs.Text.{linesOf}
-use Rattle.model.specs.ReadJob.{refused, accepted, add, goOn, lineSays, linesSay, wholeJob, readJob}
+use Rattle.model.specs.ReadJob as read
+use Rattle.model.specs.ReadJob.{floorLine, trackLine, cartLine, callLine, refused, accepted, add, goOn, lineSays, linesSay, wholeJob, readJob}
 use Rattle.text.specs.Scan.{lineOf}
 use Rattle.text.proofs.LineLaws.{lines-done, next-cut, next-more}
 use Rattle.reader.specs.declared.fill.Kind.{Kind}
-use Rattle.reader.specs.declared.fill.Kind.the-variants.{Floor, Track, Cart, Call}
 use Rattle.job.specs.declared.state.Job.{Job}
 use Rattle.reader.specs.declared.fill.Counts.{Counts}
 use Rattle.reader.specs.declared.line.Fault.{Fault}
@@ -72,6 +72,7 @@ unfilled = held
     (replicate maxCarts 0)
     (replicate maxCalls 0)
     (replicate maxCalls 0)
+    (replicate maxCalls 0)
 
 pub so-far-first : (s : List ℕ) → length s ≤ maxText → ReadSoFar s unfilled (replicate (tableSize / 8) 0) 0 1
 unfolding readJob
@@ -84,7 +85,8 @@ so-far-first s h = record {
     from = length-replicate {A = ℕ} maxTracks 0;
     to = length-replicate {A = ℕ} maxTracks 0;
     starts = length-replicate {A = ℕ} maxCarts 0;
-    lifts = length-replicate {A = ℕ} maxCalls 0;
+    kinds = length-replicate {A = ℕ} maxCalls 0;
+    targets = length-replicate {A = ℕ} maxCalls 0;
     deadlines = length-replicate {A = ℕ} maxCalls 0;
   };
   cells = omega arith;
@@ -93,11 +95,11 @@ so-far-first s h = record {
   rest = simp (le-ltb _ _ h);
 }
 
-cells-small : (j : model.Job) (k : Kind) (a b : ℕ) → j .cells ≤ maxCells → Small k a b → add j (kindOf k) a b .cells ≤ maxCells
-cells-small j Floor a b h s = s
-cells-small j Track a b h s = h
-cells-small j Cart a b h s = h
-cells-small j Call a b h s = h
+cells-small : (j : model.Job) (k : read.Kind) (a b : ℕ) → j .cells ≤ maxCells → Small k a b → add j k a b .cells ≤ maxCells
+cells-small j floorLine a b h s = s
+cells-small j trackLine a b h s = h
+cells-small j cartLine a b h s = h
+cells-small j (callLine q) a b h s = h
 
 module _ {s : List ℕ} {job : Job} {seen : List ℕ} {at line : ℕ} (k : ReadSoFar s job seen at line) where
   -- l is the line at `at`, and q the place behind it
@@ -112,8 +114,8 @@ module _ {s : List ℕ} {job : Job} {seen : List ℕ} {at line : ℕ} (k : ReadS
       pub ends-wrong : (f : Fault) → entry ≡ Wrong f → refused (answerTo f) line ≡ readJob s
       ends-wrong f w = rw w at turned
 
-      pub so-far-next : (kind : Kind) (a b : ℕ) (r : Job) (seen′ : List ℕ) → entry ≡ Right kind a b → Small kind a b → Taken job kind a b r
-          → seen′ ≡ noted seen kind a b → ReadSoFar s r seen′ q (line + 1)
+      pub so-far-next : (kind : Kind) (a b : ℕ) (r : Job) (seen′ : List ℕ) → entry ≡ Right kind a b → Small (kindOf kind) a b → Taken job (kindOf kind) a b r
+          → seen′ ≡ noted seen (kindOf kind) a b → ReadSoFar s r seen′ q (line + 1)
       so-far-next kind a b r seen′ w small t m =
           let g = t .adds in
           let c : r .cells ≡ add (jobOf job) (kindOf kind) a b .cells = ap (λ j. j .cells) g in
@@ -123,9 +125,9 @@ module _ {s : List ℕ} {job : Job} {seen : List ℕ} {at line : ℕ} (k : ReadS
             lines = omega (arith, k .lines, taken .1);
             sized = t .sized;
             long = t .long;
-            cells = omega (arith, cells-small (jobOf job) kind a b (k .cells) small);
-            table = ap (λ n. 8 * n) (ap length m ∙ noted-length seen kind a b) ∙ k .table;
-            notes = rw (m, g) (noted-add seen (jobOf job) (k .table) (k .notes) kind a b small);
+            cells = omega (arith, cells-small (jobOf job) (kindOf kind) a b (k .cells) small);
+            table = ap (λ n. 8 * n) (ap length m ∙ noted-length seen (kindOf kind) a b) ∙ k .table;
+            notes = rw (m, g) (noted-add seen (jobOf job) (k .table) (k .notes) (kindOf kind) a b small);
             rest = rw g (rw w at turned);
           }
 

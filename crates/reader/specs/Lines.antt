@@ -10,10 +10,12 @@ use Rattle.model.specs.declared.answer.Answer.{Answer}
 use Rattle.model.specs.declared.answer.Answer.the-variants as answer
 use Rattle.model.specs.Limits.{maxCells, maxSteps}
 use Rattle.model.specs.Job as model
+use Rattle.model.specs.Job.{lift, bay}
 use Rattle.model.specs.Text.{numbersOf}
 use Rattle.model.specs.ReadJob as read
+use Rattle.model.specs.ReadJob.{floorLine, trackLine, cartLine, callLine}
 use Rattle.reader.specs.declared.fill.Kind.{Kind}
-use Rattle.reader.specs.declared.fill.Kind.the-variants.{Floor, Track, Cart, Call}
+use Rattle.reader.specs.declared.fill.Kind.the-variants.{Floor, Track, Cart, Call, Bay}
 use Rattle.reader.specs.declared.line.Fault.{Fault}
 use Rattle.reader.specs.declared.line.Fault.the-variants.{Form, Number, Range, Room, Doubled}
 use Rattle.reader.specs.declared.line.Entry.{Entry}
@@ -26,10 +28,11 @@ use Rattle.job.specs.Arrays.{jobOf, Sized, Long}
 use Rattle.job.specs.Bits.{bitAt, withBit, pairsBelow, pairAt}
 
 abbrev pub kindOf : Kind → read.Kind
-kindOf Floor = read.floorLine
-kindOf Track = read.trackLine
-kindOf Cart = read.cartLine
-kindOf Call = read.callLine
+kindOf Floor = floorLine
+kindOf Track = trackLine
+kindOf Cart = cartLine
+kindOf Call = callLine lift
+kindOf Bay = callLine bay
 
 -- the answers of the five tests
 abbrev pub answerTo : Fault → Answer
@@ -59,8 +62,8 @@ pub record SameCounts (c : Counts) (j : model.Job) : Type 0 where
   pub calls : c .calls ≡ length (j .calls)
 
 -- the arrays of a job while they are filled, with their counts, as a job
-abbrev pub held : Counts → List ℕ → List ℕ → List ℕ → List ℕ → List ℕ → Job
-held c from to starts lifts deadlines = record {
+abbrev pub held : Counts → List ℕ → List ℕ → List ℕ → List ℕ → List ℕ → List ℕ → Job
+held c from to starts kinds targets deadlines = record {
   cells = c .cells;
   tracks = c .tracks;
   from = from;
@@ -68,31 +71,32 @@ held c from to starts lifts deadlines = record {
   carts = c .carts;
   starts = starts;
   calls = c .calls;
-  lifts = lifts;
+  kinds = kinds;
+  targets = targets;
   deadlines = deadlines;
 }
 
 -- The numbers are small enough for the table, and for bytes.
-abbrev pub Small : Kind → ℕ → ℕ → Type 0
-Small Floor a b = a ≤ maxCells
-Small Track a b = (a < maxCells) × (b < maxCells)
-Small Cart a b = a < maxCells
-Small Call a b = (a < maxCells) × (b < maxSteps)
+abbrev pub Small : read.Kind → ℕ → ℕ → Type 0
+Small floorLine a b = a ≤ maxCells
+Small trackLine a b = (a < maxCells) × (b < maxCells)
+Small cartLine a b = a < maxCells
+Small (callLine q) a b = (a < maxCells) × (b < maxSteps)
 
 -- The arrays of a job can take a line: its numbers are small, and there is room.
-pub record Takes (s : Job) (k : Kind) (a b : ℕ) : Type 0 where
+pub record Takes (s : Job) (k : read.Kind) (a b : ℕ) : Type 0 where
   pub sized : Sized s
   pub long : Long s
   pub small : Small k a b
-  pub room : read.hasRoom (jobOf s) (kindOf k) ≡ true
+  pub room : read.hasRoom (jobOf s) k ≡ true
 
 -- The arrays with the line at the end of those of its kind.
-pub record Taken (s : Job) (k : Kind) (a b : ℕ) (t : Job) : Type 0 where
-  pub adds : jobOf t ≡ read.add (jobOf s) (kindOf k) a b
+pub record Taken (s : Job) (k : read.Kind) (a b : ℕ) (t : Job) : Type 0 where
+  pub adds : jobOf t ≡ read.add (jobOf s) k a b
   pub sized : Sized t
   pub long : Long t
 
--- The table: a bit for each two cells, either way round, then a row of cells for the carts and one for the calls.
+-- The table: a bit for each two cells, either way round, then a row of cells for the carts and one for the calls and bays.
 abbrev pub cartRow : ℕ
 cartRow = pairsBelow maxCells
 
@@ -102,23 +106,23 @@ callRow = cartRow + maxCells
 abbrev pub tableSize : ℕ
 tableSize = callRow + maxCells
 
-abbrev pub placeOf : Kind → ℕ → ℕ → ℕ
-placeOf Floor a b = 0
-placeOf Track a b = pairAt a b
-placeOf Cart a b = cartRow + a
-placeOf Call a b = callRow + a
+abbrev pub placeOf : read.Kind → ℕ → ℕ → ℕ
+placeOf floorLine a b = 0
+placeOf trackLine a b = pairAt a b
+placeOf cartLine a b = cartRow + a
+placeOf (callLine q) a b = callRow + a
 
-abbrev pub noted : List ℕ → Kind → ℕ → ℕ → List ℕ
-noted seen Floor a b = seen
-noted seen Track a b = withBit seen (placeOf Track a b)
-noted seen Cart a b = withBit seen (placeOf Cart a b)
-noted seen Call a b = withBit seen (placeOf Call a b)
+abbrev pub noted : List ℕ → read.Kind → ℕ → ℕ → List ℕ
+noted seen floorLine a b = seen
+noted seen trackLine a b = withBit seen (placeOf trackLine a b)
+noted seen cartLine a b = withBit seen (placeOf cartLine a b)
+noted seen (callLine q) a b = withBit seen (placeOf (callLine q) a b)
 
--- The table says which cells a track joins, and which cells have a cart or a call.
+-- The table says which cells a track joins, and which cells have a cart, and which a call or bay.
 pub record Noted (seen : List ℕ) (j : model.Job) : Type 0 where
-  pub tracks : (a b : ℕ) → a < maxCells → b < maxCells → bitAt seen (placeOf Track a b) ≡ (read.leads a b (j .tracks) || read.leads b a (j .tracks))
-  pub carts : (a : ℕ) → a < maxCells → bitAt seen (placeOf Cart a 0) ≡ read.member a (j .carts)
-  pub calls : (a : ℕ) → a < maxCells → bitAt seen (placeOf Call a 0) ≡ read.member a (map (λ q. q .cell) (j .calls))
+  pub tracks : (a b : ℕ) → a < maxCells → b < maxCells → bitAt seen (placeOf trackLine a b) ≡ (read.leads a b (j .tracks) || read.leads b a (j .tracks))
+  pub carts : (a : ℕ) → a < maxCells → bitAt seen (placeOf cartLine a 0) ≡ read.member a (j .carts)
+  pub calls : (a : ℕ) → a < maxCells → bitAt seen (placeOf (callLine lift) a 0) ≡ read.member a (map (λ q. q .cell) (j .calls))
 
 -- Whether the numbers of a line pass a test. A line that has numbers passed the first two.
 abbrev pub passing : model.Job → Fault → read.Kind → ℕ → ℕ → Bool
@@ -137,7 +141,7 @@ GoesBy Room c seen j = SameCounts c j
 GoesBy Doubled c seen j = Noted seen j
 
 -- What a test asks of the numbers: the table is for small ones only.
-abbrev pub Asks : Fault → Kind → ℕ → ℕ → Type 0
+abbrev pub Asks : Fault → read.Kind → ℕ → ℕ → Type 0
 Asks Form k a b = Unit
 Asks Number k a b = Unit
 Asks Range k a b = Unit
@@ -147,4 +151,4 @@ Asks Doubled k a b = Small k a b
 -- An entry that is right has small numbers, and there is room for it.
 abbrev pub Sound : Counts → Entry → Type 0
 Sound c (Wrong f) = Unit
-Sound c (Right k a b) = Small k a b × ((j : model.Job) → SameCounts c j → read.hasRoom j (kindOf k) ≡ true)
+Sound c (Right k a b) = Small (kindOf k) a b × ((j : model.Job) → SameCounts c j → read.hasRoom j (kindOf k) ≡ true)

@@ -6,9 +6,11 @@ use model::Limits;
 ghost use mathlib.Core.Path.{_≡_};
 ghost use Prim.Native.Nat.{_*_};
 ghost use lib.ListN.{length};
-ghost use Rattle.model.specs.ReadJob.{noJob};
+ghost use Rattle.model.specs.Job.{CallKind};
+ghost use Rattle.model.specs.ReadJob.{callLine, noJob};
+ghost use Rattle.job.specs.Arrays as arrays;
 ghost use Rattle.job.specs.Arrays.{jobOf, Sized};
-ghost use Rattle.reader.specs.Lines.{held, Small, Takes, Taken, placeOf, noted, tableSize};
+ghost use Rattle.reader.specs.Lines.{kindOf, held, Small, Takes, Taken, placeOf, noted, tableSize};
 
 // How much of the arrays of a job is filled, as its lines are read.
 pub struct Counts {
@@ -18,7 +20,7 @@ pub struct Counts {
     pub calls: usize,
 }
 
-// The table has a bit for each two cells, either way round, then a row of cells for the carts and one for the calls. A cell with itself
+// The table has a bit for each two cells, either way round, then a row of cells for the carts and one for the calls and bays. A cell with itself
 // has one too, so that every pair has one of its own.
 pub const CART_ROW: usize = Limits::CELLS * (Limits::CELLS + 1) / 2;
 
@@ -32,6 +34,7 @@ pub enum Kind {
     Track,
     Cart,
     Call,
+    Bay,
 }
 
 // A job before its first line.
@@ -49,9 +52,20 @@ pub fn empty() -> Job
         carts: 0,
         starts: narrow,
         calls: 0,
-        lifts: calls,
+        kinds: calls,
+        targets: calls,
         deadlines: calls,
     }
+}
+
+// The byte that stands for the kind of a call; of another line it says nothing.
+fn kind_byte(kind: Kind) -> u8
+    ensures { λ r. ⌜ ((q : CallKind) → kindOf kind ≡ callLine q → arrays.kindOf r ≡ q) ⌝ }
+{
+    if let Kind::Bay = kind {
+        return 1;
+    }
+    0
 }
 
 // Puts the numbers of a line at the end of the arrays of its kind. Answers the counts with one line more.
@@ -59,15 +73,16 @@ pub fn put_line(
     from: &mut [u8; Limits::TRACKS],
     to: &mut [u8; Limits::TRACKS],
     starts: &mut [u8; Limits::CARTS],
-    lifts: &mut [u8; Limits::CALLS],
+    kinds: &mut [u8; Limits::CALLS],
+    targets: &mut [u8; Limits::CALLS],
     deadlines: &mut [u8; Limits::CALLS],
     counts: Counts,
     kind: Kind,
     a: usize,
     b: usize,
 ) -> Counts
-    requires { ⌜ Takes (held counts (now from) (now to) (now starts) (now lifts) (now deadlines)) kind a b ⌝ }
-    ensures { λ r. ⌜ Taken (held counts (now (from .entry)) (now (to .entry)) (now (starts .entry)) (now (lifts .entry)) (now (deadlines .entry))) kind a b (held r (now (from .exit)) (now (to .exit)) (now (starts .exit)) (now (lifts .exit)) (now (deadlines .exit))) ⌝ }
+    requires { ⌜ Takes (held counts (now from) (now to) (now starts) (now kinds) (now targets) (now deadlines)) (kindOf kind) a b ⌝ }
+    ensures { λ r. ⌜ Taken (held counts (now (from .entry)) (now (to .entry)) (now (starts .entry)) (now (kinds .entry)) (now (targets .entry)) (now (deadlines .entry))) (kindOf kind) a b (held r (now (from .exit)) (now (to .exit)) (now (starts .exit)) (now (kinds .exit)) (now (targets .exit)) (now (deadlines .exit))) ⌝ }
 {
     let mut more = counts;
     match kind {
@@ -88,9 +103,10 @@ pub fn put_line(
             more.carts = n + 1;
             return more;
         }
-        Kind::Call => {
+        Kind::Call | Kind::Bay => {
             let n = more.calls;
-            lifts[n] = a as u8;
+            kinds[n] = kind_byte(kind);
+            targets[n] = a as u8;
             deadlines[n] = b as u8;
             more.calls = n + 1;
             return more;
@@ -100,21 +116,21 @@ pub fn put_line(
 
 // The place of a line in the table.
 pub fn place(kind: Kind, a: usize, b: usize) -> usize
-    requires { ⌜ Small kind a b ⌝ }
-    ensures { λ r. ⌜ r ≡ placeOf kind a b ⌝ }
+    requires { ⌜ Small (kindOf kind) a b ⌝ }
+    ensures { λ r. ⌜ r ≡ placeOf (kindOf kind) a b ⌝ }
 {
     match kind {
         Kind::Floor => 0,
         Kind::Track => pair(a, b),
         Kind::Cart => CART_ROW + a,
-        Kind::Call => CALL_ROW + a,
+        Kind::Call | Kind::Bay => CALL_ROW + a,
     }
 }
 
 // Notes the line in the table. A FLOOR line has no place there.
 pub fn note(seen: &mut [u8], kind: Kind, a: usize, b: usize)
-    requires { ⌜ Small kind a b × (8 * length (now seen) ≡ tableSize) ⌝ }
-    ensures { λ _. ⌜ now (seen .exit) ≡ noted (now (seen .entry)) kind a b ⌝ }
+    requires { ⌜ Small (kindOf kind) a b × (8 * length (now seen) ≡ tableSize) ⌝ }
+    ensures { λ _. ⌜ now (seen .exit) ≡ noted (now (seen .entry)) (kindOf kind) a b ⌝ }
 {
     if let Kind::Floor = kind {
         return;

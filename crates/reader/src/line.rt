@@ -56,11 +56,11 @@ fn field_count(kind: Kind) -> usize
 {
     match kind {
         Kind::Floor | Kind::Cart => 1,
-        Kind::Track | Kind::Call => 2,
+        Kind::Track | Kind::Call | Kind::Bay => 2,
     }
 }
 
-// FLOOR, then TRACK, then CART, then CALL lines.
+// FLOOR, then TRACK, then CART, then CALL and BAY lines.
 fn may_follow(kind: Kind, counts: Counts) -> bool
     ensures { λ r. ⌜ ((j : model.Job) → SameCounts counts j → r ≡ mayFollow j (kindOf kind)) ⌝ }
 {
@@ -68,7 +68,7 @@ fn may_follow(kind: Kind, counts: Counts) -> bool
         Kind::Floor => counts.cells == 0,
         Kind::Track => 0 < counts.cells && counts.carts == 0 && counts.calls == 0,
         Kind::Cart => 0 < counts.cells && counts.calls == 0,
-        Kind::Call => 0 < counts.cells,
+        Kind::Call | Kind::Bay => 0 < counts.cells,
     }
 }
 
@@ -100,7 +100,7 @@ fn in_range(kind: Kind, counts: Counts, a: usize, b: usize) -> bool
         Kind::Floor => 0 < a && a <= Limits::CELLS,
         Kind::Track => a < counts.cells && b < counts.cells,
         Kind::Cart => a < counts.cells,
-        Kind::Call => a < counts.cells && b < Limits::STEPS,
+        Kind::Call | Kind::Bay => a < counts.cells && b < Limits::STEPS,
     }
 }
 
@@ -111,7 +111,7 @@ fn has_room(kind: Kind, counts: Counts) -> bool
         Kind::Floor => true,
         Kind::Track => counts.tracks < Limits::TRACKS,
         Kind::Cart => counts.carts < Limits::CARTS,
-        Kind::Call => counts.calls < Limits::CALLS,
+        Kind::Call | Kind::Bay => counts.calls < Limits::CALLS,
     }
 }
 
@@ -127,20 +127,20 @@ fn is_new_track(seen: &[u8], a: usize, b: usize) -> bool
 }
 
 fn is_new(kind: Kind, seen: &[u8], a: usize, b: usize) -> bool
-    requires { ⌜ Small kind a b × (8 * length (now seen) ≡ tableSize) ⌝ }
+    requires { ⌜ Small (kindOf kind) a b × (8 * length (now seen) ≡ tableSize) ⌝ }
     ensures { λ r. ⌜ ((j : model.Job) → Noted (now (seen .entry)) j → r ≡ isNew j (kindOf kind) a b) ⌝ }
 {
     match kind {
         Kind::Floor => true,
         Kind::Track => is_new_track(seen, a, b),
         Kind::Cart => !bits::has(seen, fill::CART_ROW + a),
-        Kind::Call => !bits::has(seen, fill::CALL_ROW + a),
+        Kind::Call | Kind::Bay => !bits::has(seen, fill::CALL_ROW + a),
     }
 }
 
 // Whether the numbers of a line pass a test. A line that has numbers passed the first two.
 fn passes(test: Fault, kind: Kind, counts: Counts, seen: &[u8], a: usize, b: usize) -> bool
-    requires { ⌜ Asks test kind a b × (8 * length (now seen) ≡ tableSize) ⌝ }
+    requires { ⌜ Asks test (kindOf kind) a b × (8 * length (now seen) ≡ tableSize) ⌝ }
     ensures { λ r. ⌜ ((j : model.Job) → GoesBy test counts (now (seen .entry)) j → r ≡ passing j test (kindOf kind) a b) ⌝ }
 {
     match test {
@@ -199,6 +199,9 @@ pub fn entry_of(line: &[u8], counts: Counts, seen: &[u8]) -> Entry
     }
     if text::scan::opens_with(line, b"CALL\t") {
         return fields_say(Kind::Call, &line[5..], counts, seen);
+    }
+    if text::scan::opens_with(line, b"BAY\t") {
+        return fields_say(Kind::Bay, &line[4..], counts, seen);
     }
     Entry::Wrong(Fault::Form)
 }

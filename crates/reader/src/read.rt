@@ -60,7 +60,8 @@ pub fn read(text: &[u8]) -> Reading
     let mut from = [0u8; Limits::TRACKS];
     let mut to = [0u8; Limits::TRACKS];
     let mut starts = [0u8; Limits::CARTS];
-    let mut lifts = [0u8; Limits::CALLS];
+    let mut kinds = [0u8; Limits::CALLS];
+    let mut targets = [0u8; Limits::CALLS];
     let mut deadlines = [0u8; Limits::CALLS];
     let mut counts = Counts {
         cells: 0,
@@ -87,7 +88,8 @@ pub fn read(text: &[u8]) -> Reading
             &mut from,
             &mut to,
             &mut starts,
-            &mut lifts,
+            &mut kinds,
+            &mut targets,
             &mut deadlines,
             counts,
             kind,
@@ -120,7 +122,8 @@ pub fn read(text: &[u8]) -> Reading
         carts,
         starts,
         calls,
-        lifts,
+        kinds,
+        targets,
         deadlines,
     };
     let verdict = Verdict::Accepted;

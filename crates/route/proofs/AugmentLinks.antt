@@ -18,7 +18,7 @@ use Rattle.flow.proofs.Flow.{flow-same}
 use Rattle.flow.proofs.Hops.{On, on-out, via-on, via-once}
 use Rattle.flow.proofs.Links.{join-same, join-other, next-kept, next-last, next-hop, prev-kept, prev-start, prev-hop}
 use Rattle.flow.proofs.Augment.{augmented, starts-more}
-use Rattle.network.specs.Graph.{isLift, Earlier}
+use Rattle.network.specs.Graph.{isTarget, Earlier}
 use Rattle.network.specs.Store.{gridOf, idx, usedAt, nextAt, prevAt, withUsed, withMark, isUsed}
 use Rattle.network.specs.Links.{FlowIn, backLink, onLink}
 use Rattle.route.specs.Search.{Augmented}
@@ -161,11 +161,11 @@ module _ (j : Job) where
         kept : (In v (x ∷ vias (hopsIn j s e)) → ⊥) → onLink j s′ v ≡ onLink j s v
         kept h =
             let no : (m : ℕ) → m < e → v ≡ viaIn j s m → ⊥ = λ m l q. h (inr (rw q (via-in st m l))) in
-            link-same (isUsed j s′ v) (isUsed j s v) (isLift j v) _ _ (used-same j s s′ v (λ k. ap (λ b. eqb b 0) (fin .kept v k (λ q. h (inl q)) no)))
+            link-same (isUsed j s′ v) (isUsed j s v) (isTarget j v) _ _ (used-same j s s′ v (λ k. ap (λ b. eqb b 0) (fin .kept v k (λ q. h (inl q)) no)))
             (λ u. ap (λ c. point c (v .step + 1)) (fin .next-kept v (used-known j s′ v u) no))
 
         first : onLink j s′ x ≡ end
-        first = let t = fin .start in link-end (isUsed j s′ x) (isLift j x) _ (used j s′ x (st .known 0 (omega arith)) (λ z. omega arith)) (st .way .start)
+        first = let t = fin .start in link-end (isUsed j s′ x) (isTarget j x) _ (used j s′ x (st .known 0 (omega arith)) (λ z. omega arith)) (st .way .start)
 
         hop : (m : ℕ) → m < e → Form j s m → onLink j s′ (viaIn j s m) ≡ join dec-point (viaIn j s m) (posIn j s m)
         hop m l (frees f g) = link-off _ _ (unused j s′ (viaIn j s m) (frees-used m l f)) ∙ sym (join-same dec-point (viaIn j s m) (posIn j s m) g)
@@ -173,7 +173,7 @@ module _ (j : Job) where
             let t = g .falls in
             let b = leads-used m l f in
             let u : isUsed j s′ (viaIn j s m) ≡ true = used j s′ (viaIn j s m) (known-via st m l) (λ z. omega arith) in
-            link-to (isUsed j s′ (viaIn j s m)) (isLift j (viaIn j s m)) _ u (g .leaves)
+            link-to (isUsed j s′ (viaIn j s m)) (isTarget j (viaIn j s m)) _ u (g .leaves)
             ∙ ap to (point-eq (fin .next m l) (omega arith))
             ∙ sym (join-other dec-point (viaIn j s m) (posIn j s m) (λ q. let t′ = point-step q in omega arith))
 

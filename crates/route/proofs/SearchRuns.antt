@@ -16,7 +16,7 @@ use Rattle.model.specs.ReadSheet.{knownPoint}
 use Rattle.model.proofs.Basics.{and-left, and-right, and-both}
 use Rattle.model.proofs.Floor.{test-known, known-test}
 use Rattle.flow.specs.Flow.{Link, off}
-use Rattle.network.specs.Graph.{graph, isLift}
+use Rattle.network.specs.Graph.{graph, isTarget}
 use Rattle.network.specs.Store.{nodes, gridOf, idx, markAt, isMarked}
 use Rattle.network.specs.Links.{backLink, onLink}
 use Rattle.network.specs.Holds.{Holds, SameFlow}
@@ -148,7 +148,7 @@ test-mark j s stamp v e =
     (test-known j v (and-left (knownPoint j v) m e), eqb-true _ _ (and-right (knownPoint j v) m e))
 
 -- The search, from the store s to the store t, by way of s₁ after the first push.
-module _ {j : Job} {s s₁ t : List ℕ} {stamp : ℕ} {x : Point} (lift : isLift j x ≡ true) (idle : backLink j s x ≡ off)
+module _ {j : Job} {s s₁ t : List ℕ} {stamp : ℕ} {x : Point} (target : isTarget j x ≡ true) (idle : backLink j s x ≡ off)
     (p : PushedIn j s s₁ 0 x 0 stamp) {d : ℕ} (r : Running j s₁ t stamp x d) where
   same : SameFlow (gridOf j) s t
   same = same-more j (p .same) (r .same)
@@ -175,7 +175,7 @@ module _ {j : Job} {s s₁ t : List ℕ} {stamp : ℕ} {x : Point} (lift : isLif
     known = λ i h. absurd (omega arith);
     way = λ h. absurd (omega arith);
     stuck = λ e fresh. record {
-      lift = lift;
+      target = target;
       unserved = idle′;
       reached = mark-test j t stamp x (r .dfs .root);
       known = λ v m. test-mark j t stamp v m .0;
@@ -194,6 +194,6 @@ module _ {j : Job} {s s₁ t : List ℕ} {stamp : ℕ} {x : Point} (lift : isLif
     known = λ i h. r .dfs .marked i h .0;
     way = λ h.
         let q : d - 1 ≡ m = omega arith in
-        rw q (dfs-way (graph j) (backLink j t) (onLink j t) (hopIn j t) (hopsIn j t) refl (λ k. refl) (posIn j t) (λ i. refl) x (r .dfs .first h) m (rw e at (r .dfs)) lift idle′ g);
+        rw q (dfs-way (graph j) (backLink j t) (onLink j t) (hopIn j t) (hopsIn j t) refl (λ k. refl) (posIn j t) (λ i. refl) x (r .dfs .first h) m (rw e at (r .dfs)) target idle′ g);
     stuck = λ z. absurd (omega arith);
   }

@@ -13,7 +13,8 @@ use Rattle.model.specs.Job.{Job}
 use Rattle.model.specs.Choke.{Point, Known}
 use Rattle.model.proofs.Written.{few-steps}
 use Rattle.model.proofs.Lists.{in-getD}
-use Rattle.floor.specs.Tables.{rowOf, Cells}
+use Rattle.floor.specs.Tables.{rowAt, Cells}
+use Rattle.floor.proofs.JobTables.{row-known}
 use Rattle.flow.specs.Flow.{Link}
 use Rattle.network.specs.Graph.{graph}
 use Rattle.network.specs.Store.{nodes, gridOf, idx, asPoint, placeAt, cellAt, stepAt, markAt, Spacious, Within}
@@ -40,14 +41,14 @@ pub record Going (j : Job) (s₁ s : List ℕ) (stamp : ℕ) (x : Point) (d : �
   pub top : 0 < d → y ≡ posIn j s (d - 1)
 
 -- A search may start from a store with the same flow too.
-pub may-search : {j : Job} {near begin due cart-on hint s t : List ℕ} {g : Grid} {x : Point} → SameFlow (gridOf j) s t
-    → Searching j near begin due cart-on hint s g x → Searching j near begin due cart-on hint t g x
+pub may-search : {j : Job} {near begin due shut cart-on hint s t : List ℕ} {g : Grid} {x : Point} → SameFlow (gridOf j) s t
+    → Searching j near begin due shut cart-on hint s g x → Searching j near begin due shut cart-on hint t g x
 may-search {j} {x = x} same h = record {
   tables = h .tables;
   holds = holds-same (h .holds) same;
   hints = h .hints;
   known = h .known;
-  lift = h .lift;
+  target = h .target;
   idle = ap (λ (l : Point → Link Point). l x) (back-same j same) ∙ h .idle;
 }
 
@@ -61,7 +62,7 @@ top-pushed : (j : Job) (s t : List ℕ) (d : ℕ) (x : Point) (via stamp : ℕ) 
 top-pushed j s t d x via stamp p = let e : d + 1 - 1 ≡ d = omega arith in rw e (point-eq (sym (p .cell .here)) (sym (p .step .here)))
 
 -- The first push may be made.
-pub first-needs : {j : Job} {near begin due cart-on hint s : List ℕ} {g : Grid} {x : Point} → Searching j near begin due cart-on hint s g x
+pub first-needs : {j : Job} {near begin due shut cart-on hint s : List ℕ} {g : Grid} {x : Point} → Searching j near begin due shut cart-on hint s g x
     → Within g s 0 × (placeAt g x < g .nodes) × (x .cell < 256) × (x .step < 256) × (0 < 256)
 first-needs {j} h =
     let f = h .holds .ready .fit in
@@ -69,35 +70,35 @@ first-needs {j} h =
     ((h .holds .room, omega arith), p, omega (arith, h .known .0, f .few-cells), omega (arith, h .known .1, few-steps j f), omega arith)
 
 -- From the first push on.
-module _ {j : Job} {near begin due cart-on hint s s₁ : List ℕ} {g : Grid} {x : Point} (stamp : ℕ) (e : s₁ ≡ pushed g s 0 x 0 stamp)
-    (h : Searching j near begin due cart-on hint s g x) where
+module _ {j : Job} {near begin due shut cart-on hint s s₁ : List ℕ} {g : Grid} {x : Point} (stamp : ℕ) (e : s₁ ≡ pushed g s 0 x 0 stamp)
+    (h : Searching j near begin due shut cart-on hint s g x) where
   first : PushedIn j s s₁ 0 x 0 stamp
   first = push-in j (h .holds .grid) (h .holds .room) (h .known) (omega (arith, idx-below j (h .known))) e
 
-  pub begun : Searching j near begin due cart-on hint s₁ g x
+  pub begun : Searching j near begin due shut cart-on hint s₁ g x
   begun = may-search (first .same) h
 
   module _ {t : List ℕ} {d : ℕ} (r : Running j s₁ t stamp x d) where
     pub ends-none : d ≡ 0 → Searched j s t stamp x 0
-    ends-none = searched-none (h .lift) (h .idle) first r
+    ends-none = searched-none (h .target) (h .idle) first r
 
     pub ends-some : (m : ℕ) → d ≡ suc m → (graph j) .Goal (posIn j t m) → Searched j s t stamp x d
-    ends-some = searched-some (h .lift) (h .idle) first r
+    ends-some = searched-some (h .target) (h .idle) first r
 
-pub under-way : {j : Job} {near begin due cart-on hint : List ℕ} (s : List ℕ) {s₁ : List ℕ} {g : Grid} {x : Point} (stamp : ℕ) → s₁ ≡ pushed g s 0 x 0 stamp → Spacious g s
-    → Searching j near begin due cart-on hint s₁ g x → Going j s₁ s₁ stamp x 1 x
+pub under-way : {j : Job} {near begin due shut cart-on hint : List ℕ} (s : List ℕ) {s₁ : List ℕ} {g : Grid} {x : Point} (stamp : ℕ) → s₁ ≡ pushed g s 0 x 0 stamp → Spacious g s
+    → Searching j near begin due shut cart-on hint s₁ g x → Going j s₁ s₁ stamp x 1 x
 under-way {j} s {s₁} {x = x} stamp e r h =
     let p : PushedIn j s s₁ 0 x 0 stamp = push-in j (h .holds .grid) r (h .known) (omega (arith, idx-below j (h .known))) e in
     record { run = run-start (rw (h .holds .grid) at (h .holds)) (h .known) p; top = λ z. top-pushed j s s₁ 0 x 0 stamp p }
 
 -- What is at hand in a turn at the position y.
-pub record Turn (j : Job) (near begin due cart-on hint : List ℕ) (g : Grid) (s₁ s : List ℕ) (x : Point) (stamp d : ℕ) (y : Point) : Type 0 where
-  pub for : Searching j near begin due cart-on hint s₁ g x
+pub record Turn (j : Job) (near begin due shut cart-on hint : List ℕ) (g : Grid) (s₁ s : List ℕ) (x : Point) (stamp d : ℕ) (y : Point) : Type 0 where
+  pub for : Searching j near begin due shut cart-on hint s₁ g x
   pub going : Going j s₁ s stamp x d y
   pub some : 0 < d
 
-module _ {j : Job} {near begin due cart-on hint : List ℕ} {g : Grid} {s₁ s : List ℕ} {x : Point} {stamp d : ℕ} {y : Point}
-    (w : Turn j near begin due cart-on hint g s₁ s x stamp d y) where
+module _ {j : Job} {near begin due shut cart-on hint : List ℕ} {g : Grid} {s₁ s : List ℕ} {x : Point} {stamp d : ℕ} {y : Point}
+    (w : Turn j near begin due shut cart-on hint g s₁ s x stamp d y) where
   top : posIn j s (d - 1) ≡ y
   top = sym (w .going .top (w .some))
 
@@ -110,10 +111,10 @@ module _ {j : Job} {near begin due cart-on hint : List ℕ} {g : Grid} {s₁ s :
   pub stands : Stands j g s due y
   stands = (rw (w .for .holds .grid) (w .going .run .holds), w .for .tables .dues, marked .0)
 
-  in-row : Cells (j .cells) (rowOf near begin (y .cell))
-  in-row c i = w .for .tables .sides .rows .known (y .cell) c (marked .0 .0) i
+  in-row : Cells (j .cells) (rowAt near begin shut (y .cell) (y .step))
+  in-row c i = row-known (w .for .tables .sides) (w .for .tables .shuts) (y .cell) (y .step) c (marked .0 .0) i
 
-  pub cells : (row : List ℕ) → row ≡ rowOf near begin (y .cell) → Cells (j .cells) row
+  pub cells : (row : List ℕ) → row ≡ rowAt near begin shut (y .cell) (y .step) → Cells (j .cells) row
   cells row e = rw e in-row
 
   pub deep-enough : {i : ℕ} → i < d → i < g .nodes
@@ -138,15 +139,15 @@ module _ {j : Job} {near begin due cart-on hint : List ℕ} {g : Grid} {s₁ s :
       omega (arith, eqb-true (getD cart-on (y .cell) 0) 0 (not-false (eqb (getD cart-on (y .cell) 0) 0) (none (h .0))), w .for .tables .carts .has-cart (y .cell) (h .1))
 
 -- What was found in the turn, by the row of the position's cell; and the position is no goal.
-pub record Looked (j : Job) (near begin due cart-on hint : List ℕ) (g : Grid) (s₁ s : List ℕ) (x : Point) (stamp d : ℕ) (y : Point) (row : List ℕ) (r : Found) : Type 0 where
-  pub turn : Turn j near begin due cart-on hint g s₁ s x stamp d y
-  pub of : row ≡ rowOf near begin (y .cell)
+pub record Looked (j : Job) (near begin due shut cart-on hint : List ℕ) (g : Grid) (s₁ s : List ℕ) (x : Point) (stamp d : ℕ) (y : Point) (row : List ℕ) (r : Found) : Type 0 where
+  pub turn : Turn j near begin due shut cart-on hint g s₁ s x stamp d y
+  pub of : row ≡ rowAt near begin shut (y .cell) (y .step)
   pub finds : Finds (From g s due row y) (Stamped g s stamp) r
   pub dull : (graph j) .Goal (posIn j s (d - 1)) → ⊥
 
-module _ {j : Job} {near begin due cart-on hint : List ℕ} {g : Grid} {s₁ s : List ℕ} {x : Point} {stamp d : ℕ} {y : Point} {row : List ℕ} {r : Found}
-    (k : Looked j near begin due cart-on hint g s₁ s x stamp d y row r) where
-  ans′ : Finds (From (gridOf j) s due (rowOf near begin (y .cell)) y) (Stamped (gridOf j) s stamp) r
+module _ {j : Job} {near begin due shut cart-on hint : List ℕ} {g : Grid} {s₁ s : List ℕ} {x : Point} {stamp d : ℕ} {y : Point} {row : List ℕ} {r : Found}
+    (k : Looked j near begin due shut cart-on hint g s₁ s x stamp d y row r) where
+  ans′ : Finds (From (gridOf j) s due (rowAt near begin shut (y .cell) (y .step)) y) (Stamped (gridOf j) s stamp) r
   ans′ = rw (k .turn .for .holds .grid, k .of) at (k .finds)
 
   run′ : Running j s₁ s stamp x (suc (d - 1))
@@ -155,21 +156,21 @@ module _ {j : Job} {near begin due cart-on hint : List ℕ} {g : Grid} {s₁ s :
   pub turn-pop : r ≡ Found.Nothing → Running j s₁ s stamp x (d - 1)
   turn-pop e = run-pop run′ (k .dull) (at-top (k .turn) (λ z. DoneIn j s stamp z) done)
     where
-      none : Finds (From (gridOf j) s due (rowOf near begin (y .cell)) y) (Stamped (gridOf j) s stamp) Found.Nothing
+      none : Finds (From (gridOf j) s due (rowAt near begin shut (y .cell) (y .step)) y) (Stamped (gridOf j) s stamp) Found.Nothing
       none = rw e at ans′
 
       done : DoneIn j s stamp y
       done u z a b =
           ⊎-elim (λ q. subst (λ (z : Point). Marked j s stamp z) (sym q) (marked (k .turn))) (λ q. (q .0, none z (q .1 .0) (q .1 .1)))
-          (hop-found (k .turn .going .run .holds) (k .turn .for .tables .sides) (k .turn .for .tables .dues) y (marked (k .turn) .0) u z a b)
+          (hop-found (k .turn .going .run .holds) (k .turn .for .tables .sides) (k .turn .for .tables .dues) (k .turn .for .tables .shuts) y (marked (k .turn) .0) u z a b)
 
   module _ (v : Node) (via : ℕ) (e : r ≡ Found.Push v via) where
-    some : From (gridOf j) s due (rowOf near begin (y .cell)) y (asPoint v) via × (Stamped (gridOf j) s stamp (asPoint v) → ⊥)
+    some : From (gridOf j) s due (rowAt near begin shut (y .cell) (y .step)) y (asPoint v) via × (Stamped (gridOf j) s stamp (asPoint v) → ⊥)
     some = rw e at ans′
 
     hop : HopTo j s (posIn j s (d - 1)) (byWay (posIn j s (d - 1)) (v .step) via) (asPoint v)
     hop = at-top (k .turn) (λ z. HopTo j s z (byWay z (v .step) via) (asPoint v))
-        (found-hop (k .turn .going .run .holds) (k .turn .for .tables .sides) (k .turn .for .tables .dues) y (marked (k .turn) .0) (asPoint v) via (some .0))
+        (found-hop (k .turn .going .run .holds) (k .turn .for .tables .sides) (k .turn .for .tables .dues) (k .turn .for .tables .shuts) y (marked (k .turn) .0) (asPoint v) via (some .0))
 
     via-small : via < j .cells
     via-small = ⊎-elim

@@ -18,7 +18,7 @@ use Rattle.route.specs.Stack.{posAt}
 use Rattle.route.specs.Search.{Fresh, Searching, Searched, Laying, Augmented}
 use Rattle.route.specs.Serve.{MarksUpTo, Sought}
 
-module _ {j : Job} {near begin due cart-on hint s t : List ℕ} {g : Grid} {x : Point} {stamp r : ℕ} (f : Searched j s t stamp x r) (h : Searching j near begin due cart-on hint s g x) where
+module _ {j : Job} {near begin due shut cart-on hint s t : List ℕ} {g : Grid} {x : Point} {stamp r : ℕ} (f : Searched j s t stamp x r) (h : Searching j near begin due shut cart-on hint s g x) where
   marks-search : (n : ℕ) → stamp ≤ n → MarksUpTo j s n → MarksUpTo j t n
   marks-search n l m v b = ⊎-elim (λ e. omega (arith, e, m v b)) (λ e. omega (arith, e)) (f .marks v b)
 

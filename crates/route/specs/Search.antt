@@ -11,7 +11,7 @@ use Rattle.model.specs.Choke.{Point, Known}
 use Rattle.floor.specs.Tables.{Tables}
 use Rattle.flow.specs.Flow.{off, end}
 use Rattle.flow.specs.Way.{Way}
-use Rattle.network.specs.Graph.{graph, isLift}
+use Rattle.network.specs.Graph.{graph, isTarget}
 use Rattle.network.specs.Store.{nodes, gridOf, markAt, isMarked}
 use Rattle.network.specs.Links.{FlowIn, backLink, onLink}
 use Rattle.network.specs.Holds.{Holds, SameFlow}
@@ -28,12 +28,12 @@ abbrev pub Fresh : Job → List ℕ → ℕ → Type 0
 Fresh j s stamp = (v : ℕ) → v < nodes j → markAt (gridOf j) s v ≡ stamp → ⊥
 
 -- The tables are the job's, and the store holds a flow that does not serve the call of the node x yet.
-pub record Searching (j : Job) (near begin due cartOn hint s : List ℕ) (g : Grid) (x : Point) : Type 0 where
-  pub tables : Tables j near begin due cartOn
+pub record Searching (j : Job) (near begin due shut cartOn hint s : List ℕ) (g : Grid) (x : Point) : Type 0 where
+  pub tables : Tables j near begin due shut cartOn
   pub holds : Holds j g s
   pub hints : length hint ≡ maxCells
   pub known : Known j x
-  pub lift : isLift j x ≡ true
+  pub target : isTarget j x ≡ true
   pub idle : backLink j s x ≡ off
 
 -- A search from the call's node x answers r: 0 if it failed, else the depth of the stack, which holds a way to a free cart.

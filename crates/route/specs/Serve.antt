@@ -31,8 +31,8 @@ pub record Sought (j : Job) (g : Grid) (s s′ : List ℕ) (stamp : ℕ) (x : Po
   pub stuck : r ≡ false → Fresh j s stamp → Stuck j (backLink j s′) (onLink j s′) (isMarked j s′ stamp) x
 
 -- A search may start, with a stamp that no mark is above; where fresh says so, no mark has it. There is room for one stamp more.
-pub record Serving (j : Job) (near begin due cartOn hint s : List ℕ) (g : Grid) (x : Point) (stamp : ℕ) (fresh : Bool) : Type 0 where
-  pub search : Searching j near begin due cartOn hint s g x
+pub record Serving (j : Job) (near begin due shut cartOn hint s : List ℕ) (g : Grid) (x : Point) (stamp : ℕ) (fresh : Bool) : Type 0 where
+  pub search : Searching j near begin due shut cartOn hint s g x
   pub small : stamp < 255
   pub marks : MarksUpTo j s stamp
   pub clean : fresh ≡ true → Fresh j s stamp

@@ -1,5 +1,5 @@
 // One search: from a call's node back in time to a free cart, depth first, with the way so far as a stack in the store.
-use floor::tables::row;
+use floor::tables::row_at;
 use model::bytes::wide;
 use network::planes::Grid;
 use network::planes::Node;
@@ -136,6 +136,7 @@ pub fn search(
     near: &[u8],
     begin: &[u16],
     due: &[u16],
+    shut: &[u16],
     cart_on: &[u8],
     hint: &[u8],
     store: &mut [u8],
@@ -143,8 +144,8 @@ pub fn search(
     node: Node,
     stamp: u8,
 ) -> usize
-    requires { ⌜ ((j : model.Job) × Searching j (now near) (now begin) (now due) (now «cart_on») (now hint) (now store) grid (asPoint node)) ⌝ }
-    ensures { λ r. ⌜ ((j : model.Job) → Searching j (now (near .entry)) (now (begin .entry)) (now (due .entry)) (now («cart_on» .entry)) (now (hint .entry)) (now (store .entry)) grid (asPoint node) → Searched j (now (store .entry)) (now (store .exit)) stamp (asPoint node) r) ⌝ }
+    requires { ⌜ ((j : model.Job) × Searching j (now near) (now begin) (now due) (now shut) (now «cart_on») (now hint) (now store) grid (asPoint node)) ⌝ }
+    ensures { λ r. ⌜ ((j : model.Job) → Searching j (now (near .entry)) (now (begin .entry)) (now (due .entry)) (now (shut .entry)) (now («cart_on» .entry)) (now (hint .entry)) (now (store .entry)) grid (asPoint node) → Searched j (now (store .entry)) (now (store .exit)) stamp (asPoint node) r) ⌝ }
 {
     push(store, grid, 0, node, 0, stamp);
     let mut depth = 1;
@@ -154,7 +155,7 @@ pub fn search(
         if top.step == 0 && cart_on[c] != 0 {
             return depth;
         }
-        let row = row(near, begin, c);
+        let row = row_at(near, begin, shut, c, top.step);
         let mut found = guess(store, row, due, grid, top, wide(hint[c]), stamp);
         if let Found::Nothing = found {
             found = find(store, row, due, grid, top, stamp);

@@ -22,6 +22,7 @@ fn seek(
     near: &[u8],
     begin: &[u16],
     due: &[u16],
+    shut: &[u16],
     cart_on: &[u8],
     hint: &[u8],
     store: &mut [u8],
@@ -29,10 +30,21 @@ fn seek(
     node: Node,
     stamp: u8,
 ) -> bool
-    requires { ⌜ ((j : model.Job) × Searching j (now near) (now begin) (now due) (now «cart_on») (now hint) (now store) grid (asPoint node)) ⌝ }
-    ensures { λ r. ⌜ ((j : model.Job) → Searching j (now (near .entry)) (now (begin .entry)) (now (due .entry)) (now («cart_on» .entry)) (now (hint .entry)) (now (store .entry)) grid (asPoint node) → Sought j grid (now (store .entry)) (now (store .exit)) stamp (asPoint node) r) ⌝ }
+    requires { ⌜ ((j : model.Job) × Searching j (now near) (now begin) (now due) (now shut) (now «cart_on») (now hint) (now store) grid (asPoint node)) ⌝ }
+    ensures { λ r. ⌜ ((j : model.Job) → Searching j (now (near .entry)) (now (begin .entry)) (now (due .entry)) (now (shut .entry)) (now («cart_on» .entry)) (now (hint .entry)) (now (store .entry)) grid (asPoint node) → Sought j grid (now (store .entry)) (now (store .exit)) stamp (asPoint node) r) ⌝ }
 {
-    let depth = search::search(near, begin, due, cart_on, hint, store, grid, node, stamp);
+    let depth = search::search(
+        near,
+        begin,
+        due,
+        shut,
+        cart_on,
+        hint,
+        store,
+        grid,
+        node,
+        stamp,
+    );
     if depth == 0 {
         return false;
     }
@@ -46,6 +58,7 @@ pub fn serve(
     near: &[u8],
     begin: &[u16],
     due: &[u16],
+    shut: &[u16],
     cart_on: &[u8],
     hint: &[u8],
     store: &mut [u8],
@@ -54,17 +67,39 @@ pub fn serve(
     stamp: u8,
     fresh: bool,
 ) -> Served
-    requires { ⌜ ((j : model.Job) × Serving j (now near) (now begin) (now due) (now «cart_on») (now hint) (now store) grid (asPoint node) stamp fresh) ⌝ }
-    ensures { λ r. ⌜ (length (now (store .exit)) ≡ length (now (store .entry))) × ((j : model.Job) → Serving j (now (near .entry)) (now (begin .entry)) (now (due .entry)) (now («cart_on» .entry)) (now (hint .entry)) (now (store .entry)) grid (asPoint node) stamp fresh → Holds j grid (now (store .exit)) × ServedBy j (now (store .entry)) (now (store .exit)) stamp (asPoint node) r) ⌝ }
+    requires { ⌜ ((j : model.Job) × Serving j (now near) (now begin) (now due) (now shut) (now «cart_on») (now hint) (now store) grid (asPoint node) stamp fresh) ⌝ }
+    ensures { λ r. ⌜ (length (now (store .exit)) ≡ length (now (store .entry))) × ((j : model.Job) → Serving j (now (near .entry)) (now (begin .entry)) (now (due .entry)) (now (shut .entry)) (now («cart_on» .entry)) (now (hint .entry)) (now (store .entry)) grid (asPoint node) stamp fresh → Holds j grid (now (store .exit)) × ServedBy j (now (store .entry)) (now (store .exit)) stamp (asPoint node) r) ⌝ }
 {
-    if seek(near, begin, due, cart_on, hint, store, grid, node, stamp) {
+    if seek(
+        near,
+        begin,
+        due,
+        shut,
+        cart_on,
+        hint,
+        store,
+        grid,
+        node,
+        stamp,
+    ) {
         return Served::Yes(stamp);
     }
     if fresh {
         return Served::No(stamp);
     }
     let again = stamp + 1;
-    if seek(near, begin, due, cart_on, hint, store, grid, node, again) {
+    if seek(
+        near,
+        begin,
+        due,
+        shut,
+        cart_on,
+        hint,
+        store,
+        grid,
+        node,
+        again,
+    ) {
         return Served::Yes(again);
     }
     Served::No(again)

@@ -1,6 +1,6 @@
 -- The pieces of a sheet are its lines, one more line is one more piece, and no line is longer than its share of the least length of a sheet.
 -- By induction over lists and counts. Assumes nothing.
-use Rattle.job.proofs.Rows.{in-paths}
+use Rattle.job.proofs.UpTo.{in-up}
 use Prim.Native.Nat.{ℕ, zero, suc, _+_, _-_, _*_, _≤_, _<_}
 use mathlib.Core.Path.{_≡_, refl, ap}
 use mathlib.Core.List.{List, [], _∷_, _++_, append-assoc, append-nil}
@@ -13,7 +13,7 @@ use borrow.Author.Tests.{eqb-true}
 use Rattle.model.specs.Lists.{In}
 use Rattle.model.specs.Limits.{maxSteps}
 use Rattle.model.specs.Text.{numeral, fields, line, pathWord}
-use Rattle.model.specs.Job.{Job, Call, call, callOf, latest, horizon, sheetLeast}
+use Rattle.model.specs.Job.{Job, Call, lift, call, callOf, latest, horizon, sheetLeast}
 use Rattle.model.specs.Plan.{Path}
 use Rattle.model.specs.Ready.{Ready}
 use Rattle.model.specs.SheetText.{linesText, pathNumbers}
@@ -52,7 +52,7 @@ module _ (b k n p l : ℕ) (h : k < n) (room : p + (n - k) * b ≤ l) where
   room-rest r i = omega (arith, apart)
 
 -- a deadline is no later than the last step
-latest-most : (l : List Call) (k : ℕ) → getD l k (call 0 0) .deadline ≤ latest l
+latest-most : (l : List Call) (k : ℕ) → getD l k (call lift 0 0) .deadline ≤ latest l
 latest-most [] k = omega arith
 latest-most (q ∷ l) zero = omega arith
 latest-most (q ∷ l) (suc k) = omega (arith, latest-most l k)
@@ -93,7 +93,7 @@ module _ (j : Job) (carts calls lasts rows : List ℕ) (known : (p : Path) → I
       let a = ltb (P .cart) (length (j .carts)) in
       let b = ltb (P .call) (length (j .calls)) in
       let c = eqb (length (P .cells)) (suc (callOf j (P .call) .deadline)) in
-      let w = and-left (a && b && c) (allBelow (j .cells) (P .cells)) (known P (in-paths carts calls lasts rows (length (j .calls)) k h)) in
+      let w = and-left (a && b && c) (allBelow (j .cells) (P .cells)) (known P (in-up (pathAt carts calls lasts rows) (length (j .calls)) P .1 (k, h, refl))) in
       omega (arith, ap length part-is, eqb-true (length (P .cells)) (suc (callOf j (P .call) .deadline)) (and-right (a && b) c w), latest-most (j .calls) (P .call))
 
   pub path-room : length (line pathWord (cart ∷ at ∷ part)) ≤ share j

@@ -12,7 +12,7 @@ use lib.ListN.{length}
 use Rattle.text.proofs.Wrote.{wrote-none, wrote-more}
 use Rattle.model.specs.SheetText.{linesText, pathNumbers}
 use Rattle.model.specs.Text.{pathWord}
-use Rattle.job.proofs.Rows.{paths-length}
+use Rattle.job.proofs.UpTo.{up-count}
 use Rattle.sheetwriter.proofs.Laws.{paths-room, share, part-short, wrote-path, path-room, room-one, room-rest, wrote-lines}
 use Rattle.job.specs.Held.{pathsTo, pathAt}
 use borrow.Author.Needs.{needs}
@@ -79,7 +79,7 @@ put-path-requires c κs =
       omega (
         arith,
         r,
-        part-short (jobOf j) _ _ _ _ (s .pre .3) (l .k) n (put-path-arg2→wide2 c .wide2 .ensures .0)
+        part-short (jobOf j) (now (s .args .carts)) (now (s .args .calls)) (now (s .args .lasts)) (now (s .args .rows)) (s .pre .3) (l .k) n (put-path-arg2→wide2 c .wide2 .ensures .0)
             (put-path-arg2→wide3 c .wide3 .ensures .0) (put-path-arg2→wide c .wide .ensures .0),
       ),
     )
@@ -90,7 +90,7 @@ returns c =
     let a = s .args in
     let l = c .before .before .loop in
     let e : l .k ≡ a .job .calls = omega arith in
-    rw (counted s, paths-length (now (a .carts)) (now (a .calls)) (now (a .lasts)) (now (a .rows)) (a .job .calls)) (wrote-more (else1→put-head c .put-head .ensures .0) (rw e at (l .inv .3)))
+    rw (counted s, up-count (pathAt (now (a .carts)) (now (a .calls)) (now (a .lasts)) (now (a .rows))) (a .job .calls)) (wrote-more (else1→put-head c .put-head .ensures .0) (rw e at (l .inv .3)))
 
 pub put-plan-spec : {M : Type 1} → statement M
 put-plan-spec =

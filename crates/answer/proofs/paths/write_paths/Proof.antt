@@ -20,15 +20,15 @@ mod Places
 use Places.*
 
 abbrev Inv-loop : tie.InvT-loop
-Inv-loop lifts deadlines calls cart-on store grid first₀ second lasts₀ rows₀ i₀ first lasts rows i =
+Inv-loop targets deadlines calls cart-on store grid first₀ second lasts₀ rows₀ i₀ first lasts rows i =
     (i ≤ calls) × (calls ≤ maxCalls) × Room first second lasts rows
-    × ((j : Job) → FullFlow j lifts deadlines calls cart-on second grid store → PathsTraced j second store first lasts rows i)
+    × ((j : Job) → FullFlow j targets deadlines calls cart-on second grid store → PathsTraced j second store first lasts rows i)
 
 abbrev μ-loop : tie.MeasureT-loop
-μ-loop lifts deadlines calls cart-on store grid first₀ second lasts₀ rows₀ i₀ first lasts rows i = calls - i
+μ-loop targets deadlines calls cart-on store grid first₀ second lasts₀ rows₀ i₀ first lasts rows i = calls - i
 
 abbrev Full : tie.Start Inv-loop μ-loop → Job → Type 0
-Full c j = FullFlow j (now (c .args .lifts)) (now (c .args .deadlines)) (c .args .calls) (now (c .args .cart-on)) (now (c .args .second)) (c .args .grid) (now (c .args .store))
+Full c j = FullFlow j (now (c .args .targets)) (now (c .args .deadlines)) (c .args .calls) (now (c .args .cart-on)) (now (c .args .second)) (c .args .grid) (now (c .args .store))
 
 loop-holds : tie.Need-loop-holds Inv-loop μ-loop
 loop-holds c = (omega arith, few (slice-known3→start c .pre .0 .1), slice-known3→start c .pre .1, λ j g. traced-none (slice-known3→start c .pre .1))

@@ -1,6 +1,6 @@
 -- `chain` puts each call behind the last one with its deadline. Invariant: the chains are those of the first k calls. The measure is what is left of the calls. Assumes nothing.
 use Rattle.model.specs.Limits.{maxSteps}
-use Rattle.floor.proofs.TableLaws.{zeroed}
+use Rattle.floor.proofs.TableLaws.{filled-all}
 use Rattle.chokejudge.proofs.ChainLaws.{chains-more, chains-none}
 use denote.Ref.{now}
 use Rattle.chokejudge.specs.Chains.{Chains}
@@ -25,7 +25,7 @@ loop-holds c =
     let p = slice-known3→start c .pre in (
       omega arith,
       chains-none (now (a .deadlines)) (now (a .before)) (now (a .latest)) (slice-known3→clear c .clear .last .0) (p .2) (p .1)
-          (zeroed (now (a .latest)) (slice-known3→clear c .clear .last .0) maxSteps (sym (p .1)) (slice-known3→clear c .clear .ensures)),
+          (filled-all (now (a .latest)) (slice-known3→clear c .clear .last .0) 0 maxSteps (sym (p .1)) (slice-known3→clear c .clear .ensures)),
     )
 
 loop-again : tie.Need-loop-again Inv-loop μ-loop

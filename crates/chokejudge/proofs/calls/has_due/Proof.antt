@@ -17,17 +17,17 @@ mod Places
 use Places.*
 
 abbrev Hit : List ℕ → List ℕ → ℕ → Type 0
-Hit lifts since k = 0 < getD since (getD lifts k 0) 0
+Hit targets since k = 0 < getD since (getD targets k 0) 0
 
 -- whatever calls the chains are of
 abbrev ChainPassed : List ℕ → List ℕ → List ℕ → List ℕ → ℕ → ℕ → Type 0
-ChainPassed lifts latest before since t h = (deadlines : List ℕ) → (calls : ℕ) → (calls ≤ maxCalls) × Chains deadlines calls latest before → Passed deadlines calls (Hit lifts since) t h
+ChainPassed targets latest before since t h = (deadlines : List ℕ) → (calls : ℕ) → (calls ≤ maxCalls) × Chains deadlines calls latest before → Passed deadlines calls (Hit targets since) t h
 
 abbrev Inv-loop : tie.InvT-loop
-Inv-loop lifts latest before t since h₀ h = (t < maxSteps) × (length since ≡ maxCells) × (h ≤ maxCalls) × ChainPassed lifts latest before since t h
+Inv-loop targets latest before t since h₀ h = (t < maxSteps) × (length since ≡ maxCells) × (h ≤ maxCalls) × ChainPassed targets latest before since t h
 
 abbrev μ-loop : tie.MeasureT-loop
-μ-loop lifts latest before t since h₀ h = h
+μ-loop targets latest before t since h₀ h = h
 
 loop-holds : tie.Need-loop-holds Inv-loop μ-loop
 loop-holds c =
@@ -35,7 +35,7 @@ loop-holds c =
       p .0,
       p .1,
       omega (arith, c .wide .ensures .0, p .2 .3 .last (wide→start c .args .t) (p .0) .few, p .2 .2),
-      λ deadlines calls r. passed-none (r .1) (Hit (now (wide→start c .args .lifts)) (now (wide→start c .args .since))) (wide→start c .args .t) (c .wide .result) (c .wide .ensures .0) (p .0),
+      λ deadlines calls r. passed-none (r .1) (Hit (now (wide→start c .args .targets)) (now (wide→start c .args .since))) (wide→start c .args .t) (c .wide .result) (c .wide .ensures .0) (p .0),
     )
 
 returns : tie.Need-returns Inv-loop μ-loop
@@ -58,11 +58,11 @@ loop-less c =
 
 -- the call that was looked at is not met
 next : (c : tie.After-wide3 Inv-loop μ-loop)
-    → let a = wide3→start c .args in ChainPassed (now (a .lifts)) (now (a .latest)) (now (a .before)) (now (a .since)) (a .t) (c .wide3 .result)
+    → let a = wide3→start c .args in ChainPassed (now (a .targets)) (now (a .latest)) (now (a .before)) (now (a .since)) (a .t) (c .wide3 .result)
 next c deadlines calls r =
     let l = wide3→loop c .loop in
     let a = wide3→start c .args in
-    passed-more (r .1) (Hit (now (a .lifts)) (now (a .since))) (a .t) (l .h) (c .wide3 .result) (c .wide3 .ensures .0) (wide3→in-loop c .loop-test .taken) (l .inv .3 deadlines calls r)
+    passed-more (r .1) (Hit (now (a .targets)) (now (a .since))) (a .t) (l .h) (c .wide3 .result) (c .wide3 .ensures .0) (wide3→in-loop c .loop-test .taken) (l .inv .3 deadlines calls r)
     (λ q. omega (arith, q, rw (wide3→wide2 c .wide2 .ensures .0) at (c .before .before .if1 .left)))
 
 loop-again : tie.Need-loop-again Inv-loop μ-loop

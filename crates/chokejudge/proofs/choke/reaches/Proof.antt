@@ -19,12 +19,12 @@ mod Places
 use Places.*
 
 abbrev Inv-loop : tie.InvT-loop
-Inv-loop near begin starts carts lifts deadlines calls cells steps n last latest before since₀ queue₀ head₀ tail₀ opens₀ end₀ t₀ since queue head tail opens end t =
+Inv-loop near begin starts carts targets deadlines calls cells steps n last latest before since₀ queue₀ head₀ tail₀ opens₀ end₀ t₀ since queue head tail opens end t =
     (t ≤ last + 1) × Holding near begin starts carts cells steps n t since queue head tail opens end
-    × Unmet (Reached near begin starts carts cells steps n) lifts deadlines calls t
+    × Unmet (Reached near begin starts carts cells steps n) targets deadlines calls t
 
 abbrev μ-loop : tie.MeasureT-loop
-μ-loop near begin starts carts lifts deadlines calls cells steps n last latest before since₀ queue₀ head₀ tail₀ opens₀ end₀ t₀ since queue head tail opens end t = last + 1 - t
+μ-loop near begin starts carts targets deadlines calls cells steps n last latest before since₀ queue₀ head₀ tail₀ opens₀ end₀ t₀ since queue head tail opens end t = last + 1 - t
 
 place-requires : tie.Need-place-requires Inv-loop μ-loop
 place-requires c κs = (queue→start c .pre .0, record { cells = search needs; places = search needs; ends = omega arith })
@@ -49,7 +49,7 @@ returns : tie.Need-returns Inv-loop μ-loop
 returns c =
     let a = then1→start c .args in
     told
-    (call-in (then1→loop c .loop .inv .1) (now (a .lifts)) (now (a .deadlines)) (a .calls)
+    (call-in (then1→loop c .loop .inv .1) (now (a .targets)) (now (a .deadlines)) (a .calls)
     (then1→has-due c .has-due .ensures (now (a .deadlines)) (a .calls) (then1→start c .pre .1, then1→chain c .chain .ensures) .0 (c .if1 .taken)))
 
 grow-requires : tie.Need-grow-requires Inv-loop μ-loop
@@ -87,7 +87,7 @@ loop-again c =
     let h = l .inv .1 in (
       turned (since9→in-loop c .loop-test .taken),
       holding-next h (p .6 .1) (p .6 .2) (p .6 .3) (since9→grow c .grow .ensures) (since9→close2 c .close2 .ensures),
-      unmet-more h (now (a .lifts)) (now (a .deadlines)) (a .calls)
+      unmet-more h (now (a .targets)) (now (a .deadlines)) (a .calls)
           (since9→has-due c .has-due .ensures (now (a .deadlines)) (a .calls) (p .1, since9→chain c .chain .ensures) .1 (since9→else1 c .if1 .left)) (l .inv .2),
     )
 

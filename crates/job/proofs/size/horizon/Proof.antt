@@ -8,7 +8,7 @@ use mathlib.Core.Path.{_≡_}
 use mathlib.Core.List.{map}
 use lib.ListN.{take}
 use Rattle.model.specs.Limits.{maxSteps}
-use Rattle.model.specs.Job.{call, latest}
+use Rattle.model.specs.Job.{lift, call, latest}
 use Rattle.job.proofs.Arrays.{latest-suc}
 use borrow.Author.Needs.{needs}
 use Rattle.job.proofs.size.horizon.Statement.{statement}
@@ -17,7 +17,7 @@ mod Places
 use Places.*
 
 abbrev Inv-loop : tie.InvT-loop
-Inv-loop deadlines calls last₀ k₀ last k = (k ≤ calls) × (last < maxSteps) × (last ≡ latest (map (call 0) (take k deadlines)))
+Inv-loop deadlines calls last₀ k₀ last k = (k ≤ calls) × (last < maxSteps) × (last ≡ latest (map (call lift 0) (take k deadlines)))
 
 abbrev μ-loop : tie.MeasureT-loop
 μ-loop deadlines calls last₀ k₀ last k = calls - k

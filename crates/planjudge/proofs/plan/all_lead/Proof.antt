@@ -18,23 +18,23 @@ mod Places
 use Places.*
 
 abbrev Inv-loop : tie.InvT-loop
-Inv-loop table rows lasts carts starts calls lifts n k₀ k = (k ≤ n) × AllLed table rows lasts carts starts calls lifts k
+Inv-loop table shut rows lasts carts starts calls targets n k₀ k = (k ≤ n) × AllLed table shut rows lasts carts starts calls targets k
 
 abbrev μ-loop : tie.MeasureT-loop
-μ-loop table rows lasts carts starts calls lifts n k₀ k = n - k
+μ-loop table shut rows lasts carts starts calls targets n k₀ k = n - k
 
 -- what `leads` answers, by the path's cart and call
 answer : (c : tie.After-leads Inv-loop μ-loop) → let a =
     leads→start c .args in let k =
     leads→loop c .loop .k in
-    Decides (c .leads .result) (Led (now (a .table)) (now (a .rows)) k (getD (now (a .lasts)) k 0)
-    (getD (now (a .starts)) (getD (now (a .carts)) k 0) 0) (getD (now (a .lifts)) (getD (now (a .calls)) k 0) 0))
+    Decides (c .leads .result) (Led (now (a .table)) (now (a .shut)) (now (a .rows)) k (getD (now (a .lasts)) k 0)
+    (getD (now (a .starts)) (getD (now (a .carts)) k 0) 0) (getD (now (a .targets)) (getD (now (a .calls)) k 0) 0))
 answer c =
     let a = leads→start c .args in
     let k = leads→loop c .loop .k in
-    let by : ℕ → ℕ → ℕ → Type 0 = λ d x y. Decides (c .leads .result) (Led (now (a .table)) (now (a .rows)) k d x y) in
+    let by : ℕ → ℕ → ℕ → Type 0 = λ d x y. Decides (c .leads .result) (Led (now (a .table)) (now (a .shut)) (now (a .rows)) k d x y) in
     let s = leads→wide4 c .wide4 .ensures .0 ∙ ap (λ x. getD (now (a .starts)) x 0) (leads→wide c .wide .ensures .0) in
-    let l = leads→wide5 c .wide5 .ensures .0 ∙ ap (λ x. getD (now (a .lifts)) x 0) (leads→wide2 c .wide2 .ensures .0) in
+    let l = leads→wide5 c .wide5 .ensures .0 ∙ ap (λ x. getD (now (a .targets)) x 0) (leads→wide2 c .wide2 .ensures .0) in
     at-both (by (getD (now (a .lasts)) k 0)) s l (at-both (λ d x. by d x (leads→wide5 c .wide5 .result)) (leads→wide3 c .wide3 .ensures .0) refl (c .leads .ensures))
 
 loop-holds : tie.Need-loop-holds Inv-loop μ-loop

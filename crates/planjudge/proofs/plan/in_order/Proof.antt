@@ -18,18 +18,18 @@ mod Places
 use Places.*
 
 abbrev Inv-loop : tie.InvT-loop
-Inv-loop lifts deadlines calls n k₀ k = (k ≤ maxCalls) × ((m : ℕ) → m < k → SoonerIn lifts deadlines (getD calls m 0) (getD calls (m + 1) 0))
+Inv-loop targets deadlines calls n k₀ k = (k ≤ maxCalls) × ((m : ℕ) → m < k → SoonerIn targets deadlines (getD calls m 0) (getD calls (m + 1) 0))
 
 abbrev μ-loop : tie.MeasureT-loop
-μ-loop lifts deadlines calls n k₀ k = n - k
+μ-loop targets deadlines calls n k₀ k = n - k
 
 -- what `sooner` answers, by the paths
 answer : (c : tie.After-sooner Inv-loop μ-loop) → let a = sooner→start c .args in
     let k = sooner→loop c .loop .k in
-    Decides (c .sooner .result) (SoonerIn (now (a .lifts)) (now (a .deadlines)) (getD (now (a .calls)) k 0) (getD (now (a .calls)) (k + 1) 0))
+    Decides (c .sooner .result) (SoonerIn (now (a .targets)) (now (a .deadlines)) (getD (now (a .calls)) k 0) (getD (now (a .calls)) (k + 1) 0))
 answer c =
     let a = sooner→start c .args in
-    at-both (λ p q. Decides (c .sooner .result) (SoonerIn (now (a .lifts)) (now (a .deadlines)) p q)) (sooner→wide c .wide .ensures .0) (sooner→wide2 c .wide2 .ensures .0) (c .sooner .ensures)
+    at-both (λ p q. Decides (c .sooner .result) (SoonerIn (now (a .targets)) (now (a .deadlines)) p q)) (sooner→wide c .wide .ensures .0) (sooner→wide2 c .wide2 .ensures .0) (c .sooner .ensures)
 
 loop-holds : tie.Need-loop-holds Inv-loop μ-loop
 loop-holds c = (omega arith, λ m h. absurd (omega arith))

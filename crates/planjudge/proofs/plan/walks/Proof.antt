@@ -1,6 +1,6 @@
--- `walks` decides whether a path is a walk. Invariant: its steps below t are steps of a cart. The measure is the steps left. Assumes nothing.
+-- `walks` decides whether a path is a walk. Invariant: its steps below t are allowed. The measure is the steps left. Assumes nothing.
 use Rattle.job.specs.Held.{Decides}
-use Rattle.planjudge.specs.PlanTests.{Goes, cellOf}
+use Rattle.planjudge.specs.PlanTests.{Allowed, cellOf}
 use Prim.Native.Nat.{_+_, _-_, _<_, _≤_, ℕ}
 use borrow.Author.Count.{below-more}
 use Rattle.job.proofs.Tested.{denied, told}
@@ -15,31 +15,32 @@ mod Places
 use Places.*
 
 abbrev Inv-loop : tie.InvT-loop
-Inv-loop table rows k d t₀ t = (t ≤ d) × ((s : ℕ) → s < t → Goes table (cellOf rows k s) (cellOf rows k (s + 1)))
+Inv-loop table shut rows k d t₀ t = (t ≤ d) × ((s : ℕ) → s < t → Allowed table shut s (cellOf rows k s) (cellOf rows k (s + 1)))
 
 abbrev μ-loop : tie.MeasureT-loop
-μ-loop table rows k d t₀ t = d - t
+μ-loop table shut rows k d t₀ t = d - t
 
--- what `goes` answers, by the path's cells
-answer : (c : tie.After-goes Inv-loop μ-loop) → let a = goes→start c .args in let t = goes→loop c .loop .t in
-    Decides (c .goes .result) (Goes (now (a .table)) (cellOf (now (a .rows)) (a .k) t) (cellOf (now (a .rows)) (a .k) (t + 1)))
+-- what `allowed` answers, by the path's cells
+answer : (c : tie.After-allowed Inv-loop μ-loop) → let a = allowed→start c .args in let t = allowed→loop c .loop .t in
+    Decides (c .allowed .result) (Allowed (now (a .table)) (now (a .shut)) t (cellOf (now (a .rows)) (a .k) t) (cellOf (now (a .rows)) (a .k) (t + 1)))
 answer c =
-    at-both (λ u v. Decides (c .goes .result) (Goes (now (goes→start c .args .table)) u v)) (goes→cell c .cell .ensures .0) (goes→cell2 c .cell2 .ensures .0)
-    (c .goes .ensures)
+    let a = allowed→start c .args in
+    at-both (λ u v. Decides (c .allowed .result) (Allowed (now (a .table)) (now (a .shut)) (allowed→loop c .loop .t) u v)) (allowed→cell c .cell .ensures .0)
+    (allowed→cell2 c .cell2 .ensures .0) (c .allowed .ensures)
 
 loop-holds : tie.Need-loop-holds Inv-loop μ-loop
 loop-holds c = (omega arith, λ s h. absurd (omega arith))
 
-goes-requires : tie.Need-goes-requires Inv-loop μ-loop
-goes-requires c κs = (cell2→cell c .cell .ensures .1, c .cell2 .ensures .1)
+allowed-requires : tie.Need-allowed-requires Inv-loop μ-loop
+allowed-requires c κs = (omega arith, cell2→cell c .cell .ensures .1, c .cell2 .ensures .1)
 
 returns : tie.Need-returns Inv-loop μ-loop
 returns c =
     let t = then1→loop c .loop .t in
-    denied (λ w. answer (then1→goes c) .1 (not-true _ (c .if1 .taken)) (w t (omega arith)))
+    denied (λ w. answer (then1→allowed c) .1 (not-true _ (c .if1 .taken)) (w t (omega arith)))
 
 loop-again : tie.Need-loop-again Inv-loop μ-loop
-loop-again c = (omega arith, below-more _ (else1→loop c .loop .t) (else1→loop c .loop .inv .1) (answer (else1→goes c) .0 (not-false _ (c .if1 .left))))
+loop-again c = (omega arith, below-more _ (else1→loop c .loop .t) (else1→loop c .loop .inv .1) (answer (else1→allowed c) .0 (not-false _ (c .if1 .left))))
 
 returns-2 : tie.Need-returns-2 Inv-loop μ-loop
 returns-2 c = told (λ s h. after-loop→loop c .loop .inv .1 s (omega arith))
@@ -48,4 +49,5 @@ pub walks-spec : {M : Type 1} → statement M
 walks-spec =
     tie.close
     (tie.spec
-    Inv-loop μ-loop loop-holds (λ c κs. search needs) (λ c. search needs) (λ c κs. search needs) goes-requires returns (λ c. search needs) (λ c. search needs) loop-again returns-2)
+    Inv-loop μ-loop loop-holds (λ c κs. search needs) (λ c. search needs) (λ c κs. search needs) allowed-requires returns (λ c. search needs) (λ c. search needs) loop-again
+    returns-2)

@@ -19,18 +19,18 @@ mod Places
 use Places.*
 
 abbrev Inv-loop : tie.InvT-loop
-Inv-loop lifts deadlines calls near begin due cart-on order store₀ grid hint₀ stamp₀ i₀ store hint stamp i =
+Inv-loop targets deadlines calls near begin due shut cart-on order store₀ grid hint₀ stamp₀ i₀ store hint stamp i =
     (length store ≡ length store₀) × (length hint ≡ maxCells) × (i ≤ calls)
-    × ((j : Job) → Begun j lifts deadlines calls near begin due cart-on order store₀ grid → SoFar j order store grid i stamp)
+    × ((j : Job) → Begun j targets deadlines calls near begin due shut cart-on order store₀ grid → SoFar j order store grid i stamp)
 
 abbrev μ-loop : tie.MeasureT-loop
-μ-loop lifts deadlines calls near begin due cart-on order store₀ grid hint₀ stamp₀ i₀ store hint stamp i = calls - i
+μ-loop targets deadlines calls near begin due shut cart-on order store₀ grid hint₀ stamp₀ i₀ store hint stamp i = calls - i
 
 loop-holds : tie.Need-loop-holds Inv-loop μ-loop
 loop-holds c = (refl, search needs, omega arith, λ j b. so-far-none b)
 
 shared-slice-read-wide : tie.Need-shared-slice-read-wide Inv-loop μ-loop
-shared-slice-read-wide c = let b = shared-slice-known6→start c .pre .1 in omega (arith, b .ordered .size, few b)
+shared-slice-read-wide c = let b = shared-slice-known7→start c .pre .1 in omega (arith, b .ordered .size, few b)
 
 element-copy-out-wide : tie.Need-element-copy-out-wide Inv-loop μ-loop
 element-copy-out-wide c = let b = wide→start c .pre .1 in omega (arith, call-known b (wide→in-loop c .loop-test .taken), few b, c .wide .ensures .0)
@@ -48,12 +48,13 @@ aim-requires c κs =
 
 abbrev Begins : tie.Start Inv-loop μ-loop → Job → Type 0
 Begins c j =
-    Begun j (now (c .args .lifts)) (now (c .args .deadlines)) (c .args .calls) (now (c .args .near)) (now (c .args .begin)) (now (c .args .due)) (now (c .args .cart-on)) (now (c .args .order))
-    (now (c .args .store)) (c .args .grid)
+    Begun j (now (c .args .targets)) (now (c .args .deadlines)) (c .args .calls) (now (c .args .near)) (now (c .args .begin)) (now (c .args .due)) (now (c .args .shut)) (now (c .args .cart-on))
+    (now (c .args .order)) (now (c .args .store)) (c .args .grid)
 
 -- The next call's search may start.
 serving : (c : tie.After-serve-arg Inv-loop μ-loop) (j : Job) → Begins (serve-arg→start c) j
-    → Serving j (now (serve-arg→start c .args .near)) (now (serve-arg→start c .args .begin)) (now (serve-arg→start c .args .due)) (now (serve-arg→start c .args .cart-on))
+    → Serving j (now (serve-arg→start c .args .near)) (now (serve-arg→start c .args .begin)) (now (serve-arg→start c .args .due)) (now (serve-arg→start c .args .shut))
+    (now (serve-arg→start c .args .cart-on))
     (serve-arg→aim c .aim .last .1 .1 .1 .1 .1 .1 .0) (serve-arg→loop c .loop .store)
     (serve-arg→start c .args .grid) (point (serve-arg→wide2 c .wide2 .result) (serve-arg→wide3 c .wide3 .result)) (serve-arg→loop c .loop .stamp) (eqb (serve-arg→loop c .loop .i) 0)
 serving c j b =

@@ -7,9 +7,9 @@ use Prim.Native.Nat.{ℕ}
 use types.Run.{OneOf}
 use denote.Enum.Declared.{tagOf}
 use Rattle.reader.specs.declared.fill.Kind.{Kind}
-use Rattle.reader.specs.declared.fill.Kind.the-variants.{Floor, Track, Cart, Call}
+use Rattle.reader.specs.declared.fill.Kind.the-variants.{Floor, Track, Cart, Call, Bay}
 use Rattle.job.specs.Bits.{withBit}
-use Rattle.reader.specs.Lines.{placeOf, noted}
+use Rattle.reader.specs.Lines.{kindOf, placeOf, noted}
 use Rattle.reader.proofs.fill.Kind.{the-type}
 use Rattle.reader.proofs.Noted.{place-small}
 use borrow.Author.Needs.{needs}
@@ -18,16 +18,17 @@ use Rattle.reader.proofs.fill.note.Tie as tie
 mod Places
 use Places.*
 
-set-at-place : (seen : List ℕ) (a b : ℕ) (k : Kind) → OneOf (1 ∷ 2 ∷ 3 ∷ []) (tagOf the-type k) → withBit seen (placeOf k a b) ≡ noted seen k a b
-set-at-place seen a b Floor h = absurd (⊎-elim (λ e. omega arith) (⊎-elim (λ e. omega arith) (λ e. omega arith)) h)
+set-at-place : (seen : List ℕ) (a b : ℕ) (k : Kind) → OneOf (1 ∷ 2 ∷ 3 ∷ 4 ∷ []) (tagOf the-type k) → withBit seen (placeOf (kindOf k) a b) ≡ noted seen (kindOf k) a b
+set-at-place seen a b Floor h = absurd (⊎-elim (λ e. omega arith) (⊎-elim (λ e. omega arith) (⊎-elim (λ e. omega arith) (λ e. omega arith))) h)
 set-at-place seen a b Track h = refl
 set-at-place seen a b Cart h = refl
 set-at-place seen a b Call h = refl
+set-at-place seen a b Bay h = refl
 
 add-requires : tie.Need-add-requires
 add-requires c κs =
     let s = add-arg→start c in
-    omega (arith, add-arg→place c .place .ensures, place-small (s .args .kind) (s .args .a) (s .args .b) (s .pre .0))
+    omega (arith, add-arg→place c .place .ensures, place-small (kindOf (s .args .kind)) (s .args .a) (s .args .b) (s .pre .0))
 
 returns-2 : tie.Need-returns-2
 returns-2 c =

@@ -2,6 +2,7 @@
 -- word. Assumes nothing.
 use native.Mathlib.Omega.{arith}
 use borrow.Author.Needs.{needs}
+use Rattle.reader.proofs.Tests.{called}
 use Rattle.reader.proofs.fill.place.Statement.{statement}
 use Rattle.reader.proofs.fill.place.Tie as tie
 
@@ -12,7 +13,7 @@ add-result : tie.Need-add-result
 add-result c = let s = rw (c .enum-told3 .given .1) at (c .before .before .pre) in omega arith
 
 add-result-2 : tie.Need-add-result-2
-add-result-2 c = let s = rw (c .enum-told4 .given .1) at (c .before .before .pre) in omega arith
+add-result-2 c = let s = rw (called (c .before .args .kind) (c .match .keys4) .1) at (c .before .pre) in omega arith
 
 returns-2 : tie.Need-returns-2
 returns-2 c = rw (c .before .enum-told2 .given .1) (c .pair .ensures)
@@ -21,10 +22,10 @@ returns-3 : tie.Need-returns-3
 returns-3 c = rw (c .enum-told3 .given .1)
 
 returns-4 : tie.Need-returns-4
-returns-4 c = rw (c .enum-told4 .given .1)
+returns-4 c = rw (called (c .before .args .kind) (c .match .keys4) .1)
 
 pub place-spec : {M : Type 1} → statement M
 place-spec =
     tie.close
     (tie.spec
-    (λ c. search needs) (λ c. search needs) pair-requires (λ c. search needs) add-result (λ c. search needs) add-result-2 (λ c. search needs) returns-2 returns-3 returns-4)
+    (λ c. search needs) (λ c. search needs) pair-requires (λ c. search needs) add-result add-result-2 (λ c. search needs) returns-2 returns-3 returns-4)

@@ -1,22 +1,25 @@
 -- `put_line` adds the line to the job that the arrays hold: it stores the numbers at the count of their kind and counts one more. There is
 -- room, so the count is within the array. Assumes nothing.
 use Prim.Native.Nat.{_<_}
+use mathlib.Core.Path.{_≡_}
 use native.Mathlib.Omega.{arith}
 use denote.Ref.{now}
 use lib.ListN.{length, length-set}
 use Rattle.model.specs.Limits.{maxTracks, maxCarts, maxCalls}
-use Rattle.model.specs.Job.{track, call}
+use Rattle.model.specs.Job.{CallKind, track}
+use Rattle.model.specs.ReadJob.{callLine}
 use Rattle.job.specs.declared.state.Job.{Job}
-use Rattle.reader.specs.Lines.{held}
+use Rattle.reader.specs.Lines.{kindOf, held}
 use Rattle.job.proofs.Pairs.{first-more, pairs-more}
-use Rattle.job.proofs.Arrays.{Whole, whole, tracks-room, carts-room, calls-room}
+use Rattle.job.proofs.Arrays.{Whole, whole, calls-more, tracks-room, carts-room, calls-room}
+use Rattle.reader.proofs.Tests.{called}
 use borrow.Author.Needs.{needs}
 use Rattle.reader.proofs.fill.put_line.Statement.{statement}
 use Rattle.reader.proofs.fill.put_line.Tie as tie
 
 -- The job that the arrays hold at first, and that they are long enough for it.
 abbrev job : tie.Start → Job
-job s = held (s .args .counts) (now (s .args .from)) (now (s .args .to)) (now (s .args .starts)) (now (s .args .lifts)) (now (s .args .deadlines))
+job s = held (s .args .counts) (now (s .args .from)) (now (s .args .to)) (now (s .args .starts)) (now (s .args .kinds)) (now (s .args .targets)) (now (s .args .deadlines))
 
 spacious : (s : tie.Start) → Whole (job s)
 spacious s = whole (job s) (s .pre .sized) (s .pre .long)
@@ -47,7 +50,8 @@ returns-2 c =
         from = simp length-set (s .pre .long .from);
         to = simp length-set (s .pre .long .to);
         starts = s .pre .long .starts;
-        lifts = s .pre .long .lifts;
+        kinds = s .pre .long .kinds;
+        targets = s .pre .long .targets;
         deadlines = s .pre .long .deadlines;
       };
     }
@@ -67,33 +71,50 @@ returns-3 c =
     record {
       adds = rw (c .enum-told3 .given .1, first-more (j .starts) (j .carts) (s .args .a) h);
       sized = record { tracks = s .pre .sized .tracks; carts = omega arith; calls = s .pre .sized .calls };
-      long = record { from = s .pre .long .from; to = s .pre .long .to; starts = simp length-set (s .pre .long .starts); lifts = s .pre .long .lifts; deadlines = s .pre .long .deadlines };
+      long = record {
+        from = s .pre .long .from;
+        to = s .pre .long .to;
+        starts = simp length-set (s .pre .long .starts);
+        kinds = s .pre .long .kinds;
+        targets = s .pre .long .targets;
+        deadlines = s .pre .long .deadlines;
+      };
     }
 
-cast-lifts : tie.Need-cast-lifts
-cast-lifts c = let s = rw (c .enum-told4 .given .1) at (c .before .before .pre .small) in omega arith
+-- In the arm of calls and bays: the line is that of a call.
+told : (c : tie.After-kind-byte) → (q : CallKind) × (kindOf (c .before .before .args .kind) ≡ callLine q)
+told c = called (c .before .before .args .kind) (c .before .match .keys4)
 
-element-write-lifts : tie.Need-element-write-lifts
-element-write-lifts c = let s = c .before .before in calls-room (job s) (spacious s) (rw (c .enum-told4 .given .1) at (s .pre .room))
+element-write-kinds : tie.Need-element-write-kinds
+element-write-kinds c =
+    let s = c .before .before in
+    let (q, e) = told c in
+    calls-room (job s) (spacious s) q (rw e at (s .pre .room))
+
+cast-targets : tie.Need-cast-targets
+cast-targets c = let s = rw (told c .1) at (c .before .before .pre .small) in omega arith
 
 cast-deadlines : tie.Need-cast-deadlines
-cast-deadlines c = let s = rw (c .enum-told4 .given .1) at (c .before .before .pre .small) in omega arith
+cast-deadlines c = let s = rw (told c .1) at (c .before .before .pre .small) in omega arith
 
 returns-4 : tie.Need-returns-4
 returns-4 c =
     let s = c .before .before in
     let j = job s in
-    let room : j .calls < maxCalls = element-write-lifts c in
-    let h : j .calls < length (j .lifts) = omega (arith, s .pre .long .lifts) in
-    let k : j .calls < length (j .deadlines) = omega (arith, s .pre .long .deadlines) in
+    let (q, e) = told c in
+    let room : j .calls < maxCalls = element-write-kinds c in
+    let h : j .calls < length (j .kinds) = omega (arith, s .pre .long .kinds) in
+    let k : j .calls < length (j .targets) = omega (arith, s .pre .long .targets) in
+    let l : j .calls < length (j .deadlines) = omega (arith, s .pre .long .deadlines) in
     record {
-      adds = rw (c .enum-told4 .given .1, pairs-more call (j .lifts) (j .deadlines) (j .calls) (s .args .a) (s .args .b) h k);
+      adds = rw (e, calls-more (j .kinds) (j .targets) (j .deadlines) (j .calls) (c .kind-byte .result) (s .args .a) (s .args .b) h k l, c .kind-byte .ensures q e);
       sized = record { tracks = s .pre .sized .tracks; carts = s .pre .sized .carts; calls = omega arith };
       long = record {
         from = s .pre .long .from;
         to = s .pre .long .to;
         starts = s .pre .long .starts;
-        lifts = simp length-set (s .pre .long .lifts);
+        kinds = simp length-set (s .pre .long .kinds);
+        targets = simp length-set (s .pre .long .targets);
         deadlines = simp length-set (s .pre .long .deadlines);
       };
     }
@@ -103,4 +124,5 @@ put-line-spec =
     tie.close
     (tie.spec
     (λ c. search needs) returns (λ c. search needs) cast-from element-write-from cast-to element-write-from (λ c. search needs) returns-2 (λ c. search needs) cast-starts
-    element-write-starts (λ c. search needs) returns-3 (λ c. search needs) cast-lifts element-write-lifts cast-deadlines element-write-lifts (λ c. search needs) returns-4)
+    element-write-starts (λ c. search needs) returns-3 (λ c κs. search needs) element-write-kinds cast-targets element-write-kinds cast-deadlines element-write-kinds
+    (λ c. search needs) returns-4)

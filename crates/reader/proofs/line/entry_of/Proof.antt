@@ -7,9 +7,9 @@ use Prim.Native.Nat.{ℕ, _+_, _≤_}
 use native.Mathlib.Omega.{arith}
 use lib.ListN.{length, length-append}
 use denote.Ref.{now}
-use Rattle.model.specs.Text.{opens, floorWord, trackWord, cartWord, callWord}
+use Rattle.model.specs.Text.{opens, floorWord, trackWord, cartWord, callWord, bayWord}
 use Rattle.model.proofs.Words.{opens-long}
-use Rattle.reader.proofs.Entries.{line-floor, line-track, line-cart, line-call, line-none}
+use Rattle.reader.proofs.Entries.{line-floor, line-track, line-cart, line-call, line-bay, line-none}
 use borrow.Author.Needs.{needs}
 use Rattle.reader.proofs.line.entry_of.Statement.{statement}
 use Rattle.reader.proofs.line.entry_of.Tie as tie
@@ -29,6 +29,9 @@ no-track c = sym (else2→opens-with2 c .opens-with2 .ensures) ∙ c .if2 .left
 
 no-cart : (c : tie.Else3) → opens cartWord (now (else3→start c .args .line)) ≡ false
 no-cart c = sym (else3→opens-with3 c .opens-with3 .ensures) ∙ c .if3 .left
+
+no-call : (c : tie.Else4) → opens callWord (now (else4→start c .args .line)) ≡ false
+no-call c = sym (else4→opens-with4 c .opens-with4 .ensures) ∙ c .if4 .left
 
 floor-long : tie.Need-sub-fields-say
 floor-long c = opened floorWord (now (then1→start c .args .line)) (then1→opens-with c .opens-with .ensures) (c .if1 .taken)
@@ -69,10 +72,22 @@ returns-4 c =
     let t = sym (then4→opens-with4 b .opens-with4 .ensures) ∙ b .if4 .taken in
     (sound, λ j q m. said j q m ∙ line-call j (now (then4→start b .args .line)) (no-floor (then4→else1 b)) (no-track (then4→else2 b)) (no-cart (then4→else3 b)) t)
 
+bay-long : tie.Need-sub-fields-say-5
+bay-long c = opened bayWord (now (then5→start c .args .line)) (then5→opens-with5 c .opens-with5 .ensures) (c .if5 .taken)
+
 returns-5 : tie.Need-returns-5
 returns-5 c =
-    let n = sym (else4→opens-with4 c .opens-with4 .ensures) ∙ c .if4 .left in
-    (tt, λ j q m. line-none j (now (else4→start c .args .line)) (no-floor (else4→else1 c)) (no-track (else4→else2 c)) (no-cart (else4→else3 c)) n)
+    let b = fields-say5→then5 c in
+    let (sound, said) = c .fields-say5 .ensures in
+    let t = sym (then5→opens-with5 b .opens-with5 .ensures) ∙ b .if5 .taken in
+    let e = then5→else4 b in
+    (sound, λ j q m. said j q m ∙ line-bay j (now (then5→start b .args .line)) (no-floor (else4→else1 e)) (no-track (else4→else2 e)) (no-cart (else4→else3 e)) (no-call e) t)
+
+returns-6 : tie.Need-returns-6
+returns-6 c =
+    let n = sym (else5→opens-with5 c .opens-with5 .ensures) ∙ c .if5 .left in
+    let e = else5→else4 c in
+    (tt, λ j q m. line-none j (now (else5→start c .args .line)) (no-floor (else4→else1 e)) (no-track (else4→else2 e)) (no-cart (else4→else3 e)) (no-call e) n)
 
 pub entry-of-spec : {M : Type 1} → statement M
 entry-of-spec =
@@ -80,4 +95,5 @@ entry-of-spec =
     (tie.spec
     (λ c. search needs) (λ c κs. search needs) floor-long floor-long (λ c. search needs) (λ c κs. search needs) returns (λ c. search needs) (λ c κs. search needs) track-long
     track-long (λ c. search needs) (λ c κs. search needs) returns-2 (λ c. search needs) (λ c κs. search needs) cart-long cart-long (λ c. search needs) (λ c κs. search needs)
-    returns-3 (λ c. search needs) (λ c κs. search needs) call-long call-long (λ c. search needs) (λ c κs. search needs) returns-4 returns-5)
+    returns-3 (λ c. search needs) (λ c κs. search needs) call-long call-long (λ c. search needs) (λ c κs. search needs) returns-4 (λ c. search needs) (λ c κs. search needs)
+    bay-long bay-long (λ c. search needs) (λ c κs. search needs) returns-5 returns-6)

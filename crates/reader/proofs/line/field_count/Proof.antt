@@ -7,7 +7,7 @@ use types.Run.{OneOf}
 use denote.Enum.Declared.{tagOf}
 use Rattle.model.specs.ReadJob.{fieldCount}
 use Rattle.reader.specs.declared.fill.Kind.{Kind}
-use Rattle.reader.specs.declared.fill.Kind.the-variants.{Floor, Track, Cart, Call}
+use Rattle.reader.specs.declared.fill.Kind.the-variants.{Floor, Track, Cart, Call, Bay}
 use Rattle.reader.specs.Lines.{kindOf}
 use Rattle.reader.proofs.fill.Kind.{the-type}
 use Rattle.reader.proofs.line.field_count.Statement.{statement}
@@ -18,12 +18,14 @@ one Floor h = refl
 one Track h = absurd (⊎-elim (λ e. omega arith) (λ e. omega arith) h)
 one Cart h = refl
 one Call h = absurd (⊎-elim (λ e. omega arith) (λ e. omega arith) h)
+one Bay h = absurd (⊎-elim (λ e. omega arith) (λ e. omega arith) h)
 
-two : (k : Kind) → OneOf (1 ∷ 3 ∷ []) (tagOf the-type k) → 2 ≡ fieldCount (kindOf k)
-two Floor h = absurd (⊎-elim (λ e. omega arith) (λ e. omega arith) h)
+two : (k : Kind) → OneOf (1 ∷ 3 ∷ 4 ∷ []) (tagOf the-type k) → 2 ≡ fieldCount (kindOf k)
+two Floor h = absurd (⊎-elim (λ e. omega arith) (⊎-elim (λ e. omega arith) (λ e. omega arith)) h)
 two Track h = refl
-two Cart h = absurd (⊎-elim (λ e. omega arith) (λ e. omega arith) h)
+two Cart h = absurd (⊎-elim (λ e. omega arith) (⊎-elim (λ e. omega arith) (λ e. omega arith)) h)
 two Call h = refl
+two Bay h = refl
 
 returns : tie.Need-returns
 returns c = one (c .before .args .kind) (c .match .keys1)

@@ -5,7 +5,7 @@ use mathlib.Core.Logic.{⊎-elim}
 use native.Mathlib.Omega.{arith}
 use lib.Dec.{ltb, eqb}
 use borrow.Author.Tests.{lt-ltb, le-ltb, ltb-true}
-use Rattle.reader.proofs.Tests.{tracks-follow, carts-follow}
+use Rattle.reader.proofs.Tests.{called, tracks-follow, carts-follow}
 use borrow.Author.Needs.{needs}
 use Rattle.reader.proofs.line.may_follow.Statement.{statement}
 use Rattle.reader.proofs.line.may_follow.Tie as tie
@@ -56,7 +56,7 @@ returns-5 c =
     rw (else3→enum-told3 c .enum-told3 .given .1, carts-follow n j k, h)
 
 returns-6 : tie.Need-returns-6
-returns-6 c = λ j k. rw (struct-known7→enum-told4 c .enum-told4 .given .1, ← k .cells)
+returns-6 c = λ j k. rw (called (struct-known7→start c .args .kind) (struct-known7→match-keys4 c .match .keys4) .1, ← k .cells)
 
 pub may-follow-spec : {M : Type 1} → statement M
-may-follow-spec = tie.close (tie.spec (λ c. search needs) (λ c. search needs) (λ c. search needs) (λ c. search needs) returns returns-2 returns-3 returns-4 returns-5 returns-6)
+may-follow-spec = tie.close (tie.spec (λ c. search needs) (λ c. search needs) (λ c. search needs) returns returns-2 returns-3 returns-4 returns-5 returns-6)

@@ -26,11 +26,11 @@ returns c = (tt, λ j q m. rw (sym (then1→passes c .passes .ensures j q) ∙ n
 ranged : (c : tie.Else1) (j : model.Job) → let a = start (else1→passes c) .args in SameCounts (a .counts) j → inRange j (kindOf (a .kind)) (a .a) (a .b) ≡ true
 ranged c j q = sym (else1→passes c .passes .ensures j q) ∙ not-false _ (c .if1 .left)
 
-small : (c : tie.Else1) → let a = start (else1→passes c) .args in Small (a .kind) (a .a) (a .b)
+small : (c : tie.Else1) → let a = start (else1→passes c) .args in Small (kindOf (a .kind)) (a .a) (a .b)
 small c =
     let a = start (else1→passes c) .args in
     let (j, q) = some-job (a .counts) in
-    range-small j (a .kind) (a .a) (a .b) (omega arith) (ranged c j q)
+    range-small j (kindOf (a .kind)) (a .a) (a .b) (omega arith) (ranged c j q)
 
 returns-2 : tie.Need-returns-2
 returns-2 c = (tt, λ j q m. rw (ranged (then2→else1 c) j q, sym (then2→passes2 c .passes2 .ensures j q) ∙ not-true _ (c .if2 .taken)))

@@ -23,18 +23,18 @@ mod Places
 use Places.*
 
 abbrev Inv-loop : tie.InvT-loop
-Inv-loop text from₀ to₀ starts₀ lifts₀ deadlines₀ counts₀ seen₀ at₀ line₀ from to starts lifts deadlines counts seen at line =
-    ReadSoFar text (held counts from to starts lifts deadlines) seen at line
+Inv-loop text from₀ to₀ starts₀ kinds₀ targets₀ deadlines₀ counts₀ seen₀ at₀ line₀ from to starts kinds targets deadlines counts seen at line =
+    ReadSoFar text (held counts from to starts kinds targets deadlines) seen at line
 
 abbrev μ-loop : tie.MeasureT-loop
-μ-loop text from₀ to₀ starts₀ lifts₀ deadlines₀ counts₀ seen₀ at₀ line₀ from to starts lifts deadlines counts seen at line = length text - at
+μ-loop text from₀ to₀ starts₀ kinds₀ targets₀ deadlines₀ counts₀ seen₀ at₀ line₀ from to starts kinds targets deadlines counts seen at line = length text - at
 
 -- The text, and the job so far.
 abbrev wholeText : tie.At-loop Inv-loop μ-loop → List ℕ
 wholeText h = now (loop→start h .args .text)
 
 abbrev jobAt : tie.At-loop Inv-loop μ-loop → Job
-jobAt h = held (h .loop .counts) (h .loop .from) (h .loop .to) (h .loop .starts) (h .loop .lifts) (h .loop .deadlines)
+jobAt h = held (h .loop .counts) (h .loop .from) (h .loop .to) (h .loop .starts) (h .loop .kinds) (h .loop .targets) (h .loop .deadlines)
 
 returns : tie.Need-returns Inv-loop μ-loop
 returns c = turned-back (c .refused .ensures) (too-long (now (refused→start c .args .text)) (refused→then1 c .if1 .taken)) (omega arith) (omega arith)
@@ -74,7 +74,7 @@ returns-3 c =
 
 -- The entry is small, and there is room for it.
 sound : (c : tie.After-known-told Inv-loop μ-loop)
-    → Small (c .before .entry .given .0 .0) (c .before .entry .given .0 .1 .0) (c .before .entry .given .0 .1 .1 .0)
+    → Small (kindOf (c .before .entry .given .0 .0)) (c .before .entry .given .0 .1 .0) (c .before .entry .given .0 .1 .1 .0)
     × (hasRoom (jobOf (jobAt (head (c .before .before .before)))) (kindOf (c .before .entry .given .0 .0)) ≡ true)
 sound c =
     let h = head (known-told→entry-of c) in
@@ -110,7 +110,7 @@ loop-again c =
     let r = p .put-line in
     so-far-next (l .inv) _ _ (e .next .ensures) (omega (arith, entry-of→else2 m .if2 .left)) (m .entry-of .result) (line-said m)
     (v .0 .0) (v .0 .1 .0) (v .0 .1 .1 .0)
-    (held (r .result) (r .last .0) (r .last .1 .0) (r .last .1 .1 .0) (r .last .1 .1 .1 .0) (r .last .1 .1 .1 .1 .0))
+    (held (r .result) (r .last .0) (r .last .1 .0) (r .last .1 .1 .0) (r .last .1 .1 .1 .0) (r .last .1 .1 .1 .1 .0) (r .last .1 .1 .1 .1 .1 .0))
     (seen3→note c .note .last .0) (v .1) (sound k .0) (r .ensures) (seen3→note c .note .ensures)
 
 returns-4 : tie.Need-returns-4 Inv-loop μ-loop

@@ -25,18 +25,18 @@ mod Places
 use Places.*
 
 abbrev Inv-loop : tie.InvT-loop
-Inv-loop near begin due cart-on hint store₀ grid stamp depth₀ top₀ store depth top =
+Inv-loop near begin due shut cart-on hint store₀ grid stamp depth₀ top₀ store depth top =
     (length store ≡ length store₀)
-    × ((j : Job) → Searching j near begin due cart-on hint store₀ grid (asPoint top₀) → Going j store₀ store stamp (asPoint top₀) depth (asPoint top))
+    × ((j : Job) → Searching j near begin due shut cart-on hint store₀ grid (asPoint top₀) → Going j store₀ store stamp (asPoint top₀) depth (asPoint top))
 
 abbrev μ-loop : tie.MeasureT-loop
-μ-loop near begin due cart-on hint store₀ grid stamp depth₀ top₀ store depth top = 2 * unmarked (markAt grid store) stamp (grid .nodes) + depth
+μ-loop near begin due shut cart-on hint store₀ grid stamp depth₀ top₀ store depth top = 2 * unmarked (markAt grid store) stamp (grid .nodes) + depth
 
 -- A job that the search may be for, told from the store after the first push.
 abbrev For : tie.After-push Inv-loop μ-loop → Job → Type 0
 For c j =
     let a = push→start c .args in
-    Searching j (now (a .near)) (now (a .begin)) (now (a .due)) (now (a .cart-on)) (now (a .hint)) (c .push .last .0) (a .grid) (asPoint (a .node))
+    Searching j (now (a .near)) (now (a .begin)) (now (a .due)) (now (a .shut)) (now (a .cart-on)) (now (a .hint)) (c .push .last .0) (a .grid) (asPoint (a .node))
 
 one : (c : tie.After-push Inv-loop μ-loop) → (j : Job) × For c j
 one c = (push→start c .pre .0, begun _ (c .push .ensures) (push→start c .pre .1))
@@ -44,8 +44,8 @@ one c = (push→start c .pre .0, begun _ (c .push .ensures) (push→start c .pre
 -- What is at hand in a turn.
 turn : (c : tie.In-loop Inv-loop μ-loop) (j : Job) → For (in-loop→push c) j →
     (let a = in-loop→start c .args in let l = in-loop→loop c .loop in
-    Turn j (now (a .near)) (now (a .begin)) (now (a .due)) (now (a .cart-on)) (now (a .hint)) (a .grid) (in-loop→push c .push .last .0) (l .store) (asPoint (a .node)) (a .stamp) (l .depth)
-    (asPoint (l .top)))
+    Turn j (now (a .near)) (now (a .begin)) (now (a .due)) (now (a .shut)) (now (a .cart-on)) (now (a .hint)) (a .grid) (in-loop→push c .push .last .0) (l .store)
+    (asPoint (a .node)) (a .stamp) (l .depth) (asPoint (l .top)))
 turn c j h = record { for = h; going = in-loop→loop c .loop .inv .1 j h; some = omega (arith, c .loop-test .taken) }
 
 -- Past the test the position on top is no goal.
@@ -55,17 +55,16 @@ dull c j h = no-goal (turn (joined1→in-loop c) j h) (λ z. ⊎-elim (λ w. w .
 -- What is found answers for the position on top: what `find` answers, or a guess that is a position.
 answers : (c : tie.At-match-came Inv-loop μ-loop) →
     (let a = match-came→start c .args in let l = match-came→loop c .loop in
-    Finds (From (a .grid) (l .store) (now (a .due)) (now (match-came→row c .row .result)) (asPoint (l .top))) (Stamped (a .grid) (l .store) (a .stamp)) (c .match .found))
+    Finds (From (a .grid) (l .store) (now (a .due)) (now (match-came→row-at c .row-at .result)) (asPoint (l .top))) (Stamped (a .grid) (l .store) (a .stamp)) (c .match .found))
 answers c =
     ⊎-elim (λ w. found-is _ _ (w .4) (w .3 .ensures)) (λ w. found-is _ _ (w .2) (guess-found _ _ _ (w .1 .given .1) (match-came→guess c .guess .ensures))) (c .match .came)
 
 -- What was found, and where nothing was, that the position falls off.
 looked : (c : tie.At-match-came Inv-loop μ-loop) (j : Job) → For (match-came→push c) j →
     (let a = match-came→start c .args in let l = match-came→loop c .loop in
-    Looked j (now (a .near)) (now (a .begin)) (now (a .due)) (now (a .cart-on)) (now (a .hint)) (a .grid) (match-came→push c .push .last .0) (l .store) (asPoint (a .node)) (a .stamp) (l .depth)
-    (asPoint (l .top))
-    (now (match-came→row c .row .result)) (c .match .found))
-looked c j h = record { turn = turn (match-came→in-loop c) j h; of = match-came→row c .row .ensures; finds = answers c; dull = dull (match-came→joined1 c) j h }
+    Looked j (now (a .near)) (now (a .begin)) (now (a .due)) (now (a .shut)) (now (a .cart-on)) (now (a .hint)) (a .grid) (match-came→push c .push .last .0) (l .store)
+    (asPoint (a .node)) (a .stamp) (l .depth) (asPoint (l .top)) (now (match-came→row-at c .row-at .result)) (c .match .found))
+looked c j h = record { turn = turn (match-came→in-loop c) j h; of = match-came→row-at c .row-at .ensures; finds = answers c; dull = dull (match-came→joined1 c) j h }
 
 popped : (c : tie.After-enum-told3 Inv-loop μ-loop) (j : Job) → For (enum-told3→push c) j →
     (let l = enum-told3→loop c .loop in Running j (enum-told3→push c .push .last .0) (l .store) (enum-told3→start c .args .stamp) (asPoint (enum-told3→start c .args .node)) (l .depth - 1))
@@ -79,8 +78,8 @@ loop-holds c = (refl, λ j h. under-way (now (slice-known2→start c .args .stor
 
 shared-slice-read-if2 : tie.Need-shared-slice-read-if2 Inv-loop μ-loop
 shared-slice-read-if2 c =
-    let (j, h) = one (shared-slice-known6→push c) in
-    omega (arith, stands (turn (shared-slice-known6→in-loop c) j h) .2 .0, h .tables .carts .size, h .holds .ready .fit .few-cells)
+    let (j, h) = one (shared-slice-known7→push c) in
+    omega (arith, stands (turn (shared-slice-known7→in-loop c) j h) .2 .0, h .tables .carts .size, h .holds .ready .fit .few-cells)
 
 returns : tie.Need-returns Inv-loop μ-loop
 returns c = λ j h.
@@ -89,20 +88,20 @@ returns c = λ j h.
     let w = turn (then2→in-loop c) j (begun _ p h) in
     ends-some _ p h (w .going .run) (l .depth - 1) (omega arith) (is-goal w (then2→then1 c .if1 .taken) (c .if2 .taken))
 
-row-requires : tie.Need-row-requires Inv-loop μ-loop
-row-requires c κs =
+row-at-requires : tie.Need-row-at-requires Inv-loop μ-loop
+row-at-requires c κs =
     let (j, h) = one (joined1→push c) in
     let known = stands (turn (joined1→in-loop c) j h) .2 .0 in
-    (j .cells, h .tables .sides .rows, known, omega (arith, known, h .holds .ready .fit .few-cells))
+    ((j .cells, h .tables .sides .rows, known, omega (arith, known, h .holds .ready .fit .few-cells)), h .tables .shuts .size)
 
 shared-slice-read-wide : tie.Need-shared-slice-read-wide Inv-loop μ-loop
-shared-slice-read-wide c = let (j, h) = one (shared-slice-known7→push c) in omega (arith, stands (turn (shared-slice-known7→in-loop c) j h) .2 .0, h .hints, h .holds .ready .fit .few-cells)
+shared-slice-read-wide c = let (j, h) = one (shared-slice-known8→push c) in omega (arith, stands (turn (shared-slice-known8→in-loop c) j h) .2 .0, h .hints, h .holds .ready .fit .few-cells)
 
 guess-requires : tie.Need-guess-requires Inv-loop μ-loop
-guess-requires c κs = let (j, h) = one (wide→push c) in let w = turn (wide→in-loop c) j h in (j, stands w, cells w _ (wide→row c .row .ensures))
+guess-requires c κs = let (j, h) = one (wide→push c) in let w = turn (wide→in-loop c) j h in (j, stands w, cells w _ (wide→row-at c .row-at .ensures))
 
 find-requires : tie.Need-find-requires Inv-loop μ-loop
-find-requires c κs = let (j, h) = one (find-arg→push c) in let w = turn (find-arg→in-loop c) j h in (j, stands w, cells w _ (find-arg→row c .row .ensures))
+find-requires c κs = let (j, h) = one (find-arg→push c) in let w = turn (find-arg→in-loop c) j h in (j, stands w, cells w _ (find-arg→row-at c .row-at .ensures))
 
 sub-depth : tie.Need-sub-depth Inv-loop μ-loop
 sub-depth c = omega (arith, enum-told3→in-loop c .loop-test .taken)
@@ -157,6 +156,6 @@ pub search-spec : {M : Type 1} → statement M
 search-spec =
     tie.close
     (tie.spec
-    Inv-loop μ-loop push-requires loop-holds shared-slice-read-if2 (λ c. search needs) returns row-requires shared-slice-read-wide (λ c κs. search needs) guess-requires
+    Inv-loop μ-loop push-requires loop-holds shared-slice-read-if2 (λ c. search needs) returns row-at-requires shared-slice-read-wide (λ c κs. search needs) guess-requires
     (λ c. search needs) find-requires (λ c. search needs) (λ c. search needs) (λ c. search needs) sub-depth sub-position position-requires loop-less loop-again loop-less-2
     loop-again-2 push-requires-2 add-depth loop-less-3 loop-again-3 (λ c. search needs) returns-2)

@@ -2,11 +2,12 @@
 -- Made of the code by proof-names, which reads the lists below when the code has changed.
 -- All places in the code's order, each behind the one in front of it; where it is behind another, `X<Y` names that:
 -- Start After-shared-slice-known After-shared-slice-known2 After-shared-slice-known3 After-shared-slice-known4 After-job After-in-order-arg After-in-order-arg2 After-in-order
--- Then1 Else1<After-in-order After-job2 After-mark-arg After-mark-arg2 After-table After-mark After-table2 After-job3 After-all-lead-arg After-all-lead-arg2 After-all-lead Then2
--- Else2<After-all-lead After-job4 After-horizon-arg After-horizon After-all-clear
+-- Then1 Else1<After-in-order After-job2 After-mark-arg After-mark-arg2 After-table After-mark After-job3 After-bays-arg After-bays-arg2 After-bays-arg3 After-shut After-bays
+-- After-shut2 After-table2 After-shut3 After-job4 After-all-lead-arg After-all-lead-arg2 After-all-lead Then2 Else2<After-all-lead After-job5 After-horizon-arg After-horizon
+-- After-all-clear
 -- The needs, each with its place:
--- in-order-requires@After-in-order-arg2 returns@Then1 mark-requires@After-table all-lead-requires@After-all-lead-arg2 returns-2@Then2 horizon-requires@After-horizon-arg
--- all-clear-requires@After-horizon returns-3@After-all-clear
+-- in-order-requires@After-in-order-arg2 returns@Then1 mark-requires@After-table slice-aggregate-bays@After-shut bays-requires@After-shut all-lead-requires@After-all-lead-arg2
+-- returns-2@Then2 horizon-requires@After-horizon-arg all-clear-requires@After-horizon returns-3@After-all-clear
 use Rattle.planjudge.proofs.plan.is_plan.Tie as tie
 
 abbrev pub shared-slice-known3→start : tie.After-shared-slice-known3 → tie.Start
@@ -27,8 +28,14 @@ then1→shared-slice-known3 c = in-order-arg2→shared-slice-known3 (c .before .
 abbrev pub table→start : tie.After-table → tie.Start
 table→start c = in-order-arg2→start (c .before .before .before .before .before .before)
 
+abbrev pub shut→shared-slice-known3 : tie.After-shut → tie.After-shared-slice-known3
+shut→shared-slice-known3 c = in-order-arg2→shared-slice-known3 (c .before .before .before .before .before .before .before .before .before .before .before .before)
+
+abbrev pub shut→start : tie.After-shut → tie.Start
+shut→start c = shared-slice-known3→start (shut→shared-slice-known3 c)
+
 abbrev pub all-lead-arg2→shared-slice-known3 : tie.After-all-lead-arg2 → tie.After-shared-slice-known3
-all-lead-arg2→shared-slice-known3 c = in-order-arg2→shared-slice-known3 (c .before .before .before .before .before .before .before .before .before .before .before)
+all-lead-arg2→shared-slice-known3 c = shut→shared-slice-known3 (c .before .before .before .before .before .before .before)
 
 abbrev pub all-lead-arg2→start : tie.After-all-lead-arg2 → tie.Start
 all-lead-arg2→start c = shared-slice-known3→start (all-lead-arg2→shared-slice-known3 c)
@@ -36,11 +43,17 @@ all-lead-arg2→start c = shared-slice-known3→start (all-lead-arg2→shared-sl
 abbrev pub then2→all-lead : tie.Then2 → tie.After-all-lead
 then2→all-lead c = c .before
 
+abbrev pub then2→bays : tie.Then2 → tie.After-bays
+then2→bays c = then2→all-lead c .before .before .before .before .before .before .before
+
 abbrev pub then2→mark : tie.Then2 → tie.After-mark
-then2→mark c = then2→all-lead c .before .before .before .before .before
+then2→mark c = then2→bays c .before .before .before .before .before .before
 
 abbrev pub then2→shared-slice-known3 : tie.Then2 → tie.After-shared-slice-known3
 then2→shared-slice-known3 c = all-lead-arg2→shared-slice-known3 (c .before .before)
+
+abbrev pub then2→start : tie.Then2 → tie.Start
+then2→start c = shared-slice-known3→start (then2→shared-slice-known3 c)
 
 abbrev pub horizon-arg→start : tie.After-horizon-arg → tie.Start
 horizon-arg→start c = all-lead-arg2→start (c .before .before .before .before)
@@ -57,8 +70,11 @@ all-clear→else2 c = all-clear→horizon c .before .before .before
 abbrev pub all-clear→all-lead : tie.After-all-clear → tie.After-all-lead
 all-clear→all-lead c = all-clear→else2 c .before
 
+abbrev pub all-clear→bays : tie.After-all-clear → tie.After-bays
+all-clear→bays c = all-clear→all-lead c .before .before .before .before .before .before .before
+
 abbrev pub all-clear→mark : tie.After-all-clear → tie.After-mark
-all-clear→mark c = all-clear→all-lead c .before .before .before .before .before
+all-clear→mark c = all-clear→bays c .before .before .before .before .before .before
 
 abbrev pub all-clear→else1 : tie.After-all-clear → tie.Else1
 all-clear→else1 c = all-clear→mark c .before .before .before .before .before

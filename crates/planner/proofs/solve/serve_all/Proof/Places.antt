@@ -1,11 +1,12 @@
 -- The earlier places that the proof of `serve_all` names: `x→y c` is what is known at y, seen from the place x.
 -- Made of the code by proof-names, which reads the lists below when the code has changed.
 -- All places in the code's order, each behind the one in front of it; where it is behind another, `X<Y` names that:
--- Start After-shared-slice-known After-shared-slice-known2 After-shared-slice-known3 After-shared-slice-known4 After-shared-slice-known5 After-slice-known At-loop In-loop
--- After-loop<At-loop After-shared-slice-known6<In-loop After-wide After-wide-arg After-wide2 After-wide-arg2 After-wide3 After-aim-arg After-hint After-aim After-hint2 After-hint3
--- After-serve-arg After-serve After-store After-slice-known2 At-match-keys1 After-served After-known-told At-match-keys2<After-slice-known2 After-enum-told
+-- Start After-shared-slice-known After-shared-slice-known2 After-shared-slice-known3 After-shared-slice-known4 After-shared-slice-known5 After-shared-slice-known6
+-- After-slice-known At-loop In-loop After-loop<At-loop After-shared-slice-known7<In-loop After-wide After-wide-arg After-wide2 After-wide-arg2 After-wide3 After-aim-arg After-hint
+-- After-aim After-hint2 After-hint3 After-serve-arg After-serve After-store After-slice-known2 At-match-keys1 After-served After-known-told At-match-keys2<After-slice-known2
+-- After-enum-told
 -- The needs, each with its place:
--- loop-holds@After-slice-known shared-slice-read-wide@After-shared-slice-known6 wide-requires@After-shared-slice-known6 element-copy-out-wide@After-wide
+-- loop-holds@After-slice-known shared-slice-read-wide@After-shared-slice-known7 wide-requires@After-shared-slice-known7 element-copy-out-wide@After-wide
 -- wide-requires-2@After-wide-arg element-copy-out-wide-2@After-wide2 wide-requires-3@After-wide-arg2 slice-aggregate-aim@After-hint aim-requires@After-hint
 -- slice-aggregate-serve@After-hint3 serve-requires@After-serve-arg enum-known-served@At-match-keys1 enum-told@At-match-keys2 same-length@After-enum-told returns@After-enum-told
 -- add-i@After-known-told loop-less@After-known-told loop-again@After-known-told same-length-2@After-loop returns-2@After-loop
@@ -15,14 +16,14 @@ module _ {Inv : tie.InvT-loop} {μ : tie.MeasureT-loop} where
   abbrev pub after-loop→loop : tie.After-loop Inv μ → tie.At-loop Inv μ
   after-loop→loop c = c .before
 
-  abbrev pub shared-slice-known6→start : tie.After-shared-slice-known6 Inv μ → tie.Start Inv μ
-  shared-slice-known6→start c = c .before .before .before .before .before .before .before .before .before
+  abbrev pub shared-slice-known7→start : tie.After-shared-slice-known7 Inv μ → tie.Start Inv μ
+  shared-slice-known7→start c = c .before .before .before .before .before .before .before .before .before .before
 
   abbrev pub wide→in-loop : tie.After-wide Inv μ → tie.In-loop Inv μ
   wide→in-loop c = c .before .before
 
   abbrev pub wide→start : tie.After-wide Inv μ → tie.Start Inv μ
-  wide→start c = shared-slice-known6→start (c .before)
+  wide→start c = shared-slice-known7→start (c .before)
 
   abbrev pub wide2→wide : tie.After-wide2 Inv μ → tie.After-wide Inv μ
   wide2→wide c = c .before .before

@@ -3,14 +3,17 @@
 -- All places in the code's order, each behind the one in front of it; where it is behind another, `X<Y` names that:
 -- Start After-shared-slice-known After-shared-slice-known2 After-opens-with-arg After-opens-with Then1 After-fields-say-arg After-fields-say Else1<After-opens-with
 -- After-opens-with-arg2 After-opens-with2 Then2 After-fields-say-arg2 After-fields-say2 Else2<After-opens-with2 After-opens-with-arg3 After-opens-with3 Then3 After-fields-say-arg3
--- After-fields-say3 Else3<After-opens-with3 After-opens-with-arg4 After-opens-with4 Then4 After-fields-say-arg4 After-fields-say4 Else4<After-opens-with4
+-- After-fields-say3 Else3<After-opens-with3 After-opens-with-arg4 After-opens-with4 Then4 After-fields-say-arg4 After-fields-say4 Else4<After-opens-with4 After-opens-with-arg5
+-- After-opens-with5 Then5 After-fields-say-arg5 After-fields-say5 Else5<After-opens-with5
 -- The needs, each with its place:
 -- slice-aggregate-opens-with@After-opens-with-arg opens-with-requires@After-opens-with-arg sub-fields-say@Then1 part-fields-say-start@Then1 part-fields-say-end@Then1
 -- fields-say-requires@After-fields-say-arg returns@After-fields-say slice-aggregate-opens-with-2@After-opens-with-arg2 opens-with-requires-2@After-opens-with-arg2
 -- sub-fields-say-2@Then2 part-fields-say-start-2@Then2 part-fields-say-end-2@Then2 fields-say-requires-2@After-fields-say-arg2 returns-2@After-fields-say2
 -- slice-aggregate-opens-with-3@After-opens-with-arg3 opens-with-requires-3@After-opens-with-arg3 sub-fields-say-3@Then3 part-fields-say-start-3@Then3 part-fields-say-end-3@Then3
 -- fields-say-requires-3@After-fields-say-arg3 returns-3@After-fields-say3 slice-aggregate-opens-with-4@After-opens-with-arg4 opens-with-requires-4@After-opens-with-arg4
--- sub-fields-say-4@Then4 part-fields-say-start-4@Then4 part-fields-say-end-4@Then4 fields-say-requires-4@After-fields-say-arg4 returns-4@After-fields-say4 returns-5@Else4
+-- sub-fields-say-4@Then4 part-fields-say-start-4@Then4 part-fields-say-end-4@Then4 fields-say-requires-4@After-fields-say-arg4 returns-4@After-fields-say4
+-- slice-aggregate-opens-with-5@After-opens-with-arg5 opens-with-requires-5@After-opens-with-arg5 sub-fields-say-5@Then5 part-fields-say-start-5@Then5 part-fields-say-end-5@Then5
+-- fields-say-requires-5@After-fields-say-arg5 returns-5@After-fields-say5 returns-6@Else5
 use Rattle.reader.proofs.line.entry_of.Tie as tie
 
 abbrev pub then1→opens-with : tie.Then1 → tie.After-opens-with
@@ -99,3 +102,24 @@ else4→else1 c = else4→else2 c .before .before .before
 
 abbrev pub else4→start : tie.Else4 → tie.Start
 else4→start c = else3→start (else4→else3 c)
+
+abbrev pub then5→opens-with5 : tie.Then5 → tie.After-opens-with5
+then5→opens-with5 c = c .before
+
+abbrev pub then5→else4 : tie.Then5 → tie.Else4
+then5→else4 c = then5→opens-with5 c .before .before
+
+abbrev pub then5→start : tie.Then5 → tie.Start
+then5→start c = else4→start (then5→else4 c)
+
+abbrev pub fields-say5→then5 : tie.After-fields-say5 → tie.Then5
+fields-say5→then5 c = c .before .before
+
+abbrev pub else5→opens-with5 : tie.Else5 → tie.After-opens-with5
+else5→opens-with5 c = c .before
+
+abbrev pub else5→else4 : tie.Else5 → tie.Else4
+else5→else4 c = else5→opens-with5 c .before .before
+
+abbrev pub else5→start : tie.Else5 → tie.Start
+else5→start c = else4→start (else5→else4 c)

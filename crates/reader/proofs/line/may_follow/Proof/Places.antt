@@ -3,10 +3,10 @@
 -- All places in the code's order, each behind the one in front of it; where it is behind another, `X<Y` names that:
 -- Start At-match-keys1 After-enum-told After-struct-known At-match-keys2<Start After-enum-told2 After-struct-known2 Then1 After-struct-known3 Else1<After-struct-known2
 -- Joined1<After-struct-known2 Then2 After-struct-known4 Else2<Joined1 At-match-keys3<Start After-enum-told3 After-struct-known5 Then3 After-struct-known6 Else3<After-struct-known5
--- At-match-keys4<Start After-enum-told4 After-struct-known7
+-- At-match-keys4<Start After-struct-known7
 -- The needs, each with its place:
--- enum-told@At-match-keys1 enum-told-2@At-match-keys2 enum-told-3@At-match-keys3 enum-told-4@At-match-keys4 returns@After-struct-known returns-2@After-struct-known4
--- returns-3@Else2 returns-4@After-struct-known6 returns-5@Else3 returns-6@After-struct-known7
+-- enum-told@At-match-keys1 enum-told-2@At-match-keys2 enum-told-3@At-match-keys3 returns@After-struct-known returns-2@After-struct-known4 returns-3@Else2
+-- returns-4@After-struct-known6 returns-5@Else3 returns-6@After-struct-known7
 use Rattle.reader.proofs.line.may_follow.Tie as tie
 
 abbrev pub struct-known→enum-told : tie.After-struct-known → tie.After-enum-told
@@ -48,5 +48,8 @@ else3→enum-told3 c = c .before .before
 abbrev pub else3→start : tie.Else3 → tie.Start
 else3→start c = else3→enum-told3 c .before .before
 
-abbrev pub struct-known7→enum-told4 : tie.After-struct-known7 → tie.After-enum-told4
-struct-known7→enum-told4 c = c .before
+abbrev pub struct-known7→match-keys4 : tie.After-struct-known7 → tie.At-match-keys4
+struct-known7→match-keys4 c = c .before
+
+abbrev pub struct-known7→start : tie.After-struct-known7 → tie.Start
+struct-known7→start c = struct-known7→match-keys4 c .before
