@@ -100,8 +100,8 @@ extern "C" {
 /* The version of this header and its library. The minor number moves where jobs or sheets are read or written otherwise than
  * before, or where calls are added: programs compile as they are. The major number moves where a program has to change. */
 #define CARTFLOOR_VERSION_MAJOR 1
-#define CARTFLOOR_VERSION_MINOR 0
-#define CARTFLOOR_VERSION "1.0"
+#define CARTFLOOR_VERSION_MINOR 1
+#define CARTFLOOR_VERSION "1.1"
 
 /* C++ compilers can be asked to warn of C's casts. */
 #ifdef __cplusplus
