@@ -10,8 +10,8 @@ use kit::mixed::mixed;
 use kit::{is_right, tabs, Folder};
 
 const DOUBLED: &str = "r.job:3: error[7]: a second cart on a cell\n    to do: strike that line\n";
-const UNEVEN: &str =
-    "u.job: error[8]: carts and calls differ in number\n    to do: give each cart a call, or leave it out\n";
+const UNEVEN: &str = "u.job: error[8]: there are not as many carts as calls and bays together\n    \
+    to do: give each cart a call or bay, or leave it out\n";
 const BAD: &str = "floor 2/d.sheet:2: error[11]: the sheet is not in the form\n    \
     to do: do not run it: see that line's word, numbers and count of fields, or plan the job again\n";
 const WRONG: &str =
