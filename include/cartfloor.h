@@ -1,8 +1,8 @@
 /* cartfloor: plans for cart floors, and a check of their sheets. This header is the manual.
  *
- * A job text says a floor, its carts and its calls; a sheet answers it: PLAN with a path for each call, or CANNOT with choke
- * points that show why there is no plan. Both calls take three buffers and give one 64-bit number back. Neither allocates, and
- * neither keeps anything between calls, so different threads may call them at the same time on buffers of their own. In C:
+ * A job text says a floor, its carts, calls and bays; a sheet answers it: PLAN with a path for each call and bay, or CANNOT with
+ * choke points that show why there is no plan. Both calls take three buffers and give one 64-bit number back. Neither allocates,
+ * and neither keeps anything between calls, so different threads may call them at the same time on buffers of their own. In C:
  *
  *     static uint8_t job[CARTFLOOR_TEXT_MAX + 1];
  *     size_t job_len = fread(job, 1, sizeof job, stdin);
@@ -46,47 +46,53 @@
  *     FLOOR cells           one, the first line: the number of cells, 1 to CARTFLOOR_CELLS_MAX
  *     TRACK cell cell       up to CARTFLOOR_TRACKS_MAX: joins two cells, both ways
  *     CART cell             up to CARTFLOOR_CARTS_MAX: where it stands at step 0
- *     CALL cell deadline    up to CARTFLOOR_CALLS_MAX, as many as carts: a lift cell, and a step from 0 to CARTFLOOR_DEADLINE_MAX
+ *     CALL cell deadline    a lift cell, and a step from 0 to CARTFLOOR_DEADLINE_MAX
+ *     BAY cell step         a cell to park on, and a step in the same range, which is its deadline
  *
- * A number has 1 to 3 decimal digits and no leading zero; 0 is one. A cell is a number below the number of cells. Tracks, carts
- * and calls are numbered from 0 in the order of their lines. No track joins a cell to itself, and no two join the same cells,
- * either way round. No two carts stand on one cell, and no two calls have one lift cell. A text has at most CARTFLOOR_TEXT_MAX
- * bytes.
+ * CALL and BAY lines stand in any order, up to CARTFLOOR_CALLS_MAX together, as many as carts. A number has 1 to 3 decimal digits
+ * and no leading zero; 0 is one. A cell is a number below the number of cells. Tracks and carts are numbered from 0 in the order
+ * of their lines, and so are calls and bays together. No track joins a cell to itself, and no two join the same cells, either way
+ * round. No two carts stand on one cell, and a cell has one call or bay at most. A text has at most CARTFLOOR_TEXT_MAX bytes.
  *
- *     FLOOR 3               three cells, 0 to 2
+ *     FLOOR 5               five cells, 0 to 4
  *     TRACK 0 1
  *     TRACK 1 2
+ *     TRACK 1 3
+ *     TRACK 3 4
  *     CART 0                cart 0 stands on cell 0 at step 0
- *     CART 1                cart 1 on cell 1
- *     CALL 2 1              call 0: a cart is to stand on cell 2 at step 1; it is lifted off the floor there
- *     CALL 1 1              call 1: likewise on cell 1
+ *     CART 4                cart 1 on cell 4
+ *     BAY 1 2               bay 0: a cart is to stand on cell 1 at step 2; it parks there; the cell is closed from step 3 on
+ *     CALL 2 2              call 1: a cart is to stand on cell 2 at step 2; it is lifted off the floor there
  *
- * A walk starts on a cart's cell at step 0, and at each step stands or goes along one track. A plan gives each call a cart of its
- * own, and that cart a walk which stands on the call's lift cell at its deadline. The cart is on the floor up to that step, and
- * off it from the next; to cross a lift cell earlier does not lift it. No two carts on the floor are on one cell at one step, and
- * no two trade the ends of a track from one step to the next. To follow a cart into the cell that it leaves is allowed, and so is
- * a ring of three or more that turns.
+ * A walk starts on a cart's cell at step 0, at each step stands or goes along one track, and stands on no bay's cell after that
+ * bay's step: the cell is closed then. A plan gives each call and bay a cart of its own, and that cart a walk which stands on the
+ * cell of the call or bay at its deadline. The cart is on the floor up to that step, and off it from the next, lifted or parked;
+ * to cross a lift cell or a bay earlier does neither. No two carts on the floor are on one cell at one step, and no two trade the
+ * ends of a track from one step to the next. To follow a cart into the cell that it leaves is allowed, and so is a ring of three
+ * or more that turns.
  *
  * ITS SHEET
  *
- * Lines, tabs and numbers are as in a job. A plan is a line PLAN with the number of calls, and one PATH for each call: its cart,
- * the call, and the cart's cells from step 0 to the call's deadline, deadline + 1 of them. PATH lines go by deadline, equal
+ * Lines, tabs and numbers are as in a job. A plan is a line PLAN with the number of calls and bays, and one PATH for each: its
+ * cart, the call or bay, and the cart's cells from step 0 to the deadline, deadline + 1 of them. PATH lines go by deadline, equal
  * deadlines in the order of the job.
  *
- *     PLAN 2                a plan for two calls
- *     PATH 1 0 1 2          cart 1 serves call 0: on cell 1 at step 0, on cell 2 at step 1
- *     PATH 0 1 0 1          cart 0 serves call 1: on cell 0, then on cell 1
+ *     PLAN 2                a plan for a bay and a call
+ *     PATH 1 0 4 3 1        cart 1 parks in bay 0: on cell 4 at step 0, on cell 3 at step 1, on cell 1 at step 2
+ *     PATH 0 1 0 1 2        cart 0 serves call 1: on the bay's cell at step 1, while it is open
  *
- * Where there is no plan, CANNOT has the number of choke points, fewer than calls, and then follows one CHOKE for each: cell and
- * step. CHOKE lines go by step, then cell, none twice. With CALL 1 0 for the last line of the job:
+ * Where there is no plan, CANNOT has the number of choke points, fewer than calls and bays, and then follows one CHOKE for each:
+ * cell and step. CHOKE lines go by step, then cell, none twice. With the cells 0, 1 and 2 in a row, CART 0, CART 1, BAY 1 0 and
+ * CALL 2 2, where cart 1 parks on cell 1 at step 0 and cart 0 cannot pass:
  *
- *     CANNOT 1              no plan; one choke point for two calls
- *     CHOKE 1 0             every walk from any cart to any call stands on cell 1 at step 0
+ *     CANNOT 1              no plan; one choke point for a bay and a call
+ *     CHOKE 1 0             every walk from any cart to the bay or the call stands on cell 1 at step 0
  *
- * A choke point is a cell at a step from 0 to the largest deadline, 0 if there are no calls. A true choke list has fewer choke
- * points than the job has calls, and every walk from any cart's cell that ends on any call's lift cell at its deadline stands on
- * one of them, on that cell at that step. Each cart of a plan would need a choke point of its own: so where there is a true choke
- * list, there is no plan. Where there is no plan, there is such a list. */
+ * A choke point is a cell at a step from 0 to the largest deadline, 0 if there are no calls and no bays; if the cell is closed
+ * then, it stops nothing. A true choke list has fewer choke points than the job has calls and bays, and every walk from any
+ * cart's cell that ends on the cell of any call or bay at its deadline stands on one of them, on that cell at that step. Each
+ * cart of a plan would need a choke point of its own: so where there is a true choke list, there is no plan. Where there is no
+ * plan, there is such a list. */
 #ifndef CARTFLOOR_H
 #define CARTFLOOR_H
 
@@ -100,8 +106,8 @@ extern "C" {
 /* The version of this header and its library. The minor number moves where jobs or sheets are read or written otherwise than
  * before, or where calls are added: programs compile as they are. The major number moves where a program has to change. */
 #define CARTFLOOR_VERSION_MAJOR 1
-#define CARTFLOOR_VERSION_MINOR 0
-#define CARTFLOOR_VERSION "1.0"
+#define CARTFLOOR_VERSION_MINOR 1
+#define CARTFLOOR_VERSION "1.1"
 
 /* C++ compilers can be asked to warn of C's casts. */
 #ifdef __cplusplus
@@ -130,29 +136,30 @@ extern "C" {
  * lines beyond those that the sheet counts it is the first.
  *
  * A sheet is not in the form where its words, numbers or counts of fields are wrong, where its last LF is missing, where it has
- * unknown carts, calls, cells or steps, and where a PATH has not exactly deadline + 1 cells, a PLAN not the number of calls, or a
- * CANNOT not fewer choke points than that. A refusal changes no lent byte. */
+ * unknown carts, calls, bays, cells or steps, and where a PATH has not exactly deadline + 1 cells, a PLAN not the number of calls
+ * and bays, or a CANNOT not fewer choke points than that. A refusal changes no lent byte. */
 enum {
     /* PLAN: the sheet has a plan. To do: run it. */
     CARTFLOOR_PLAN = 0,
-    /* CANNOT: there is no plan, and the sheet has the choke points that show it. To do: let calls be later, first those whose own
-     * lift cell is no choke point at its deadline, or drop calls, each with a cart. */
+    /* CANNOT: there is no plan, and the sheet has the choke points that show it. To do: let calls and bays be later, first those
+     * whose own cell is no choke point at its deadline, then other bays, or drop some, each with a cart. */
     CARTFLOOR_CANNOT = 1,
     /* the text is over 16,384 bytes. To do: send less: no job within the limits needs more. */
     CARTFLOOR_TEXT_TOO_LONG = 2,
     /* a line has no LF, a wrong word, a word out of order or a wrong count of fields; or the text is empty. To do: mend that
-     * line: one FLOOR, then TRACK, CART and CALL lines, one tab before each field. */
+     * line: one FLOOR, then TRACK, then CART, then CALL and BAY lines, one tab before each field. */
     CARTFLOOR_BAD_LINE = 3,
     /* a field is no number. To do: mend that line: one to three digits, no leading zero, no sign, no space, no CR. */
     CARTFLOOR_NO_NUMBER = 4,
-    /* a number is out of range. To do: mend that line: 1 to 256 cells, cells below their number, deadlines to 255. */
+    /* a number is out of range. To do: mend that line: 1 to 256 cells, cells below their number, deadlines and steps to 255. */
     CARTFLOOR_OUT_OF_RANGE = 5,
-    /* more lines of a kind than allowed. To do: split the job: at most 512 tracks, 64 carts and 64 calls. */
+    /* more tracks, carts, or calls and bays together than allowed. To do: split the job: at most 512 tracks, 64 carts, and 64
+     * calls and bays. */
     CARTFLOOR_TOO_MANY = 6,
-    /* a track joins a cell to itself or a pair joined already, or there is a second cart or a second call on a cell. To do:
-     * strike that line. */
+    /* a track joins a cell to itself or a pair joined already, or there is a second cart, or a second call or bay, on a cell. To
+     * do: strike that line. */
     CARTFLOOR_DOUBLED = 7,
-    /* carts and calls differ in number. To do: give each cart a call, or leave it out. */
+    /* there are not as many carts as calls and bays together. To do: give each cart a call or bay, or leave it out. */
     CARTFLOOR_UNEVEN = 8,
     /* the store is too short. To do: lend twice as much and call again. */
     CARTFLOOR_STORE_TOO_SHORT = 9,
@@ -165,7 +172,7 @@ enum {
     CARTFLOOR_WRONG_SHEET = 12
 };
 
-/* Limits of a job. */
+/* Limits of a job; CARTFLOOR_CALLS_MAX is for calls and bays together. */
 #define CARTFLOOR_CELLS_MAX 256
 #define CARTFLOOR_TRACKS_MAX 512
 #define CARTFLOOR_CARTS_MAX 64
@@ -173,7 +180,7 @@ enum {
 #define CARTFLOOR_DEADLINE_MAX 255
 #define CARTFLOOR_TEXT_MAX 16384
 
-/* The least lengths of the buffers. `last` is the largest deadline of the job, 0 if it has no call. More is allowed. */
+/* The least lengths of the buffers. `last` is the largest deadline of calls and bays, 0 if there are none. More is allowed. */
 #define CARTFLOOR_STORE_LEAST(last, cells, tracks) \
     ((CARTFLOOR_AS(size_t, last) + 1) * 32 * (CARTFLOOR_AS(size_t, cells) + 2 * CARTFLOOR_AS(size_t, tracks)) + 4096)
 #define CARTFLOOR_SHEET_LEAST(last, carts) (CARTFLOOR_AS(size_t, carts) * (4 * (CARTFLOOR_AS(size_t, last) + 1) + 16) + 64)

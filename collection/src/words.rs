@@ -21,19 +21,13 @@ pub const BAD_SHEET: u8 = 11;
 pub const WRONG_SHEET: u8 = 12;
 
 pub const NUMBERS: [Words; 13] = [
-    Words {
-        number: PLAN,
-        name: "PLAN",
-        says: "PLAN: the sheet has a plan",
-        advice: "run it",
-        of_lines: &[],
-    },
+    Words { number: PLAN, name: "PLAN", says: "PLAN: the sheet has a plan", advice: "run it", of_lines: &[] },
     Words {
         number: CANNOT,
         name: "CANNOT",
         says: "CANNOT: there is no plan, and the sheet has the choke points that show it",
-        advice: "let calls be later, first those whose own lift cell is no choke point at its deadline, \
-                 or drop calls, each with a cart",
+        advice: "let calls and bays be later, first those whose own cell is no choke point at its deadline, \
+                 then other bays, or drop some, each with a cart",
         of_lines: &[],
     },
     Words {
@@ -47,7 +41,7 @@ pub const NUMBERS: [Words; 13] = [
         number: 3,
         name: "BAD_LINE",
         says: "a line has no LF, a wrong word, a word out of order or a wrong count of fields; or the text is empty",
-        advice: "mend that line: one FLOOR, then TRACK, CART and CALL lines, one tab before each field",
+        advice: "mend that line: one FLOOR, then TRACK, then CART, then CALL and BAY lines, one tab before each field",
         of_lines: &[],
     },
     Words {
@@ -61,37 +55,45 @@ pub const NUMBERS: [Words; 13] = [
         number: 5,
         name: "OUT_OF_RANGE",
         says: "a number is out of range",
-        advice: "mend that line: 1 to 256 cells, cells below their number, deadlines to 255",
+        advice: "mend that line: 1 to 256 cells, cells below their number, deadlines and steps to 255",
         of_lines: &[
             ("FLOOR", "no number of cells from 1 to 256"),
             ("TRACK", "a track to a cell that the floor has not"),
             ("CART", "a cart on a cell that the floor has not"),
             ("CALL", "a call on a cell that the floor has not, or a deadline over 255"),
+            ("BAY", "a bay on a cell that the floor has not, or a step over 255"),
         ],
     },
     Words {
         number: 6,
         name: "TOO_MANY",
-        says: "more lines of a kind than allowed",
-        advice: "split the job: at most 512 tracks, 64 carts and 64 calls",
-        of_lines: &[("TRACK", "more than 512 tracks"), ("CART", "more than 64 carts"), ("CALL", "more than 64 calls")],
+        says: "more tracks, carts, or calls and bays together than allowed",
+        advice: "split the job: at most 512 tracks, 64 carts, and 64 calls and bays",
+        of_lines: &[
+            ("TRACK", "more than 512 tracks"),
+            ("CART", "more than 64 carts"),
+            ("CALL", "more than 64 calls and bays"),
+            ("BAY", "more than 64 calls and bays"),
+        ],
     },
     Words {
         number: 7,
         name: "DOUBLED",
-        says: "a track joins a cell to itself or a pair joined already, or there is a second cart or a second call on a cell",
+        says: "a track joins a cell to itself or a pair joined already, or there is a second cart, \
+               or a second call or bay, on a cell",
         advice: "strike that line",
         of_lines: &[
             ("TRACK", "a track from a cell to itself or between cells joined already"),
             ("CART", "a second cart on a cell"),
-            ("CALL", "a second call on a cell"),
+            ("CALL", "a second call or bay on a cell"),
+            ("BAY", "a second call or bay on a cell"),
         ],
     },
     Words {
         number: 8,
         name: "UNEVEN",
-        says: "carts and calls differ in number",
-        advice: "give each cart a call, or leave it out",
+        says: "there are not as many carts as calls and bays together",
+        advice: "give each cart a call or bay, or leave it out",
         of_lines: &[],
     },
     Words {

@@ -10,8 +10,8 @@ use kit::mixed::mixed;
 use kit::{is_right, tabs, Folder};
 
 const DOUBLED: &str = "r.job:3: error[7]: a second cart on a cell\n    to do: strike that line\n";
-const UNEVEN: &str =
-    "u.job: error[8]: carts and calls differ in number\n    to do: give each cart a call, or leave it out\n";
+const UNEVEN: &str = "u.job: error[8]: there are not as many carts as calls and bays together\n    \
+    to do: give each cart a call or bay, or leave it out\n";
 const BAD: &str = "floor 2/d.sheet:2: error[11]: the sheet is not in the form\n    \
     to do: do not run it: see that line's word, numbers and count of fields, or plan the job again\n";
 const WRONG: &str =
@@ -168,6 +168,54 @@ fn one_job_on_standard_input() {
     folder.floors_with(&["plan", "--dry-run", "-"], &tabs(A.job)).expect(1, "", "-: would be filed: PLAN\n");
     folder.floors_with(&["status", "-q", "-"], &tabs(A.job)).expect(1, "-: error: no sheet; the answer is PLAN\n", "");
     assert!(folder.files().is_empty());
+}
+
+/// Bays are planned, checked and filed with the calls.
+#[test]
+fn bays() {
+    let folder = Folder::new();
+    let bay = "FLOOR 5\nTRACK 0 1\nTRACK 1 2\nTRACK 1 3\nTRACK 3 4\nCART 0\nCART 4\nBAY 1 2\nCALL 2 2\n";
+    let closed = "FLOOR 3\nTRACK 0 1\nTRACK 1 2\nCART 0\nCART 1\nBAY 1 0\nCALL 2 2\n";
+    folder.put("bay.job", tabs(bay));
+    folder.put("closed.job", tabs(closed));
+    let summary = "2 jobs: 1 plan, 1 cannot, 0 refused; sheets: 2 right, 0 missing, 0 wrong; 2 filed\n";
+    let filed = format!("bay.sheet: filed PLAN\nclosed.sheet: filed CANNOT\n{summary}");
+    folder.floors(&["plan"]).expect(0, &filed, "");
+    assert_eq!(folder.get("bay.sheet"), tabs("PLAN 2\nPATH 1 0 4 3 1\nPATH 0 1 0 1 2\n"));
+    assert_eq!(folder.get("closed.sheet"), tabs("CANNOT 1\nCHOKE 1 0\n"));
+    // Right as long as the bay is a call: cart 0 goes over cell 1 at step 1.
+    folder.put("closed.sheet", tabs("PLAN 2\nPATH 1 0 1\nPATH 0 1 0 1 2\n"));
+    let wrong = "closed.sheet: error[12]: the sheet is in the form, yet no plan, no true choke list, or out of order\n";
+    folder.floors(&["check", "-q"]).expect(1, wrong, "");
+    folder.put("closed.job", tabs(&closed.replace("BAY", "CALL")));
+    folder.floors(&["check", "-q"]).expect(0, "", "");
+}
+
+/// What is refused about a bay, told with the line's word.
+#[test]
+fn refused_bays() {
+    let second = "-:5: error[7]: a second call or bay on a cell\n";
+    let out_of_range = "-:4: error[5]: a bay on a cell that the floor has not, or a step over 255\n";
+    let uneven = "-: error[8]: there are not as many carts as calls and bays together\n";
+    let jobs = [
+        ("CALL 0 0\nBAY 0 1\n", second),
+        ("BAY 0 1\nCALL 0 0\n", second),
+        ("BAY 0 1\nBAY 0 0\n", second),
+        ("BAY 2 0\n", out_of_range),
+        ("BAY 0 256\n", out_of_range),
+        ("BAY 0 0\n", uneven),
+    ];
+    for (lines, told) in jobs {
+        let job = tabs(&format!("FLOOR 2\nCART 0\nCART 1\n{lines}"));
+        Folder::new().floors_with(&["plan", "-q", "-"], &job).expect(1, "", told);
+    }
+    let carts: String = (0..64).map(|cell| format!("CART {cell}\n")).collect();
+    for words in [["CALL", "BAY"], ["BAY", "CALL"]] {
+        let both: String = (0..65).map(|cell| format!("{} {cell} 0\n", words[cell / 33])).collect();
+        let job = tabs(&format!("FLOOR 65\n{carts}{both}"));
+        let told = "-:130: error[6]: more than 64 calls and bays\n";
+        Folder::new().floors_with(&["plan", "-q", "-"], &job).expect(1, "", told);
+    }
 }
 
 /// A sheet without its job cannot be checked: it is named, and left alone.

@@ -17,7 +17,7 @@ fn a_table_with_tabs() {
         floor 2/f.job\tplan\twrong\tleft\t12\t0\tthe sheet is in the form, yet no plan, no true choke list, or out of order\n\
         g.job\tcannot\tright\tfiled\t1\t0\tCANNOT: there is no plan, and the sheet has the choke points that show it\n\
         r.job\trefused\tunknown\tleft\t7\t3\ta second cart on a cell\n\
-        u.job\trefused\tunknown\tleft\t8\t0\tcarts and calls differ in number\n";
+        u.job\trefused\tunknown\tleft\t8\t0\tthere are not as many carts as calls and bays together\n";
     let folder = mixed();
     let summary = "8 jobs: 4 plan, 2 cannot, 2 refused; sheets: 4 right, 0 missing, 2 wrong";
     let changes: String = rows.split_inclusive('\n').filter(|row| !row.contains("right\tleft")).collect();
@@ -41,7 +41,7 @@ fn json() {
         \"words\": \"no sheet\", \"to_do\": \"floors plan writes it\"},\n  \
         {\"path\": \"r.job\", \"job\": \"refused\", \"sheet\": \"unknown\", \"filing\": \"left\", \
         \"number\": 5, \"line\": 2, \"words\": \"a cart on a cell that the floor has not\", \
-        \"to_do\": \"mend that line: 1 to 256 cells, cells below their number, deadlines to 255\"}\n], \
+        \"to_do\": \"mend that line: 1 to 256 cells, cells below their number, deadlines and steps to 255\"}\n], \
         \"summary\": {\"jobs\": 2, \"plan\": 1, \"cannot\": 0, \"refused\": 1, \"right\": 0, \"missing\": 1, \"wrong\": 0, \
         \"filed\": 0, \"due\": 0, \"troubles\": 0}}\n";
     folder.floors(&["status", "--format", "json"]).expect(1, shown, "");

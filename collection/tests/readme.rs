@@ -35,6 +35,24 @@ fn the_plan_of_the_first_command() {
     assert_eq!(shown[..3], written[..3]);
 }
 
+/// The lines that are shown without what is said of them.
+fn lines(shown: &[String]) -> Vec<u8> {
+    let line = |line: &String| line.split("  ").next().unwrap_or_default().replace(' ', "\t") + "\n";
+    shown.iter().map(line).collect::<String>().into_bytes()
+}
+
+/// The job, its plan, and a job that has none.
+#[test]
+fn the_examples_with_a_bay() {
+    let example = |name: &str| fs::read(format!("{ROOT}/examples/{name}.job")).expect("an example");
+    let (job, plan) = (lines(&shown_behind("## A job")), lines(&shown_behind("## Its sheet")));
+    let cannot = lines(&shown_behind("PLAN has the number of"));
+    assert_eq!(job, example("bay"));
+    for (job, sheet) in [(job, plan), (example("closed"), cannot)] {
+        Folder::new().floors_with(&["plan", "-"], &job).expect(0, std::str::from_utf8(&sheet).expect("text"), "");
+    }
+}
+
 /// The commands are those of `floors --help`.
 #[test]
 fn the_commands() {

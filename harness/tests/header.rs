@@ -10,7 +10,7 @@ const SPECS: &str = concat!(env!("CARGO_MANIFEST_DIR"), "/../crates/model/specs"
 /// What the header has for a C program to write down, and its number.
 const NUMBERS: &[(&str, u64)] = &[
     ("CARTFLOOR_VERSION_MAJOR", 1),
-    ("CARTFLOOR_VERSION_MINOR", 0),
+    ("CARTFLOOR_VERSION_MINOR", 1),
     ("CARTFLOOR_PLAN", 0),
     ("CARTFLOOR_CANNOT", 1),
     ("CARTFLOOR_TEXT_TOO_LONG", 2),
@@ -71,7 +71,7 @@ const NUMBERS: &[(&str, u64)] = &[
 ];
 
 /// What it has that is no number.
-const TEXTS: &[(&str, &str)] = &[("CARTFLOOR_VERSION", "1.0")];
+const TEXTS: &[(&str, &str)] = &[("CARTFLOOR_VERSION", "1.1")];
 
 /// The guard of the header, and the calls, which `header_calls.rs` holds.
 const NO_NUMBERS: &[&str] = &["CARTFLOOR_H", "cartfloor_plan", "cartfloor_check"];

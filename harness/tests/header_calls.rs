@@ -53,6 +53,21 @@ fn the_least_lengths() {
     assert_rows(FOLDER, "least", &rows);
 }
 
+/// Bays are limited with the calls: 64 of both pass, one more is refused, whichever comes last.
+#[test]
+fn calls_and_bays_together() {
+    let carts: String = (0..64).map(|cell| format!("CART {cell}\n")).collect();
+    let paths: String = (0..64).map(|i| format!("PATH {i} {i} {i}\n")).collect();
+    let row_of = |words: [&str; 2], count: usize, expected: &str| {
+        let both: String = (0..count).map(|cell| format!("{} {cell} 0\n", words[cell / 33])).collect();
+        let job = format!("FLOOR 65\n{carts}{both}");
+        checked(&job, "CARTFLOOR_STORE_LEAST(0, 65, 0)", &format!("PLAN 64\n{paths}"), expected)
+    };
+    let rows = [["CALL", "BAY"], ["BAY", "CALL"]]
+        .map(|words| [row_of(words, 64, "PLAN 0"), row_of(words, 65, "TOO_MANY 130")]);
+    assert_rows(FOLDER, "bays", rows.as_flattened());
+}
+
 /// The text as C writes it, with its tabs.
 fn quoted(text: &str) -> String {
     format!("{:?}", text.replace(' ', "\t"))
