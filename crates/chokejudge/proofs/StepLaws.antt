@@ -1,27 +1,29 @@
 -- What the loop over the steps holds, and that a step keeps it: the table is the layer of its step, the queue has what was added at it, and the two cursors stand round its choke
--- points. The queue never overflows: each of its cells is in the table, or a choke point took it out. Assumes nothing.
+-- points. The queue never overflows: each of its cells is in the table, or a choke point took it out. No cell has to be taken out because it closes: a call is due on it then, and
+-- the loop has ended. Assumes nothing.
 use Prim.Native.Nat.{ℕ, _+_, _≤_, _<_}
 use mathlib.Core.Path.{_≡_, refl, sym, _∙_}
 use mathlib.Core.List.{List}
 use mathlib.Core.Logic.{⊎-elim, _⊎_, _↔_, inl, inr}
 use native.Mathlib.Omega.{arith}
 use native.Mathlib.Nat.{eq-or-lt-of-le}
-use lib.ListN.{length, getD}
-use Rattle.model.specs.Limits.{maxCells, maxCalls}
+use lib.ListN.{length, getD, List·getD-eq-default}
+use Rattle.model.specs.Limits.{maxCells, maxCalls, maxSteps}
 use Rattle.model.specs.Job.{Job}
 use Rattle.job.specs.Held.{Some}
 use Rattle.floor.specs.Tables.{Near}
 use Rattle.floor.proofs.JobTables.{near-even}
-use Rattle.chokejudge.specs.ChokeLayers.{Placed, Choked, Side, Reached, SomeCallIn}
+use Rattle.chokejudge.specs.ChokeLayers.{Placed, Choked, Side, OpenAt, Closing, Reached, SomeCallIn}
 use Rattle.chokejudge.specs.Grown.{Between, Older, Again, Onward, Roomy, Grown, Cleared, Cursor, members, queueSize}
+use Rattle.chokejudge.proofs.Numbers.{below-or}
 use Rattle.chokejudge.proofs.GrownLaws.{grown-as}
 use Rattle.chokejudge.proofs.ClearedLaws.{cleared-as, cursor-first, points-of}
 use Rattle.chokejudge.proofs.LayerLaws.{LayerTable, layer-table-first, layer-table-next, layer-known}
 
-module _ (near begin starts : List ℕ) (carts : ℕ) (cells steps : List ℕ) (n : ℕ) where
+module _ (near begin shut starts : List ℕ) (carts : ℕ) (cells steps : List ℕ) (n : ℕ) where
   -- The table, the queue from `head` to before `tail`, and the points of step t from `opens` to before `end`.
   pub record Holding (t : ℕ) (since queue : List ℕ) (head tail opens end : ℕ) : Type 0 where
-    pub stands : LayerTable (Placed starts carts) (Side near begin) (Choked cells steps n) t since queue head tail
+    pub stands : LayerTable (Placed starts carts) (Side near begin) shut (Choked cells steps n) t since queue head tail
     pub size : length since ≡ maxCells
     pub places : length queue ≡ queueSize
     pub ends : tail ≤ members since + end
@@ -38,11 +40,16 @@ Unmet L targets deadlines calls t = (k : ℕ) → k < calls → getD deadlines k
 abbrev pub Gone : List ℕ → List ℕ → ℕ → ℕ → ℕ → List ℕ → List ℕ → ℕ → Type 0
 Gone cells steps n t opens l l′ end = (opens ≤ end) × Cursor steps n (t + 1) end × Cleared (Between cells opens end) l l′ × (members l + opens ≤ members l′ + end)
 
-module _ {near begin starts : List ℕ} {carts : ℕ} {cells steps : List ℕ} {n : ℕ} where
-  pub holding-first : {l₀ queue₀ l queue l′ : List ℕ} {tail end : ℕ} → ((v : ℕ) → getD l₀ v 0 ≡ 0) → length l₀ ≡ maxCells → length queue₀ ≡ queueSize
-      → Grown 1 (Placed starts carts) l₀ queue₀ 0 l queue tail → Gone cells steps n 0 0 l l′ end → Holding near begin starts carts cells steps n 0 l′ queue 0 tail 0 end
-  holding-first {l₀} {queue₀} {l} {queue} {l′} {tail} {end} z h p g k = record {
-    stands = layer-table-first (Placed starts carts) (Side near begin) (Choked cells steps n) l₀ l l′ queue₀ queue tail z g
+pub first-open : {targets deadlines shut : List ℕ} {calls : ℕ} → Closing targets deadlines calls shut → (starts : List ℕ) (carts floor : ℕ) → floor ≤ maxCells
+    → ((k : ℕ) → k < carts → getD starts k 0 < floor) → (v : ℕ) → Placed starts carts v → OpenAt shut 0 v
+first-open r starts carts floor few known v (k, b, e) = r .first v (omega (arith, known k b))
+
+module _ {near begin shut starts : List ℕ} {carts : ℕ} {cells steps : List ℕ} {n : ℕ} where
+  pub holding-first : {l₀ queue₀ l queue l′ : List ℕ} {tail end : ℕ} → ((v : ℕ) → Placed starts carts v → OpenAt shut 0 v) → ((v : ℕ) → getD l₀ v 0 ≡ 0) → length l₀ ≡ maxCells
+      → length queue₀ ≡ queueSize → Grown shut 1 (Placed starts carts) l₀ queue₀ 0 l queue tail → Gone cells steps n 0 0 l l′ end
+      → Holding near begin shut starts carts cells steps n 0 l′ queue 0 tail 0 end
+  holding-first {l₀} {queue₀} {l} {queue} {l′} {tail} {end} o z h p g k = record {
+    stands = layer-table-first (Placed starts carts) (Side near begin) shut (Choked cells steps n) l₀ l l′ queue₀ queue tail o z g
         (cleared-as (points-of steps n 0 0 (cursor-first steps n) cells end (k .1)) (k .2));
     size = k .2 .size ∙ g .cells ∙ h;
     places = g .places ∙ p;
@@ -53,7 +60,7 @@ module _ {near begin starts : List ℕ} {carts : ℕ} {cells steps : List ℕ} {
     to = k .1;
   }
 
-  module _ {t : ℕ} {since queue : List ℕ} {head tail opens end : ℕ} (h : Holding near begin starts carts cells steps n t since queue head tail opens end) where
+  module _ {t : ℕ} {since queue : List ℕ} {head tail opens end : ℕ} (h : Holding near begin shut starts carts cells steps n t since queue head tail opens end) where
     pub roomy : n ≤ maxCalls → Roomy since queue tail
     roomy few = record { cells = h .size; places = h .places; ends = omega (arith, h .ends, h .to .few) }
 
@@ -61,18 +68,18 @@ module _ {near begin starts : List ℕ} {carts : ℕ} {cells steps : List ℕ} {
       first-known : (v : ℕ) → Placed starts carts v → v < j .cells
       first-known v p = rw (sym (p .2)) (carts-known (p .0) (p .1))
 
-      known : (t v : ℕ) → Reached near begin starts carts cells steps n t v → v < j .cells
-      known = layer-known (Placed starts carts) (Side near begin) (Choked cells steps n) (j .cells) first-known (λ c h. f .all c c h (inl refl)) (near-even f)
+      known : (t v : ℕ) → Reached near begin shut starts carts cells steps n t v → v < j .cells
+      known = layer-known (Placed starts carts) (Side near begin) shut (Choked cells steps n) (j .cells) first-known (λ c h. f .all c c h (inl refl)) (near-even f)
 
       pub older-known : (v : ℕ) → Older since (t + 1 + 1) v → v < j .cells
       older-known v o = known t v (h .stands .layer v .0 (o .0))
 
-      pub holding-next : (points-known : (k : ℕ) → k < n → getD cells k 0 < j .cells) {l₁ queue₁ l₂ : List ℕ} {n₁ end′ : ℕ}
-          → Grown (t + 1 + 1) (λ v. Again near begin cells opens end since (t + 1 + 1) v ⊎ Onward near begin queue head tail since (t + 1 + 1) v) since queue tail l₁ queue₁ n₁
-          → Gone cells steps n (t + 1) end l₁ l₂ end′ → Holding near begin starts carts cells steps n (t + 1) l₂ queue₁ tail n₁ end end′
-      holding-next points-known {l₁} {queue₁} {l₂} {n₁} {end′} g k = record {
-        stands = layer-table-next (Placed starts carts) (Side near begin) (Choked cells steps n) (j .cells) first-known (λ c h. f .all c c h (inl refl)) (near-even f)
-            t (λ v p. rw (sym (p .2 .1)) (points-known (p .0) (p .1))) since queue l₁ queue₁ l₂ head tail n₁ (h .stands)
+      pub holding-next : (points-known : (k : ℕ) → k < n → getD cells k 0 < j .cells) → ((v : ℕ) → 0 < getD since v 0 → OpenAt shut (t + 1) v) → {l₁ queue₁ l₂ : List ℕ} {n₁ end′ : ℕ}
+          → Grown shut (t + 1 + 1) (λ v. Again near begin cells opens end since (t + 1 + 1) v ⊎ Onward near begin queue head tail since (t + 1 + 1) v) since queue tail l₁ queue₁ n₁
+          → Gone cells steps n (t + 1) end l₁ l₂ end′ → Holding near begin shut starts carts cells steps n (t + 1) l₂ queue₁ tail n₁ end end′
+      holding-next points-known lasts {l₁} {queue₁} {l₂} {n₁} {end′} g k = record {
+        stands = layer-table-next (Placed starts carts) (Side near begin) shut (Choked cells steps n) (j .cells) first-known (λ c h. f .all c c h (inl refl)) (near-even f)
+            t (λ v p. rw (sym (p .2 .1)) (points-known (p .0) (p .1))) since queue l₁ queue₁ l₂ head tail n₁ (h .stands) lasts
             (grown-as (λ v. (⊎-elim (λ p. inl (at v .0 (p .0), p .1)) (λ p. inr p), ⊎-elim (λ p. inl (at v .1 (p .0), p .1)) (λ p. inr p))) g)
             (cleared-as (points-of steps n (t + 1) end (h .to) cells end′ (k .1)) (k .2));
         size = k .2 .size ∙ g .cells ∙ h .size;
@@ -92,10 +99,21 @@ module _ {near begin starts : List ℕ} {carts : ℕ} {cells steps : List ℕ} {
       abbrev pub Now : Type 0
       Now = Some calls (λ k. (getD deadlines k 0 ≡ t) × (0 < getD since (getD targets k 0) 0))
 
-      pub call-in : Now → SomeCallIn targets deadlines calls (Reached near begin starts carts cells steps n)
+      pub call-in : Now → SomeCallIn targets deadlines calls (Reached near begin shut starts carts cells steps n)
       call-in (k, b, (e, p)) = (k, b, rw e (h .stands .layer (getD targets k 0) .0 p))
 
-      pub unmet-more : (Now → ⊥) → Unmet (Reached near begin starts carts cells steps n) targets deadlines calls t → Unmet (Reached near begin starts carts cells steps n) targets deadlines calls (t + 1)
+      -- A cell of the layer is open at the next step too: a call on it would be due now if it closed behind this one.
+      pub still-open : Closing targets deadlines calls shut → t < maxSteps → (Now → ⊥) → (v : ℕ) → 0 < getD since v 0 → OpenAt shut (t + 1) v
+      still-open r few out v p = ⊎-elim (λ e. absurd (due (r .call v t small few (omega arith)))) (λ l. l) (eq-or-lt-of-le {n = t + 1} {m = getD shut v 0} (omega (arith, h .stands .opened v p)))
+        where
+          small : v < maxCells
+          small = ⊎-elim (λ l. omega (arith, h .size)) (λ l. absurd (omega (arith, List·getD-eq-default since 0 {n = v} l))) (below-or v (length since))
+
+          due : Some calls (λ k. (getD deadlines k 0 ≡ t) × (getD targets k 0 ≡ v)) → ⊥
+          due (k, b, (e, f)) = out (k, b, (e, rw f p))
+
+      pub unmet-more : (Now → ⊥) → Unmet (Reached near begin shut starts carts cells steps n) targets deadlines calls t
+          → Unmet (Reached near begin shut starts carts cells steps n) targets deadlines calls (t + 1)
       unmet-more out u k b d r = ⊎-elim
           (λ e. out (k, b, (e, h .stands .layer (getD targets k 0) .1 (rw e at r))))
           (λ l. u k b l r)

@@ -1,8 +1,9 @@
 -- What the check of a choke list decides, for lists and numbers: layer by layer, the cells that a cart can be on at a step without having stood on a choke point.
-use Prim.Native.Nat.{ℕ, zero, suc}
+use Prim.Native.Nat.{ℕ, zero, suc, _+_, _<_}
 use mathlib.Core.Path.{_≡_}
 use mathlib.Core.List.{List}
 use lib.ListN.{getD}
+use Rattle.model.specs.Limits.{maxCells, maxSteps}
 use Rattle.model.specs.Lists.{In}
 use Rattle.job.specs.Held.{Some}
 use Rattle.floor.specs.Tables.{rowOf}
@@ -19,14 +20,23 @@ Side near begin c x = In x (rowOf near begin c)
 abbrev pub Choked : List ℕ → List ℕ → ℕ → ℕ → ℕ → Type 0
 Choked cells steps n t v = Some n (λ k. (getD steps k 0 ≡ t) × (getD cells k 0 ≡ v))
 
--- The cells of a layer: first the carts' cells, then what a step leads to from the layer before, each without the choke points of its step.
-abbrev pub Layer : (ℕ → Type 0) → (ℕ → ℕ → Type 0) → (ℕ → ℕ → Type 0) → ℕ → ℕ → Type 0
-Layer First Side Choke zero v = First v × (Choke 0 v → ⊥)
-Layer First Side Choke (suc t) v = ((u : ℕ) × Layer First Side Choke t u × Side u v) × (Choke (suc t) v → ⊥)
+-- v is open at the step t: its entry, the first step at which it is closed, is later.
+abbrev pub OpenAt : List ℕ → ℕ → ℕ → Type 0
+OpenAt shut t v = t < getD shut v 0
 
--- The layers of the floor with these rows, the first `carts` carts and the first n points.
-abbrev pub Reached : List ℕ → List ℕ → List ℕ → ℕ → List ℕ → List ℕ → ℕ → ℕ → ℕ → Type 0
-Reached near begin starts carts cells steps n = Layer (Placed starts carts) (Side near begin) (Choked cells steps n)
+-- What the table says of the calls: at step 0 every cell is open, and one that closes behind a step has a call then.
+pub record Closing (targets deadlines : List ℕ) (calls : ℕ) (shut : List ℕ) : Type 0 where
+  pub first : (v : ℕ) → v < maxCells → OpenAt shut 0 v
+  pub call : (v t : ℕ) → v < maxCells → t < maxSteps → getD shut v 0 ≡ t + 1 → Some calls (λ k. (getD deadlines k 0 ≡ t) × (getD targets k 0 ≡ v))
+
+-- The cells of a layer: first the carts' cells, then what a step leads to from the layer before and is open, each without the choke points of its step.
+abbrev pub Layer : (ℕ → Type 0) → (ℕ → ℕ → Type 0) → (ℕ → ℕ → Type 0) → (ℕ → ℕ → Type 0) → ℕ → ℕ → Type 0
+Layer First Side Open Choke zero v = First v × (Choke 0 v → ⊥)
+Layer First Side Open Choke (suc t) v = ((u : ℕ) × Layer First Side Open Choke t u × Side u v) × Open (suc t) v × (Choke (suc t) v → ⊥)
+
+-- The layers of the floor with these rows and closed cells, the first `carts` carts and the first n points.
+abbrev pub Reached : List ℕ → List ℕ → List ℕ → List ℕ → ℕ → List ℕ → List ℕ → ℕ → ℕ → ℕ → Type 0
+Reached near begin shut starts carts cells steps n = Layer (Placed starts carts) (Side near begin) (OpenAt shut) (Choked cells steps n)
 
 -- One of the first n calls has its cell in the layer of its deadline.
 abbrev pub SomeCallIn : List ℕ → List ℕ → ℕ → (ℕ → ℕ → Type 0) → Type 0

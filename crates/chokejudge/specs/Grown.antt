@@ -39,15 +39,16 @@ pub record Roomy (l queue : List ℕ) (n : ℕ) : Type 0 where
   pub places : length queue ≡ queueSize
   pub ends : n ≤ members l + maxCalls
 
--- The cells of P that were not in the table were added: to it with the stamp s, and to the end of the queue.
-pub record Grown (s : ℕ) (P : ℕ → Type 0) (l₀ queue₀ : List ℕ) (n₀ : ℕ) (l queue : List ℕ) (n : ℕ) : Type 0 where
+-- The cells of P that were not in the table, and are open at the step before s, were added: to it with the stamp s, and to the end of the queue.
+pub record Grown (shut : List ℕ) (s : ℕ) (P : ℕ → Type 0) (l₀ queue₀ : List ℕ) (n₀ : ℕ) (l queue : List ℕ) (n : ℕ) : Type 0 where
   pub cells : length l ≡ length l₀
   pub places : length queue ≡ length queue₀
   pub more : n₀ ≤ n
   pub count : n + members l₀ ≡ n₀ + members l
   pub kept : (v : ℕ) → 0 < getD l₀ v 0 → getD l v 0 ≡ getD l₀ v 0
   pub only : (v : ℕ) → getD l₀ v 0 ≡ 0 → 0 < getD l v 0 → (getD l v 0 ≡ s) × P v × Between queue n₀ n v
-  pub all : (v : ℕ) → P v → 0 < getD l v 0
+  pub opened : (v : ℕ) → getD l₀ v 0 ≡ 0 → 0 < getD l v 0 → s ≤ getD shut v 0
+  pub all : (v : ℕ) → P v → s ≤ getD shut v 0 → 0 < getD l v 0
   pub front : (k : ℕ) → k < n₀ → getD queue k 0 ≡ getD queue₀ k 0
 
 -- The cells of P were taken out.

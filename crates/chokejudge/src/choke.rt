@@ -11,7 +11,7 @@ ghost use mathlib.Core.Bool.{true};
 ghost use Prim.Native.Nat.{ℕ, _<_, _≤_};
 ghost use lib.ListN.{length, getD};
 ghost use Rattle.model.specs.Lists.{In};
-ghost use Rattle.model.specs.Limits.{maxCarts, maxCalls};
+ghost use Rattle.model.specs.Limits.{maxCells, maxCarts, maxCalls};
 ghost use Rattle.model.specs.Job as model;
 ghost use Rattle.model.specs.Choke.{Point, point, Rises, ChokesInOrder};
 ghost use Rattle.model.specs.Ready.{Ready};
@@ -20,7 +20,7 @@ ghost use Rattle.model.specs.Contracts.{RightChokes};
 ghost use Rattle.job.specs.Arrays.{jobOf, Sized};
 ghost use Rattle.job.specs.Held.{pointsOf, Decides};
 ghost use Rattle.floor.specs.Tables.{Near};
-ghost use Rattle.chokejudge.specs.ChokeLayers.{Reached, SomeCallIn};
+ghost use Rattle.chokejudge.specs.ChokeLayers.{Closing, Reached, SomeCallIn};
 ghost use Rattle.chokejudge.specs.Grown.{Climbs};
 
 // Whether a point stands before the next: by step, then by cell.
@@ -51,6 +51,7 @@ fn in_order(cells: &[u8], steps: &[u8], n: usize) -> bool
 fn reaches<'a>(
     near: &[u8],
     begin: &[u16],
+    shut: &[u16; Limits::CELLS],
     starts: &'a [u8; Limits::CARTS],
     carts: usize,
     targets: &'a [u8; Limits::CALLS],
@@ -60,8 +61,8 @@ fn reaches<'a>(
     steps: &[u8],
     n: usize,
 ) -> bool
-    requires { ⌜ (carts ≤ maxCarts) × (calls ≤ maxCalls) × (n ≤ maxCalls) × (n ≤ length (now cells)) × (n ≤ length (now steps)) × Climbs (now steps) n × ((j : model.Job) × Near j (now near) (now begin) × ((k : ℕ) → k < carts → getD (now starts) k 0 < j .cells) × ((k : ℕ) → k < n → getD (now cells) k 0 < j .cells)) ⌝ }
-    ensures { λ r. ⌜ Decides r (SomeCallIn (now (targets .entry)) (now (deadlines .entry)) calls (Reached (now (near .entry)) (now (begin .entry)) (now (starts .entry)) carts (now (cells .entry)) (now (steps .entry)) n)) ⌝ }
+    requires { ⌜ (carts ≤ maxCarts) × (calls ≤ maxCalls) × (n ≤ maxCalls) × (n ≤ length (now cells)) × (n ≤ length (now steps)) × Climbs (now steps) n × ((j : model.Job) × Near j (now near) (now begin) × ((k : ℕ) → k < carts → getD (now starts) k 0 < j .cells) × ((k : ℕ) → k < n → getD (now cells) k 0 < j .cells) × (j .cells ≤ maxCells)) × Closing (now targets) (now deadlines) calls (now shut) ⌝ }
+    ensures { λ r. ⌜ Decides r (SomeCallIn (now (targets .entry)) (now (deadlines .entry)) calls (Reached (now (near .entry)) (now (begin .entry)) (now (shut .entry)) (now (starts .entry)) carts (now (cells .entry)) (now (steps .entry)) n)) ⌝ }
 {
     let last = job::size::horizon(deadlines, calls);
     let mut latest = [0u8; Limits::STEPS];
@@ -70,7 +71,7 @@ fn reaches<'a>(
     let mut since = [0u16; Limits::CELLS];
     let mut queue = [0u8; Limits::CELLS + Limits::CALLS];
     let mut head = 0;
-    let mut tail = place(starts, carts, &mut since, &mut queue);
+    let mut tail = place(starts, carts, shut, &mut since, &mut queue);
     let mut opens = 0;
     let mut end = close(cells, steps, n, 0, 0, &mut since);
     let mut t = 0;
@@ -84,6 +85,7 @@ fn reaches<'a>(
         tail = grow(
             near,
             begin,
+            shut,
             cells,
             opens,
             end,
@@ -117,9 +119,18 @@ pub fn is_choke_list(job: Job, cells: &[u8], steps: &[u8], n: usize) -> bool
         &mut near,
         &mut begin,
     );
+    let mut shut = [0u16; Limits::CELLS];
+    floor::tables::bays(
+        &job.kinds,
+        &job.targets,
+        &job.deadlines,
+        job.calls,
+        &mut shut,
+    );
     !reaches(
         &near,
         &begin,
+        &shut,
         &job.starts,
         job.carts,
         &job.targets,

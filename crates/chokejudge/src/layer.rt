@@ -1,5 +1,5 @@
 // The cells that a cart can be on at a step without having stood on a choke point: since[v] is one more than the step at which v was added, or 0. The cells that were
-// added stand in a queue, so that each is spread from once, at the next step.
+// added stand in a queue, so that each is spread from once, at the next step. shut[v] is the first step at which v is closed, and no cell is added from then on.
 use floor::tables::row;
 use model::Limits;
 use model::bytes::wide;
@@ -14,13 +14,23 @@ ghost use Rattle.floor.specs.Tables.{Rows};
 ghost use Rattle.chokejudge.specs.ChokeLayers.{Placed};
 ghost use Rattle.chokejudge.specs.Grown.{Between, Older, Again, Onward, Roomy, Grown, Climbs, Cursor, Cleared, members};
 
-// Adds v where it is not in the layer. Answers where the queue ends then.
-fn add(since: &mut [u16], queue: &mut [u8], tail: usize, v: u8, stamp: u16) -> usize
+// Adds v where it is not in the layer, and is open at the step of the stamp. Answers where the queue ends then.
+fn add(
+    shut: &[u16; Limits::CELLS],
+    since: &mut [u16],
+    queue: &mut [u8],
+    tail: usize,
+    v: u8,
+    stamp: u16,
+) -> usize
     requires { ⌜ (0 < stamp) × Roomy (now since) (now queue) tail ⌝ }
-    ensures { λ r. ⌜ Grown stamp (λ x. x ≡ v) (now (since .entry)) (now (queue .entry)) tail (now (since .exit)) (now (queue .exit)) r ⌝ }
+    ensures { λ r. ⌜ Grown (now (shut .entry)) stamp (λ x. x ≡ v) (now (since .entry)) (now (queue .entry)) tail (now (since .exit)) (now (queue .exit)) r ⌝ }
 {
     let c = wide(v);
     if since[c] != 0 {
+        return tail;
+    }
+    if shut[c] < stamp {
         return tail;
     }
     since[c] = stamp;
@@ -32,27 +42,35 @@ fn add(since: &mut [u16], queue: &mut [u8], tail: usize, v: u8, stamp: u16) -> u
 pub fn place(
     starts: &[u8; Limits::CARTS],
     carts: usize,
+    shut: &[u16; Limits::CELLS],
     since: &mut [u16],
     queue: &mut [u8],
 ) -> usize
     requires { ⌜ (carts ≤ maxCarts) × Roomy (now since) (now queue) 0 ⌝ }
-    ensures { λ r. ⌜ Grown 1 (Placed (now (starts .entry)) carts) (now (since .entry)) (now (queue .entry)) 0 (now (since .exit)) (now (queue .exit)) r ⌝ }
+    ensures { λ r. ⌜ Grown (now (shut .entry)) 1 (Placed (now (starts .entry)) carts) (now (since .entry)) (now (queue .entry)) 0 (now (since .exit)) (now (queue .exit)) r ⌝ }
 {
     let mut tail = 0;
     for i in 0..carts {
-        tail = add(since, queue, tail, starts[i], 1);
+        tail = add(shut, since, queue, tail, starts[i], 1);
     }
     tail
 }
 
 // Adds the cells of a row.
-fn spread(row: &[u8], since: &mut [u16], queue: &mut [u8], tail: usize, stamp: u16) -> usize
+fn spread(
+    row: &[u8],
+    shut: &[u16; Limits::CELLS],
+    since: &mut [u16],
+    queue: &mut [u8],
+    tail: usize,
+    stamp: u16,
+) -> usize
     requires { ⌜ (0 < stamp) × Roomy (now since) (now queue) tail ⌝ }
-    ensures { λ r. ⌜ Grown stamp (λ x. In x (now (row .entry))) (now (since .entry)) (now (queue .entry)) tail (now (since .exit)) (now (queue .exit)) r ⌝ }
+    ensures { λ r. ⌜ Grown (now (shut .entry)) stamp (λ x. In x (now (row .entry))) (now (since .entry)) (now (queue .entry)) tail (now (since .exit)) (now (queue .exit)) r ⌝ }
 {
     let mut end = tail;
     for i in 0..row.len() {
-        end = add(since, queue, end, row[i], stamp);
+        end = add(shut, since, queue, end, row[i], stamp);
     }
     end
 }
@@ -85,6 +103,7 @@ fn borders(row: &[u8], since: &[u16], stamp: u16) -> bool
 fn rejoin(
     near: &[u8],
     begin: &[u16],
+    shut: &[u16; Limits::CELLS],
     cells: &[u8],
     opens: usize,
     end: usize,
@@ -94,13 +113,13 @@ fn rejoin(
     stamp: u16,
 ) -> usize
     requires { ⌜ (0 < stamp) × Roomy (now since) (now queue) tail × (opens ≤ end) × (end ≤ length (now cells)) × ((floor : ℕ) × Rows floor (now near) (now begin) × ((k : ℕ) → k < end → getD (now cells) k 0 < floor)) ⌝ }
-    ensures { λ r. ⌜ Grown stamp (Again (now (near .entry)) (now (begin .entry)) (now (cells .entry)) opens end (now (since .entry)) stamp) (now (since .entry)) (now (queue .entry)) tail (now (since .exit)) (now (queue .exit)) r ⌝ }
+    ensures { λ r. ⌜ Grown (now (shut .entry)) stamp (Again (now (near .entry)) (now (begin .entry)) (now (cells .entry)) opens end (now (since .entry)) stamp) (now (since .entry)) (now (queue .entry)) tail (now (since .exit)) (now (queue .exit)) r ⌝ }
 {
     let mut at = tail;
     for k in opens..end {
         let c = wide(cells[k]);
         if borders(row(near, begin, c), since, stamp) {
-            at = add(since, queue, at, cells[k], stamp);
+            at = add(shut, since, queue, at, cells[k], stamp);
         }
     }
     at
@@ -110,6 +129,7 @@ fn rejoin(
 fn advance(
     near: &[u8],
     begin: &[u16],
+    shut: &[u16; Limits::CELLS],
     since: &mut [u16],
     queue: &mut [u8],
     head: usize,
@@ -118,23 +138,24 @@ fn advance(
     stamp: u16,
 ) -> usize
     requires { ⌜ (0 < stamp) × Roomy (now since) (now queue) tail × (head ≤ end) × (end ≤ tail) × ((floor : ℕ) × Rows floor (now near) (now begin) × ((v : ℕ) → Older (now since) stamp v → v < floor)) ⌝ }
-    ensures { λ r. ⌜ Grown stamp (Onward (now (near .entry)) (now (begin .entry)) (now (queue .entry)) head end (now (since .entry)) stamp) (now (since .entry)) (now (queue .entry)) tail (now (since .exit)) (now (queue .exit)) r ⌝ }
+    ensures { λ r. ⌜ Grown (now (shut .entry)) stamp (Onward (now (near .entry)) (now (begin .entry)) (now (queue .entry)) head end (now (since .entry)) stamp) (now (since .entry)) (now (queue .entry)) tail (now (since .exit)) (now (queue .exit)) r ⌝ }
 {
     let mut at = tail;
     for i in head..end {
         let u = wide(queue[i]);
         if is_older(since[u], stamp) {
-            at = spread(row(near, begin, u), since, queue, at, stamp);
+            at = spread(row(near, begin, u), shut, since, queue, at, stamp);
         }
     }
     at
 }
 
-// The next layer but for its choke points. A cart may stand, so the cells of the layer stay, and only two kinds of cells can add to it: those added at the last step,
-// which stand in the queue from `head` on, and the choke points of the last step, from `opens` to before `end`.
+// The next layer but for its choke points. A cart may stand, and none of the layer's cells closes before a call is reached, so they stay, and only two kinds of cells can
+// add to it: those added at the last step, which stand in the queue from `head` on, and the choke points of the last step, from `opens` to before `end`.
 pub fn grow(
     near: &[u8],
     begin: &[u16],
+    shut: &[u16; Limits::CELLS],
     cells: &[u8],
     opens: usize,
     end: usize,
@@ -145,10 +166,21 @@ pub fn grow(
     stamp: u16,
 ) -> usize
     requires { ⌜ (0 < stamp) × Roomy (now since) (now queue) tail × (opens ≤ end) × (end ≤ length (now cells)) × (head ≤ tail) × ((floor : ℕ) × Rows floor (now near) (now begin) × ((k : ℕ) → k < end → getD (now cells) k 0 < floor) × ((v : ℕ) → Older (now since) stamp v → v < floor)) ⌝ }
-    ensures { λ r. ⌜ Grown stamp (λ v. Again (now (near .entry)) (now (begin .entry)) (now (cells .entry)) opens end (now (since .entry)) stamp v ⊎ Onward (now (near .entry)) (now (begin .entry)) (now (queue .entry)) head tail (now (since .entry)) stamp v) (now (since .entry)) (now (queue .entry)) tail (now (since .exit)) (now (queue .exit)) r ⌝ }
+    ensures { λ r. ⌜ Grown (now (shut .entry)) stamp (λ v. Again (now (near .entry)) (now (begin .entry)) (now (cells .entry)) opens end (now (since .entry)) stamp v ⊎ Onward (now (near .entry)) (now (begin .entry)) (now (queue .entry)) head tail (now (since .entry)) stamp v) (now (since .entry)) (now (queue .entry)) tail (now (since .exit)) (now (queue .exit)) r ⌝ }
 {
-    let at = rejoin(near, begin, cells, opens, end, since, queue, tail, stamp);
-    advance(near, begin, since, queue, head, tail, at, stamp)
+    let at = rejoin(
+        near,
+        begin,
+        shut,
+        cells,
+        opens,
+        end,
+        since,
+        queue,
+        tail,
+        stamp,
+    );
+    advance(near, begin, shut, since, queue, head, tail, at, stamp)
 }
 
 // Takes the choke points of step t out, which begin at `at`. Answers where those of later steps begin.

@@ -1,12 +1,12 @@
 -- `reaches` holds the layer of one step after the other. Invariant: the table is the layer of step t, and no call with a deadline before t was reached. The measure is what is
 -- left of the steps. Assumes nothing.
 use mathlib.Core.Path.{_≡_, refl, _∙_}
-use Rattle.chokejudge.proofs.StepLaws.{Holding, Unmet, holding-first, holding-next, call-in, older-known, roomy, unmet-more}
+use Rattle.chokejudge.proofs.StepLaws.{Holding, Unmet, first-open, holding-first, holding-next, call-in, older-known, roomy, still-open, unmet-more}
 use Prim.Native.Nat.{_+_, _-_, _<_, _≤_, ℕ}
 use native.Mathlib.Omega.{arith}
 use native.Mathlib.Nat.{not-suc-le-zero}
 use Rattle.chokejudge.proofs.ClearedLaws.{cursor-first}
-use Rattle.model.specs.Limits.{maxCells}
+use Rattle.model.specs.Limits.{maxCells, maxSteps}
 use denote.Ref.{now}
 use Rattle.job.proofs.Tested.{denied, told}
 use Rattle.job.proofs.Arrays.{latest-le}
@@ -19,12 +19,12 @@ mod Places
 use Places.*
 
 abbrev Inv-loop : tie.InvT-loop
-Inv-loop near begin starts carts targets deadlines calls cells steps n last latest before since₀ queue₀ head₀ tail₀ opens₀ end₀ t₀ since queue head tail opens end t =
-    (t ≤ last + 1) × Holding near begin starts carts cells steps n t since queue head tail opens end
-    × Unmet (Reached near begin starts carts cells steps n) targets deadlines calls t
+Inv-loop near begin shut starts carts targets deadlines calls cells steps n last latest before since₀ queue₀ head₀ tail₀ opens₀ end₀ t₀ since queue head tail opens end t =
+    (t ≤ last + 1) × Holding near begin shut starts carts cells steps n t since queue head tail opens end
+    × Unmet (Reached near begin shut starts carts cells steps n) targets deadlines calls t
 
 abbrev μ-loop : tie.MeasureT-loop
-μ-loop near begin starts carts targets deadlines calls cells steps n last latest before since₀ queue₀ head₀ tail₀ opens₀ end₀ t₀ since queue head tail opens end t = last + 1 - t
+μ-loop near begin shut starts carts targets deadlines calls cells steps n last latest before since₀ queue₀ head₀ tail₀ opens₀ end₀ t₀ since queue head tail opens end t = last + 1 - t
 
 place-requires : tie.Need-place-requires Inv-loop μ-loop
 place-requires c κs = (queue→start c .pre .0, record { cells = search needs; places = search needs; ends = omega arith })
@@ -35,7 +35,14 @@ close-requires c κs =
     (p .3, p .4, since3→place c .place .ensures .cells, p .5, cursor-first (now (since3→start c .args .steps)) (since3→start c .args .n))
 
 loop-holds : tie.Need-loop-holds Inv-loop μ-loop
-loop-holds c = (omega arith, holding-first (zeros maxCells) (search needs) (search needs) (since4→place c .place .ensures) (since4→close c .close .ensures), λ k h l. absurd (not-suc-le-zero l))
+loop-holds c =
+    let a = since4→start c .args in
+    let p = since4→start c .pre in (
+      omega arith,
+      holding-first (first-open (p .7) (now (a .starts)) (a .carts) (p .6 .0 .cells) (p .6 .4) (p .6 .2)) (zeros maxCells) (search needs) (search needs) (since4→place c .place .ensures)
+          (since4→close c .close .ensures),
+      λ k h l. absurd (not-suc-le-zero l),
+    )
 
 has-due-requires : tie.Need-has-due-requires Inv-loop μ-loop
 has-due-requires c κs =
@@ -73,6 +80,9 @@ close-requires-2 c κs =
 turned : {t last : ℕ} → t ≤ last → t + 1 ≤ last + 1
 turned h = omega arith
 
+soon : {t last : ℕ} → t ≤ last → last < maxSteps → t < maxSteps
+soon h g = omega arith
+
 fewer : {t last : ℕ} → t ≤ last → last + 1 - (t + 1) < last + 1 - t
 fewer h = omega arith
 
@@ -84,11 +94,13 @@ loop-again c =
     let a = since9→start c .args in
     let p = since9→start c .pre in
     let l = since9→loop c .loop in
-    let h = l .inv .1 in (
+    let h = l .inv .1 in
+    let out = since9→has-due c .has-due .ensures (now (a .deadlines)) (a .calls) (p .1, since9→chain c .chain .ensures) .1 (since9→else1 c .if1 .left) in (
       turned (since9→in-loop c .loop-test .taken),
-      holding-next h (p .6 .1) (p .6 .2) (p .6 .3) (since9→grow c .grow .ensures) (since9→close2 c .close2 .ensures),
-      unmet-more h (now (a .targets)) (now (a .deadlines)) (a .calls)
-          (since9→has-due c .has-due .ensures (now (a .deadlines)) (a .calls) (p .1, since9→chain c .chain .ensures) .1 (since9→else1 c .if1 .left)) (l .inv .2),
+      holding-next h (p .6 .1) (p .6 .2) (p .6 .3)
+          (still-open h (now (a .targets)) (now (a .deadlines)) (a .calls) (p .7) (soon (since9→in-loop c .loop-test .taken) (since9→horizon c .horizon .ensures .1)) out)
+          (since9→grow c .grow .ensures) (since9→close2 c .close2 .ensures),
+      unmet-more h (now (a .targets)) (now (a .deadlines)) (a .calls) out (l .inv .2),
     )
 
 passed : {x y last t : ℕ} → x ≤ y → last ≡ y → last < t → x < t

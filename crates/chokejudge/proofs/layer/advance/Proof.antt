@@ -23,11 +23,11 @@ abbrev Spreads : List ℕ → List ℕ → List ℕ → ℕ → ℕ → ℕ → 
 Spreads near begin l s u v = Older l s u × Side near begin u v
 
 abbrev Inv-loop : tie.InvT-loop
-Inv-loop near begin since₀ queue₀ head end tail stamp at₀ i₀ since queue at i =
-    (head ≤ i) × (i ≤ end) × Grown stamp (Each queue₀ head i (Spreads near begin since₀ stamp)) since₀ queue₀ tail since queue at × Roomy since queue at
+Inv-loop near begin shut since₀ queue₀ head end tail stamp at₀ i₀ since queue at i =
+    (head ≤ i) × (i ≤ end) × Grown shut stamp (Each queue₀ head i (Spreads near begin since₀ stamp)) since₀ queue₀ tail since queue at × Roomy since queue at
 
 abbrev μ-loop : tie.MeasureT-loop
-μ-loop near begin since₀ queue₀ head end tail stamp at₀ i₀ since queue at i = end - i
+μ-loop near begin shut since₀ queue₀ head end tail stamp at₀ i₀ since queue at i = end - i
 
 loop-holds : tie.Need-loop-holds Inv-loop μ-loop
 loop-holds c =
@@ -47,8 +47,8 @@ spread-requires : tie.Need-spread-requires Inv-loop μ-loop
 spread-requires c κs = (spread-arg2→start c .pre .0, spread-arg2→loop c .loop .inv .3)
 
 -- an older cell's row is what it spreads to
-spreads-as : (O : ℕ → Type 0) (near begin : List ℕ) {row l queue l′ queue′ : List ℕ} {s u w n n′ : ℕ} → u ≡ w → O u → row ≡ rowOf near begin u
-    → Grown s (λ x. In x row) l queue n l′ queue′ n′ → Grown s (λ v. O w × Side near begin w v) l queue n l′ queue′ n′
+spreads-as : (O : ℕ → Type 0) (near begin : List ℕ) {row shut l queue l′ queue′ : List ℕ} {s u w n n′ : ℕ} → u ≡ w → O u → row ≡ rowOf near begin u
+    → Grown shut s (λ x. In x row) l queue n l′ queue′ n′ → Grown shut s (λ v. O w × Side near begin w v) l queue n l′ queue′ n′
 spreads-as O near begin e o f g = grown-as (λ v. (λ q. (rw e at o, rw (f, e) at q), λ q. rw (f, e) (q .1))) g
 
 loop-again : tie.Need-loop-again Inv-loop μ-loop

@@ -14,10 +14,10 @@ mod Places
 use Places.*
 
 abbrev Inv-loop : tie.InvT-loop
-Inv-loop starts carts since₀ queue₀ tail₀ i₀ since queue tail i = (i ≤ carts) × Grown 1 (Placed starts i) since₀ queue₀ 0 since queue tail × Roomy since queue tail
+Inv-loop starts carts shut since₀ queue₀ tail₀ i₀ since queue tail i = (i ≤ carts) × Grown shut 1 (Placed starts i) since₀ queue₀ 0 since queue tail × Roomy since queue tail
 
 abbrev μ-loop : tie.MeasureT-loop
-μ-loop starts carts since₀ queue₀ tail₀ i₀ since queue tail i = carts - i
+μ-loop starts carts shut since₀ queue₀ tail₀ i₀ since queue tail i = carts - i
 
 loop-holds : tie.Need-loop-holds Inv-loop μ-loop
 loop-holds c = (omega arith, grown-none 1 (now (slice-known2→start c .args .since)) (now (slice-known2→start c .args .queue)) 0 (λ v p. absurd (omega (arith, p .1))), slice-known2→start c .pre .1)

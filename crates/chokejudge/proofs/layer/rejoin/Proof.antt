@@ -22,11 +22,11 @@ abbrev Back : List ℕ → List ℕ → List ℕ → ℕ → ℕ → ℕ → Typ
 Back near begin l s u v = ((x : ℕ) × Side near begin u x × Older l s x) × (v ≡ u)
 
 abbrev Inv-loop : tie.InvT-loop
-Inv-loop near begin cells opens end since₀ queue₀ tail stamp at₀ k₀ since queue at k =
-    (opens ≤ k) × (k ≤ end) × Grown stamp (Each cells opens k (Back near begin since₀ stamp)) since₀ queue₀ tail since queue at × Roomy since queue at
+Inv-loop near begin shut cells opens end since₀ queue₀ tail stamp at₀ k₀ since queue at k =
+    (opens ≤ k) × (k ≤ end) × Grown shut stamp (Each cells opens k (Back near begin since₀ stamp)) since₀ queue₀ tail since queue at × Roomy since queue at
 
 abbrev μ-loop : tie.MeasureT-loop
-μ-loop near begin cells opens end since₀ queue₀ tail stamp at₀ k₀ since queue at k = end - k
+μ-loop near begin shut cells opens end since₀ queue₀ tail stamp at₀ k₀ since queue at k = end - k
 
 loop-holds : tie.Need-loop-holds Inv-loop μ-loop
 loop-holds c =

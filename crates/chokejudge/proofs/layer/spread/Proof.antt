@@ -15,10 +15,11 @@ mod Places
 use Places.*
 
 abbrev Inv-loop : tie.InvT-loop
-Inv-loop row since₀ queue₀ tail stamp end₀ i₀ i-end since queue end i = (i ≤ length row) × Grown stamp (λ v. Some i (λ k. getD row k 0 ≡ v)) since₀ queue₀ tail since queue end × Roomy since queue end
+Inv-loop row shut since₀ queue₀ tail stamp end₀ i₀ i-end since queue end i =
+    (i ≤ length row) × Grown shut stamp (λ v. Some i (λ k. getD row k 0 ≡ v)) since₀ queue₀ tail since queue end × Roomy since queue end
 
 abbrev μ-loop : tie.MeasureT-loop
-μ-loop row since₀ queue₀ tail stamp end₀ i₀ i-end since queue end i = length row - i
+μ-loop row shut since₀ queue₀ tail stamp end₀ i₀ i-end since queue end i = length row - i
 
 loop-holds : tie.Need-loop-holds Inv-loop μ-loop
 loop-holds c =

@@ -28,6 +28,9 @@ module _ {Inv : tie.InvT-loop} {μ : tie.MeasureT-loop} where
   abbrev pub since4→place : tie.After-since4 Inv μ → tie.After-place Inv μ
   since4→place c = since3→place (c .before .before)
 
+  abbrev pub since4→start : tie.After-since4 Inv μ → tie.Start Inv μ
+  since4→start c = since3→start (c .before .before)
+
   abbrev pub after-loop→loop : tie.After-loop Inv μ → tie.At-loop Inv μ
   after-loop→loop c = c .before
 
@@ -35,7 +38,7 @@ module _ {Inv : tie.InvT-loop} {μ : tie.MeasureT-loop} where
   after-loop→horizon c = after-loop→loop c .before .before .before .before .before .before .before .before .before .before .before .before .before .before
 
   abbrev pub after-loop→start : tie.After-loop Inv μ → tie.Start Inv μ
-  after-loop→start c = since3→start (c .before .before .before .before)
+  after-loop→start c = since4→start (c .before .before)
 
   abbrev pub since5→in-loop : tie.After-since5 Inv μ → tie.In-loop Inv μ
   since5→in-loop c = c .before .before .before
@@ -50,7 +53,7 @@ module _ {Inv : tie.InvT-loop} {μ : tie.MeasureT-loop} where
   since5→horizon c = since5→chain c .before .before .before
 
   abbrev pub since5→start : tie.After-since5 Inv μ → tie.Start Inv μ
-  since5→start c = since5→horizon c .before .before .before .before .before
+  since5→start c = since4→start (c .before .before .before .before .before)
 
   abbrev pub then1→has-due : tie.Then1 Inv μ → tie.After-has-due Inv μ
   then1→has-due c = c .before
@@ -99,6 +102,9 @@ module _ {Inv : tie.InvT-loop} {μ : tie.MeasureT-loop} where
 
   abbrev pub since9→chain : tie.After-since9 Inv μ → tie.After-chain Inv μ
   since9→chain c = since5→chain (c .before .before .before .before .before .before .before .before .before .before)
+
+  abbrev pub since9→horizon : tie.After-since9 Inv μ → tie.After-horizon Inv μ
+  since9→horizon c = since9→chain c .before .before .before
 
   abbrev pub since9→start : tie.After-since9 Inv μ → tie.Start Inv μ
   since9→start c = since8→start (c .before .before)

@@ -26,11 +26,8 @@ module _ {Inv : tie.InvT-loop} {μ : tie.MeasureT-loop} where
   abbrev pub wide→loop : tie.After-wide Inv μ → tie.At-loop Inv μ
   wide→loop c = wide→in-loop c .before
 
-  abbrev pub wide→shared-slice-known : tie.After-wide Inv μ → tie.After-shared-slice-known Inv μ
-  wide→shared-slice-known c = wide→loop c .before .before .before .before .before
-
   abbrev pub wide→start : tie.After-wide Inv μ → tie.Start Inv μ
-  wide→start c = wide→shared-slice-known c .before
+  wide→start c = slice-known2→start (c .before .before .before .before)
 
   abbrev pub borders-arg→loop : tie.After-borders-arg Inv μ → tie.At-loop Inv μ
   borders-arg→loop c = wide→loop (c .before .before)
