@@ -19,6 +19,7 @@ const TERM: i32 = 15;
 
 extern "C" {
     fn kill(process: i32, signal: i32) -> i32;
+    fn signal(number: i32, handler: usize) -> usize;
 }
 
 fn send(child: &Child, signal: i32) {
@@ -74,6 +75,8 @@ fn killed_at_many_moments() {
 /// An interrupt ends the run behind the jobs that are begun, and leaves nothing behind.
 #[test]
 fn interrupted() {
+    // Safety: no handler is run. Started by `nohup`, the tests would hand an ignored HUP on to the program.
+    unsafe { signal(HUP, 0) };
     for signal in [HUP, INT, TERM] {
         let (folder, entries) = Folder::with_jobs(3000, 3);
         let child = piped(plan(&folder)).spawn().expect("the program");
