@@ -121,7 +121,7 @@ const LINES: &[(&str, &str)] = &[
     ("Job", "sheetLeast j = length (j .carts) * (4 * (horizon j + 1) + 16) + 64"),
     ("ReadJob", "readJob s = cond (ltb maxText (length s)) (refused TextTooLong 0) (linesSay noJob 1 (linesOf s))"),
     ("ReadJob", FIELDS_SAY),
-    ("ReadJob", "(wrong BadLine))))"),
+    ("ReadJob", "(wrong BadLine)))))"),
     ("ReadJob", "linesSay j n cut = refused BadLine n"),
     ("ReadJob", "numbersSay j k none = wrong NoNumber"),
     ("ReadJob", NUMBERS_SAY),
