@@ -28,7 +28,7 @@ fn across(floor: Job, size: Size, late: usize, rng: &mut Rng, due: usize) -> Job
     left.truncate(count);
     right.truncate(count);
     let mut deadline = |i: usize| if i + late < count { due } else { size.last - rng.below(8) };
-    let calls = right.into_iter().enumerate().map(|(i, cell)| Call { cell, deadline: deadline(i) }).collect();
+    let calls = right.into_iter().enumerate().map(|(i, cell)| Call::lift(cell, deadline(i))).collect();
     Job { carts: left, calls, ..floor }
 }
 
