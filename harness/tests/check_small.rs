@@ -2,17 +2,22 @@
 
 use harness::compare::library_on;
 use harness::gen::cases::{self, Kind, Known};
-use harness::gen::small::small;
+use harness::gen::small::{small, small_with_bays};
 use harness::gen::Rng;
 use harness::model::answer::*;
+use harness::model::job::Job;
 use harness::tally::Tally;
 
-/// Tries a kind of cases on so many jobs.
+/// Tries a kind of cases on so many jobs, half of which have bays.
 fn try_out(kind: Kind, seed: u64, jobs: usize) -> Tally {
+    try_on(small, kind, seed, jobs)
+}
+
+fn try_on(make: fn(&mut Rng) -> Job, kind: Kind, seed: u64, jobs: usize) -> Tally {
     let mut rng = Rng::new(seed);
     let mut tally = Tally::default();
     for _ in 0..jobs {
-        let known = Known::of(small(&mut rng));
+        let known = Known::of(make(&mut rng));
         for case in kind(&known, &mut rng) {
             tally.count(library_on(&case, &mut rng).0);
         }
@@ -34,6 +39,18 @@ fn wrong_plans() {
     tally.assert_only(&[PLAN, WRONG_SHEET]);
     tally.assert_each(&[PLAN, WRONG_SHEET], 2000);
     assert!(tally.total() >= 20_000);
+}
+
+/// The sheets that the search of all plans and lists finds, those that lead over closed cells, and many beside them.
+#[test]
+fn sheets_of_30_000_jobs_with_bays() {
+    let right = try_on(small_with_bays, cases::right_sheets, 8, 10_000);
+    right.assert_only(&[PLAN, CANNOT]);
+    right.assert_each(&[PLAN, CANNOT], 20_000);
+    let plans = try_on(small_with_bays, cases::wrong_plans, 9, 10_000);
+    plans.assert_each(&[PLAN, WRONG_SHEET], 20_000);
+    let lists = try_on(small_with_bays, cases::choke_lists, 10, 10_000);
+    lists.assert_each(&[CANNOT, WRONG_SHEET], 20_000);
 }
 
 #[test]
