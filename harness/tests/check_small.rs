@@ -27,7 +27,7 @@ fn try_on(make: fn(&mut Rng) -> Job, kind: Kind, seed: u64, jobs: usize) -> Tall
 
 #[test]
 fn right_sheets() {
-    let tally = try_out(cases::right_sheets, 1, 1500);
+    let tally = try_out(cases::right_sheets, 1, 3000);
     tally.assert_only(&[PLAN, CANNOT]);
     tally.assert_each(&[PLAN, CANNOT], 2000);
     assert!(tally.total() >= 12_000);
@@ -35,7 +35,7 @@ fn right_sheets() {
 
 #[test]
 fn wrong_plans() {
-    let tally = try_out(cases::wrong_plans, 2, 1500);
+    let tally = try_out(cases::wrong_plans, 2, 3000);
     tally.assert_only(&[PLAN, WRONG_SHEET]);
     tally.assert_each(&[PLAN, WRONG_SHEET], 2000);
     assert!(tally.total() >= 20_000);
@@ -55,7 +55,7 @@ fn sheets_of_30_000_jobs_with_bays() {
 
 #[test]
 fn choke_lists() {
-    let tally = try_out(cases::choke_lists, 3, 1500);
+    let tally = try_out(cases::choke_lists, 3, 3000);
     tally.assert_only(&[CANNOT, BAD_SHEET, WRONG_SHEET]);
     tally.assert_each(&[CANNOT, BAD_SHEET, WRONG_SHEET], 2000);
     assert!(tally.total() >= 20_000);
@@ -63,14 +63,14 @@ fn choke_lists() {
 
 #[test]
 fn doubled_points() {
-    let tally = try_out(cases::doubled_points, 7, 1500);
+    let tally = try_out(cases::doubled_points, 7, 3000);
     tally.assert_only(&[WRONG_SHEET]);
     assert!(tally.total() >= 5_000);
 }
 
 #[test]
 fn damaged_sheets() {
-    let tally = try_out(cases::damaged_sheets, 4, 1500);
+    let tally = try_out(cases::damaged_sheets, 4, 3000);
     tally.assert_only(&[PLAN, CANNOT, BAD_SHEET, WRONG_SHEET]);
     tally.assert_each(&[PLAN, CANNOT, BAD_SHEET, WRONG_SHEET], 100);
     assert!(tally.total() >= 20_000);
@@ -78,7 +78,7 @@ fn damaged_sheets() {
 
 #[test]
 fn damaged_jobs() {
-    let tally = try_out(cases::damaged_jobs, 5, 1500);
+    let tally = try_out(cases::damaged_jobs, 5, 3000);
     tally.assert_each(&[PLAN, CANNOT, BAD_LINE, NO_NUMBER, OUT_OF_RANGE, DOUBLED, UNEVEN], 500);
     tally.assert_each(&[BAD_SHEET, WRONG_SHEET], 200);
     assert!(tally.total() >= 20_000);
@@ -86,7 +86,7 @@ fn damaged_jobs() {
 
 #[test]
 fn stores() {
-    let tally = try_out(cases::stores, 6, 1500);
+    let tally = try_out(cases::stores, 6, 3000);
     tally.assert_only(&[PLAN, CANNOT, STORE_TOO_SHORT]);
     tally.assert_each(&[PLAN, CANNOT, STORE_TOO_SHORT], 1000);
     assert!(tally.total() >= 12_000);

@@ -69,7 +69,7 @@ fn the_third_30_000_jobs_with_bays() {
 fn damaged_jobs() {
     let mut rng = Rng::new(5);
     let mut tally = Tally::default();
-    for _ in 0..10_000 {
+    for _ in 0..20_000 {
         let text = damaged(&small(&mut rng).text(), &mut rng);
         tally.count(plan(&text, BUFFER, BUFFER, &mut rng).0);
     }

@@ -32,14 +32,14 @@ pub fn tampered_plan(job: &Job, paths: &[Path], rng: &mut Rng) -> Vec<Path> {
     }
     let mut paths = paths.to_vec();
     let (one, other) = (rng.below(paths.len()), rng.below(paths.len()));
-    match rng.below(7) {
+    match rng.below(if job.has_bays() { 7 } else { 6 }) {
         0 => paths.swap(one, other),
         1 => paths[one] = paths[other].clone(),
         2 => paths[one].cart = rng.below(job.carts.len()),
         3 => swap_carts(&mut paths, one, other),
         4 => swap_tails(&mut paths, one, other, rng),
-        5 => stand_in_bay(&mut paths[one].cells, job, rng),
-        _ => change_cell(&mut paths[one].cells, job, rng),
+        5 => change_cell(&mut paths[one].cells, job, rng),
+        _ => stand_in_bay(&mut paths[one].cells, job, rng),
     }
     paths
 }
@@ -97,12 +97,14 @@ pub fn tampered_list(job: &Job, list: &[Choke], rng: &mut Rng) -> Vec<Choke> {
     }
     let mut list = list.to_vec();
     let (one, other) = (rng.below(list.len()), rng.below(list.len()));
-    match rng.below(5) {
+    match rng.below(if job.has_bays() { 7 } else { 5 }) {
         0 => list.swap(one, other),
         1 => return doubled_point(&list, rng),
         2 => drop(list.remove(one)),
         3 => list.reverse(),
-        _ => list[one] = lists::some_points(job, 1, rng)[0],
+        4 => list[one] = lists::some_points(job, 1, rng)[0],
+        5 => return closed_point_more(job, &list, rng),
+        _ => return closed_point_instead(job, &list, rng),
     }
     list
 }
