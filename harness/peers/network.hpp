@@ -1,5 +1,6 @@
 // The network of a job for the peers: every cell at every step from 0 to the latest deadline as two nodes, joined by an
-// arc, so that one cart can stand there. All capacities are 1.
+// arc, so that one cart can stand there. All capacities are 1. A bay's cell after its step is closed: no arc comes to its
+// nodes or leaves them.
 #pragma once
 #include <utility>
 #include <vector>
@@ -9,6 +10,7 @@ struct Job {
     const int *from, *to;            // tracks
     const int *starts;               // carts, as many as calls
     const int *lifts, *deadlines;    // calls
+    const int *bays;                 // 1 where a call is a bay, else 0
 };
 
 struct Network {
@@ -22,10 +24,11 @@ inline Network network_of(const Job &job, bool backward) {
     for (int q = 0; q < job.calls; q++)
         if (job.deadlines[q] > last) last = job.deadlines[q];
     const int n = job.cells, k = n * (last + 1);
-    std::vector<int> due(n, -1), cart(n, 0);
+    std::vector<int> due(n, -1), cart(n, 0), shut(n, last);    // open up to that step
     for (int q = 0; q < job.calls; q++) {
         due[job.lifts[q]] = job.deadlines[q];
         cart[job.starts[q]] = 1;
+        if (job.bays[q]) shut[job.lifts[q]] = job.deadlines[q];
     }
     // Cells within a step of each cell, itself first.
     std::vector<int> row(n + 1, 0), near(n + 2 * job.tracks), filled(n, 1);
@@ -43,15 +46,18 @@ inline Network network_of(const Job &job, bool backward) {
     // Node 2v is where a cart comes in, 2v + 1 where it goes on; backward the other way round.
     for (int t = 0, v = 0; t <= last; t++)
         for (int c = 0; c < n; c++, v++) {
+            if (t > shut[c]) continue;
             arcs.emplace_back(2 * v, 2 * v + 1);
             if (!backward) {
                 if (due[c] == t)
                     arcs.emplace_back(2 * v + 1, net.sink);
                 else if (t < last)
-                    for (int i = row[c]; i < row[c + 1]; i++) arcs.emplace_back(2 * v + 1, 2 * ((t + 1) * n + near[i]));
+                    for (int i = row[c]; i < row[c + 1]; i++)
+                        if (t < shut[near[i]]) arcs.emplace_back(2 * v + 1, 2 * ((t + 1) * n + near[i]));
             } else if (t > 0) {
                 for (int i = row[c]; i < row[c + 1]; i++)
-                    if (due[near[i]] != t - 1) arcs.emplace_back(2 * v + 1, 2 * ((t - 1) * n + near[i]));
+                    if (due[near[i]] != t - 1 && t - 1 <= shut[near[i]])
+                        arcs.emplace_back(2 * v + 1, 2 * ((t - 1) * n + near[i]));
             } else if (cart[c]) {
                 arcs.emplace_back(2 * v + 1, net.sink);
             }

@@ -1,4 +1,5 @@
-//! The filed examples: jobs with the answers that whoever asked for the planner wrote down. Tabs are shown as spaces.
+//! The filed examples: jobs with the answers that whoever asked for the planner, and later for bays, wrote down. Tabs are
+//! shown as spaces. Each job is in `examples/` too, with its sheet, under its name in small letters.
 
 use crate::model::answer::*;
 
@@ -18,7 +19,7 @@ pub struct Example {
     pub answer: u8,
 }
 
-pub const EXAMPLES: &[Example] = &[A, B, C, D, F, G];
+pub const EXAMPLES: &[Example] = &[A, B, C, D, F, G, BAY, CLOSED];
 
 pub const A: Example = Example {
     name: "A",
@@ -57,6 +58,30 @@ pub const F_TRADED: &str = "PLAN 2\nPATH 1 0 1 0\nPATH 0 1 0 1\n";
 
 pub const G: Example = Example { name: "G", job: "FLOOR 2\nCART 0\nCALL 1 5\n", sheet: "CANNOT 0\n", answer: CANNOT };
 
+/// Cart 0 crosses the bay's cell at step 1, before cart 1 parks there at step 2.
+pub const BAY: Example = Example {
+    name: "bay",
+    job: "FLOOR 5\nTRACK 0 1\nTRACK 1 2\nTRACK 1 3\nTRACK 3 4\nCART 0\nCART 4\nBAY 1 2\nCALL 2 2\n",
+    sheet: "PLAN 2\nPATH 1 0 4 3 1\nPATH 0 1 0 1 2\n",
+    answer: PLAN,
+};
+
+/// Cart 1 is parked from step 0 on, on the only way to cell 2.
+pub const CLOSED: Example = Example {
+    name: "closed",
+    job: "FLOOR 3\nTRACK 0 1\nTRACK 1 2\nCART 0\nCART 1\nBAY 1 0\nCALL 2 2\n",
+    sheet: "CANNOT 1\nCHOKE 1 0\n",
+    answer: CANNOT,
+};
+
+/// The same with a lift for the bay, which alone is the reason.
+pub const CLOSED_BY_NO_BAY: Example = Example {
+    name: "closed, with a lift",
+    job: "FLOOR 3\nTRACK 0 1\nTRACK 1 2\nCART 0\nCART 1\nCALL 1 0\nCALL 2 2\n",
+    sheet: "PLAN 2\nPATH 1 0 1\nPATH 0 1 0 1 2\n",
+    answer: PLAN,
+};
+
 /// Jobs that are turned back: text, number, line.
 pub const REFUSED: &[(&str, u8, usize)] = &[
     ("", BAD_LINE, 1),
@@ -69,4 +94,11 @@ pub const REFUSED: &[(&str, u8, usize)] = &[
     ("FLOOR 1\nCART 0\n", UNEVEN, 0),
     ("FLOOR 1\nCART 00\nCALL 0 0\n", NO_NUMBER, 2),
     ("FLOOR 1\nCART 1e0\nCALL 0 0\n", NO_NUMBER, 2),
+    ("FLOOR 1\nCART 0\nBAY 0\n", BAD_LINE, 3),
+    ("FLOOR 2\nCART 0\nBAY 0 0\nCART 1\n", BAD_LINE, 4),
+    ("FLOOR 1\nCART 0\nBAY 0 256\n", OUT_OF_RANGE, 3),
+    ("FLOOR 2\nCART 0\nCART 1\nBAY 0 0\nBAY 0 1\n", DOUBLED, 5),
+    ("FLOOR 2\nCART 0\nCART 1\nCALL 0 0\nBAY 0 1\n", DOUBLED, 5),
+    ("FLOOR 2\nCART 0\nCART 1\nBAY 0 0\nCALL 0 1\n", DOUBLED, 5),
+    ("FLOOR 1\nBAY 0 0\n", UNEVEN, 0),
 ];

@@ -1,9 +1,11 @@
 //! A second check, into which one fault can be put. The tests of the harness see that the comparison finds each.
 //!
 //! It reads jobs as the model does, since the faults are about sheets. The rest goes other ways than the model: the
-//! sheet in one pass of bytes, conflicts by a table of who stands where, choke lists backwards from the calls.
+//! sheet in one pass of bytes, conflicts by a table of who stands where, choke lists backwards from the calls, closed cells
+//! by a table of steps.
 
 mod backwards;
+mod bays;
 mod conflicts;
 mod form;
 
@@ -13,6 +15,7 @@ use crate::model::job::Job;
 use crate::model::limits::store_least;
 use crate::model::reader;
 use crate::model::sheet::{Choke, Path, Sheet};
+use bays::Closed;
 
 #[derive(Clone, Copy, Debug, PartialEq, Eq)]
 pub enum Fault {
@@ -30,6 +33,17 @@ pub enum Fault {
     WritesBehindStore,
     WritesIntoJob,
     WritesIntoSheet,
+    IgnoresBaysInPlans,
+    IgnoresBaysInLists,
+    ClosesBayAtItsStep,
+    ClosesBayOneStepLate,
+    ClosesBayForOneStep,
+    ClosesLiftCells,
+    TakesClosedPointForBaysStep,
+    RefusesClosedPoint,
+    CountsNoBays,
+    TakesLastLiftForLargestDeadline,
+    PutsBaysBehindCalls,
 }
 
 /// The faults, without `None`.
@@ -47,6 +61,17 @@ pub const FAULTS: &[Fault] = &[
     Fault::WritesBehindStore,
     Fault::WritesIntoJob,
     Fault::WritesIntoSheet,
+    Fault::IgnoresBaysInPlans,
+    Fault::IgnoresBaysInLists,
+    Fault::ClosesBayAtItsStep,
+    Fault::ClosesBayOneStepLate,
+    Fault::ClosesBayForOneStep,
+    Fault::ClosesLiftCells,
+    Fault::TakesClosedPointForBaysStep,
+    Fault::RefusesClosedPoint,
+    Fault::CountsNoBays,
+    Fault::TakesLastLiftForLargestDeadline,
+    Fault::PutsBaysBehindCalls,
 ];
 
 /// The second check with a fault.
@@ -101,7 +126,7 @@ impl Faulty {
         if self.0 == Fault::PassesLinesOutOfOrder {
             paths.sort_by_key(|p| (job.calls[p.call].deadline, p.call));
         }
-        conflicts::in_order(job, &paths) && conflicts::none(job, &paths, self.0)
+        conflicts::in_order(job, &paths, self.0) && conflicts::none(job, &paths, self.0)
     }
 
     fn is_true_list(&self, job: &Job, chokes: &[Choke]) -> bool {
@@ -116,6 +141,12 @@ impl Faulty {
             let (a, b) = (chokes[i - 1], chokes[i]);
             a.step < b.step || (a.step == b.step && a.cell < b.cell)
         });
+        if self.0 == Fault::TakesClosedPointForBaysStep {
+            let closed = Closed::by_bays(job, self.0);
+            for point in chokes.iter_mut().filter(|point| closed.at(point.cell, point.step)) {
+                point.step = closed.last_open_step(point.cell);
+            }
+        }
         rising && backwards::stops_every_walk(job, &chokes, self.0)
     }
 }

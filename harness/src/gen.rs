@@ -1,5 +1,6 @@
 //! Jobs and sheets to try, all from seeds, so that a failing case comes again.
 
+pub mod bays;
 pub mod cases;
 pub mod collection;
 pub mod damage;

@@ -1,6 +1,10 @@
-//! Shortcuts that lose a lane: five planners that are wrong, each on some job.
+//! Shortcuts that lose a lane: nine planners that are wrong, each on some job, four of them about bays.
 //!
 //! They search small jobs exhaustively but for the shortcut, so that nothing else can be the reason.
+
+mod bays;
+
+pub use bays::*;
 
 use std::slice::from_ref;
 

@@ -1,11 +1,12 @@
 //! Large jobs, up to every limit: plans and choke lists that are right by the way they are made, and changed ones.
 
 use harness::compare::{library, library_on};
+use harness::gen::bays::no_bays;
 use harness::gen::cases::Case;
 use harness::gen::damage::damaged;
 use harness::gen::floors::*;
 use harness::gen::large::*;
-use harness::gen::wrong::{tampered_list, tampered_plan};
+use harness::gen::wrong::{bay_in_the_way, tampered_list, tampered_plan};
 use harness::gen::Rng;
 use harness::model::answer::*;
 use harness::model::job::Job;
@@ -31,6 +32,9 @@ fn try_out(job: &Job, sheet: &Sheet, tally: &mut Tally, rng: &mut Rng) {
 fn try_plan(job: &Job, paths: &[Path], tally: &mut Tally, rng: &mut Rng) {
     try_out(job, &Sheet::Plan(paths.to_vec()), tally, rng);
     try_out(job, &Sheet::Plan(tampered_plan(job, paths, rng)), tally, rng);
+    if let Some(job) = bay_in_the_way(job, paths, rng) {
+        assert_eq!(answer(&job, &Sheet::Plan(paths.to_vec())), (WRONG_SHEET, 0));
+    }
     if job.cells < limits::CELLS && job.carts.len() < job.cells.min(limits::CARTS) {
         let (job, list) = with_lost_call(job.clone());
         try_list(&job, &list, tally, rng);
@@ -54,21 +58,25 @@ fn grids_and_stars_with_moving_carts() {
         };
         let carts = 1 + rng.below(limits::CARTS.min(floor.cells));
         let most = rng.below(if round < 4 { limits::DEADLINE + 1 } else { 40 });
-        let (job, paths) = moving(floor, carts, 0, most, &mut rng);
-        try_plan(&job, &paths, &mut tally, &mut rng);
+        for made in [moving, moving_to_bays] {
+            let (job, paths) = made(floor.clone(), carts, 0, most, &mut rng);
+            try_plan(&job, &paths, &mut tally, &mut rng);
+        }
     }
     tally.assert_each(&[PLAN, CANNOT, BAD_SHEET, WRONG_SHEET], 10);
 }
 
 #[test]
 fn moving_carts_at_every_limit() {
-    let mut rng = Rng::new(2);
-    let floor = with_most_tracks(grid(16, 16), &mut rng);
-    let (job, paths) = moving(floor, limits::CARTS, 200, limits::DEADLINE, &mut rng);
-    let full = (job.cells, job.tracks.len(), job.carts.len());
-    assert_eq!(full, (limits::CELLS, limits::TRACKS, limits::CARTS));
-    assert_eq!(answer(&job, &Sheet::Plan(paths.clone())), (PLAN, 0));
-    try_plan(&job, &paths, &mut Tally::default(), &mut rng);
+    for made in [moving, moving_to_bays] {
+        let mut rng = Rng::new(2);
+        let floor = with_most_tracks(grid(16, 16), &mut rng);
+        let (job, paths) = made(floor, limits::CARTS, 200, limits::DEADLINE, &mut rng);
+        let full = (job.cells, job.tracks.len(), job.carts.len());
+        assert_eq!(full, (limits::CELLS, limits::TRACKS, limits::CARTS));
+        assert_eq!(answer(&job, &Sheet::Plan(paths.clone())), (PLAN, 0));
+        try_plan(&job, &paths, &mut Tally::default(), &mut rng);
+    }
 }
 
 /// The largest sheet there is: 64 carts on cells of three digits up to step 255.
@@ -97,16 +105,29 @@ fn single_changes_of_a_large_plan_are_refused() {
     }
 }
 
+/// The list is true, and untrue without any of its points.
+fn assert_none_to_spare(job: &Job, list: &[Choke]) {
+    assert_eq!(answer(job, &Sheet::Cannot(list.to_vec())), (CANNOT, 0));
+    for missed in 0..list.len() {
+        let mut shorter = list.to_vec();
+        shorter.remove(missed);
+        assert_eq!(answer(job, &Sheet::Cannot(shorter)), (WRONG_SHEET, 0), "without point {missed}");
+    }
+    try_list(job, list, &mut Tally::default(), &mut Rng::new(4));
+}
+
 #[test]
 fn a_star_with_255_neighbours_and_too_few_steps() {
     let (job, list) = crowded_star(255, limits::CARTS, limits::CARTS);
-    assert_eq!(answer(&job, &Sheet::Cannot(list.clone())), (CANNOT, 0));
-    for missed in 0..list.len() {
-        let mut shorter = list.clone();
-        shorter.remove(missed);
-        assert_eq!(answer(&job, &Sheet::Cannot(shorter)), (WRONG_SHEET, 0), "without point {missed}");
-    }
-    try_list(&job, &list, &mut Tally::default(), &mut Rng::new(4));
+    assert_none_to_spare(&job, &list);
+}
+
+/// True only since the bay closes the line.
+#[test]
+fn a_line_that_a_bay_shuts() {
+    let (job, list) = shut_line(limits::CARTS, limits::CARTS - 1, limits::DEADLINE);
+    assert_none_to_spare(&job, &list);
+    assert_eq!(answer(&no_bays(job), &Sheet::Cannot(list)), (WRONG_SHEET, 0));
 }
 
 /// Damage anywhere in the longest text that is accepted; a text that is still accepted finds the store too short.

@@ -2,17 +2,22 @@
 
 use harness::compare::library_on;
 use harness::gen::cases::{self, Kind, Known};
-use harness::gen::small::small;
+use harness::gen::small::{small, small_with_bays};
 use harness::gen::Rng;
 use harness::model::answer::*;
+use harness::model::job::Job;
 use harness::tally::Tally;
 
-/// Tries a kind of cases on so many jobs.
+/// Tries a kind of cases on so many jobs, half of which have bays.
 fn try_out(kind: Kind, seed: u64, jobs: usize) -> Tally {
+    try_on(small, kind, seed, jobs)
+}
+
+fn try_on(make: fn(&mut Rng) -> Job, kind: Kind, seed: u64, jobs: usize) -> Tally {
     let mut rng = Rng::new(seed);
     let mut tally = Tally::default();
     for _ in 0..jobs {
-        let known = Known::of(small(&mut rng));
+        let known = Known::of(make(&mut rng));
         for case in kind(&known, &mut rng) {
             tally.count(library_on(&case, &mut rng).0);
         }
@@ -22,7 +27,7 @@ fn try_out(kind: Kind, seed: u64, jobs: usize) -> Tally {
 
 #[test]
 fn right_sheets() {
-    let tally = try_out(cases::right_sheets, 1, 1500);
+    let tally = try_out(cases::right_sheets, 1, 3000);
     tally.assert_only(&[PLAN, CANNOT]);
     tally.assert_each(&[PLAN, CANNOT], 2000);
     assert!(tally.total() >= 12_000);
@@ -30,15 +35,27 @@ fn right_sheets() {
 
 #[test]
 fn wrong_plans() {
-    let tally = try_out(cases::wrong_plans, 2, 1500);
+    let tally = try_out(cases::wrong_plans, 2, 3000);
     tally.assert_only(&[PLAN, WRONG_SHEET]);
     tally.assert_each(&[PLAN, WRONG_SHEET], 2000);
     assert!(tally.total() >= 20_000);
 }
 
+/// The sheets that the search of all plans and lists finds, those that lead over closed cells, and many beside them.
+#[test]
+fn sheets_of_30_000_jobs_with_bays() {
+    let right = try_on(small_with_bays, cases::right_sheets, 8, 10_000);
+    right.assert_only(&[PLAN, CANNOT]);
+    right.assert_each(&[PLAN, CANNOT], 20_000);
+    let plans = try_on(small_with_bays, cases::wrong_plans, 9, 10_000);
+    plans.assert_each(&[PLAN, WRONG_SHEET], 20_000);
+    let lists = try_on(small_with_bays, cases::choke_lists, 10, 10_000);
+    lists.assert_each(&[CANNOT, WRONG_SHEET], 20_000);
+}
+
 #[test]
 fn choke_lists() {
-    let tally = try_out(cases::choke_lists, 3, 1500);
+    let tally = try_out(cases::choke_lists, 3, 3000);
     tally.assert_only(&[CANNOT, BAD_SHEET, WRONG_SHEET]);
     tally.assert_each(&[CANNOT, BAD_SHEET, WRONG_SHEET], 2000);
     assert!(tally.total() >= 20_000);
@@ -46,14 +63,14 @@ fn choke_lists() {
 
 #[test]
 fn doubled_points() {
-    let tally = try_out(cases::doubled_points, 7, 1500);
+    let tally = try_out(cases::doubled_points, 7, 3000);
     tally.assert_only(&[WRONG_SHEET]);
     assert!(tally.total() >= 5_000);
 }
 
 #[test]
 fn damaged_sheets() {
-    let tally = try_out(cases::damaged_sheets, 4, 1500);
+    let tally = try_out(cases::damaged_sheets, 4, 3000);
     tally.assert_only(&[PLAN, CANNOT, BAD_SHEET, WRONG_SHEET]);
     tally.assert_each(&[PLAN, CANNOT, BAD_SHEET, WRONG_SHEET], 100);
     assert!(tally.total() >= 20_000);
@@ -61,7 +78,7 @@ fn damaged_sheets() {
 
 #[test]
 fn damaged_jobs() {
-    let tally = try_out(cases::damaged_jobs, 5, 1500);
+    let tally = try_out(cases::damaged_jobs, 5, 3000);
     tally.assert_each(&[PLAN, CANNOT, BAD_LINE, NO_NUMBER, OUT_OF_RANGE, DOUBLED, UNEVEN], 500);
     tally.assert_each(&[BAD_SHEET, WRONG_SHEET], 200);
     assert!(tally.total() >= 20_000);
@@ -69,7 +86,7 @@ fn damaged_jobs() {
 
 #[test]
 fn stores() {
-    let tally = try_out(cases::stores, 6, 1500);
+    let tally = try_out(cases::stores, 6, 3000);
     tally.assert_only(&[PLAN, CANNOT, STORE_TOO_SHORT]);
     tally.assert_each(&[PLAN, CANNOT, STORE_TOO_SHORT], 1000);
     assert!(tally.total() >= 12_000);

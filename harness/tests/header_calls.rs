@@ -1,7 +1,7 @@
 //! The library called by the names of the C header: its limits, lengths and answers, each at its edge, and the parameters
 //! of both calls in the order of their prototypes. Tabs are shown as spaces.
 
-use harness::examples::{A, B, D, F, F_TRADED, G};
+use harness::examples::{A, B, BAY, CLOSED, D, F, F_TRADED, G};
 use harness::header::{answers, assert_rows, parameters, row, Row};
 
 const FOLDER: &str = env!("CARGO_TARGET_TMPDIR");
@@ -119,6 +119,10 @@ fn every_answer_by_its_name() {
         checked(D.job, most, "", "BAD_SHEET 1"),
         checked(D.job, most, "PLAN 1\nPATH 0 0 0\n\n", "BAD_SHEET 3"),
         checked(F.job, most, F_TRADED, "WRONG_SHEET 0"),
+        planned(BAY.job, "5344", "120", BAY.sheet, "the sheet, 5344 wiped, PLAN 37"),
+        checked(BAY.job, "5344", BAY.sheet, "PLAN 0"),
+        planned(CLOSED.job, "4768", "120", CLOSED.sheet, "the sheet, 4768 wiped, CANNOT 19"),
+        checked(CLOSED.job, "4768", CLOSED.sheet, "CANNOT 0"),
     ];
     let long = "x".repeat(16_385);
     let refused: &[(&str, &str)] = &[
@@ -128,8 +132,10 @@ fn every_answer_by_its_name() {
         ("FLOOR 1\nCART 00\nCALL 0 0\n", "NO_NUMBER 2"),
         ("FLOOR 1\nCART 0\nCALL 0 256\n", "OUT_OF_RANGE 3"),
         ("FLOOR 2\nTRACK 0 1\nTRACK 1 0\n", "DOUBLED 3"),
+        ("FLOOR 1\nBAY 0 0\nCALL 0 1\n", "DOUBLED 3"),
         ("FLOOR 1\nCART 0\n", "UNEVEN 0"),
         ("FLOOR 1\nCALL 0 0\n", "UNEVEN 0"),
+        ("FLOOR 1\nBAY 0 0\n", "UNEVEN 0"),
     ];
     rows.extend(refused.iter().flat_map(|(job, name)| turned_back(job, name)));
     let carts: String = (0..65).map(|cell| format!("CART {cell}\n")).collect();

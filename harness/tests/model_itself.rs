@@ -1,5 +1,7 @@
 //! The model itself: what it says in two ways agrees, and the filed sheets are the only ones.
 
+use std::fs;
+
 use harness::examples::{tabs, EXAMPLES};
 use harness::gen::lists::{lists, true_lists};
 use harness::gen::plans::{has_plan, plans};
@@ -8,6 +10,8 @@ use harness::gen::Rng;
 use harness::model::plan::is_plan;
 use harness::model::sheet::Sheet;
 use harness::model::{choke, reader, sheet, walks};
+
+const FILES: &str = concat!(env!("CARGO_MANIFEST_DIR"), "/../examples");
 
 #[test]
 fn what_is_written_is_read() {
@@ -48,6 +52,15 @@ fn a_job_has_either_a_plan_or_a_true_choke_list() {
     for _ in 0..5000 {
         let job = small(&mut rng);
         assert_ne!(has_plan(&job), !true_lists(&job).is_empty(), "{job:?}");
+    }
+}
+
+#[test]
+fn the_example_files_are_the_filed_examples() {
+    for example in EXAMPLES {
+        let name = example.name.to_lowercase();
+        let [job, sheet] = ["job", "sheet"].map(|end| fs::read(format!("{FILES}/{name}.{end}")).expect("an example"));
+        assert_eq!((job, sheet), (tabs(example.job), tabs(example.sheet)), "{name}");
     }
 }
 

@@ -3,7 +3,7 @@
 use harness::compare::plan;
 use harness::examples::tabs;
 use harness::gen::floors::grid;
-use harness::gen::large::{full_text, scattered};
+use harness::gen::large::{full_text, scattered, scattered_with_bays};
 use harness::gen::small::small;
 use harness::gen::Rng;
 use harness::model::answer::*;
@@ -42,7 +42,8 @@ fn least_and_shorter_and_longer_for_large_jobs() {
         let floor = grid(2 + rng.below(9), 2 + rng.below(9));
         let carts = rng.below(floor.cells.min(CARTS) + 1);
         let deadline = rng.below(DEADLINE + 1);
-        try_out(&scattered(floor, carts, deadline, &mut rng), &mut rng);
+        try_out(&scattered(floor.clone(), carts, deadline, &mut rng), &mut rng);
+        try_out(&scattered_with_bays(floor, carts, deadline, &mut rng), &mut rng);
     }
 }
 
@@ -52,6 +53,8 @@ fn refusals_of_the_job_come_before_those_of_the_buffers() {
     assert_eq!(plan(&tabs("FLOOR 1\nCART 0\n"), 0, 0, &mut rng).0, UNEVEN);
     assert_eq!(plan(b"", 0, 0, &mut rng).0, BAD_LINE);
     assert_eq!(plan(&[0; TEXT + 1], 0, 0, &mut rng).0, TEXT_TOO_LONG);
-    let one_more = [full_text(), tabs("CALL 0 0\n")].concat();
-    assert_eq!(plan(&one_more, 0, 0, &mut rng).0, TOO_MANY);
+    for line in ["CALL 0 0\n", "BAY 0 0\n"] {
+        let one_more = [full_text(), tabs(line)].concat();
+        assert_eq!(plan(&one_more, 0, 0, &mut rng).0, TOO_MANY);
+    }
 }

@@ -38,7 +38,7 @@ fn carts_that_march_down_a_line() {
     let mut job = line(limits::CELLS);
     let way = limits::CELLS - limits::CARTS;
     job.carts = (0..limits::CARTS).collect();
-    job.calls = (way..limits::CELLS).map(|cell| Call { cell, deadline: way }).collect();
+    job.calls = (way..limits::CELLS).map(|cell| Call::lift(cell, way)).collect();
     assert_eq!(planned(&job).0, PLAN);
     for call in &mut job.calls {
         call.deadline -= 1;

@@ -1,7 +1,7 @@
 //! The shortcuts that lose a lane: for each a job on which it is wrong, and the planner is right.
 
 use harness::compare::{library, plan};
-use harness::examples::{tabs, A, BUFFER};
+use harness::examples::{tabs, A, BAY, BUFFER, CLOSED};
 use harness::gen::plans::has_plan;
 use harness::gen::Rng;
 use harness::model::answer::*;
@@ -62,5 +62,37 @@ fn chokes_for_the_walks_seen() {
     let sheet = Sheet::Cannot(list).text();
     assert_eq!(sheet, tabs("CANNOT 1\nCHOKE 0 1\n"));
     assert_eq!(library(&job.text(), BUFFER, &sheet), (WRONG_SHEET, 0));
+    assert_eq!(right_answer(&job), CANNOT);
+}
+
+#[test]
+fn taking_a_bay_for_a_lift() {
+    // The only way to cell 2 leads over cell 1, where a cart is parked from step 0 on.
+    let job = job(CLOSED.job);
+    assert!(taking_bays_for_lifts(&job));
+    assert_eq!(right_answer(&job), CANNOT);
+}
+
+#[test]
+fn closing_a_bays_cell_at_its_step() {
+    // The bay's own cart would find it closed.
+    let job = job(BAY.job);
+    assert!(!closing_at_the_step(&job));
+    assert_eq!(right_answer(&job), PLAN);
+}
+
+#[test]
+fn keeping_a_bays_cell_free_before_its_step() {
+    // The only way to cell 2 leads over cell 1, whose bay is met later.
+    let job = job(BAY.job);
+    assert!(!keeping_bays_free(&job));
+    assert_eq!(right_answer(&job), PLAN);
+}
+
+#[test]
+fn chokes_for_walks_over_closed_cells() {
+    // No list of one point stops the walks over the parked cart as well.
+    let job = job(CLOSED.job);
+    assert_eq!(stopping_walks_over_bays(&job), None);
     assert_eq!(right_answer(&job), CANNOT);
 }

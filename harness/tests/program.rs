@@ -68,7 +68,7 @@ fn the_filed_examples() {
 fn the_example_files() {
     let files = fs::read_dir(EXAMPLE_FILES).expect("a folder of examples").map(|file| file.expect("a file").path());
     let jobs: Vec<_> = files.filter(|file| file.extension().is_some_and(|end| end == "job")).collect();
-    assert!(jobs.len() >= 9, "{} jobs in {EXAMPLE_FILES}", jobs.len());
+    assert!(jobs.len() >= 11, "{} jobs in {EXAMPLE_FILES}", jobs.len());
     let example = |file: PathBuf| {
         let (name, job) = (file.display().to_string(), fs::read(&file).expect("a job"));
         if let Ok(expected) = fs::read(file.with_extension("sheet")) {

@@ -30,12 +30,17 @@ fn right_sheets() -> Vec<(Job, Sheet, u8)> {
     let (still, still_paths) = standing(ring(), limits::CARTS, limits::DEADLINE);
     let floor = with_most_tracks(grid(16, 16), &mut Rng::new(2));
     let (moved, paths) = moving(floor, limits::CARTS, 200, limits::DEADLINE, &mut Rng::new(3));
+    let floor = with_most_tracks(grid(16, 16), &mut Rng::new(5));
+    let (parked, parked_paths) = moving_to_bays(floor, limits::CARTS, 200, limits::DEADLINE, &mut Rng::new(6));
+    let (shut, bay) = shut_line(limits::CARTS, limits::CARTS - 1, limits::DEADLINE);
     let (crowded, middle) = crowded_star(255, limits::CARTS, limits::CARTS);
     let (others, _) = moving(grid(15, 17), limits::CARTS - 1, 100, limits::DEADLINE, &mut Rng::new(4));
     let (lost, ends) = with_lost_call(others);
     vec![
         (still, Sheet::Plan(still_paths), PLAN),
         (moved, Sheet::Plan(paths), PLAN),
+        (parked, Sheet::Plan(parked_paths), PLAN),
+        (shut, Sheet::Cannot(bay), CANNOT),
         (crowded, Sheet::Cannot(middle), CANNOT),
         (lost, Sheet::Cannot(ends), CANNOT),
     ]

@@ -49,7 +49,8 @@ pub fn search<M: Mode>(
     mode.visit();
     while !(t == 0 && j.cart_on[c] != 0 && p.used[c] == 0) {
         let mut found = None;
-        if t > 0 {
+        // Nobody comes to a cell that is shut: such a position leads nowhere.
+        if t > 0 && !j.is_shut(c, t) {
             let from = j.from(c);
             let h = hint[c] as usize;
             if entered && h < from.len() {

@@ -48,6 +48,7 @@ const AT_THE_LIMITS: usize = 2;
 #[derive(Default)]
 struct Tried {
     sizes: [usize; SIZES.len()],
+    with_bays: usize,
     kinds: [usize; KINDS.len()],
     plans: Tally,
     checks: Tally,
@@ -119,6 +120,7 @@ impl Tried {
         };
         self.sizes[size] += 1;
         let job = SIZES[size].1(&mut rng);
+        self.with_bays += usize::from(job.has_bays());
         let right = self.plan(&job.text(), store_least(&job), sheet_least(&job), &mut rng)?;
         let known = match size {
             SMALL => Known::of(job),
@@ -166,7 +168,8 @@ impl Tried {
             let each: Vec<String> = names.iter().zip(counts).map(|(name, count)| format!("{count} {name}")).collect();
             each.join(", ")
         };
-        println!("turns: {}", counted(&SIZES.map(|size| size.0), &self.sizes));
+        let sizes = counted(&SIZES.map(|size| size.0), &self.sizes);
+        println!("turns: {sizes}; {} with bays", self.with_bays);
         println!("cases: {}", counted(&KINDS.map(|kind| kind.0), &self.kinds));
         println!("answers of the planner: {}", self.plans);
         println!("answers of the check: {}", self.checks);

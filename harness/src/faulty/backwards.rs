@@ -1,30 +1,36 @@
 //! Whether a choke list is true, backwards: from the calls at their deadlines to the carts at step 0.
 
+use super::bays::Closed;
 use super::Fault;
 use crate::model::job::Job;
 use crate::model::sheet::Choke;
 
-/// From `open` cells at a step a walk leads on to a call without standing on a choke point.
+/// From cells that lead on at a step a walk goes to a call without standing on a choke point or a closed cell.
 pub fn stops_every_walk(job: &Job, chokes: &[Choke], fault: Fault) -> bool {
-    let mut open = vec![false; job.cells];
+    let closed = Closed::by_bays(job, fault);
+    let is_closed = |cell, step| fault != Fault::IgnoresBaysInLists && closed.at(cell, step);
+    let mut leads_on = vec![false; job.cells];
     for step in (0..=job.last()).rev() {
-        open = one_step_before(job, &open);
+        leads_on = one_step_before(job, &leads_on);
         for call in &job.calls {
             let lifts = fault == Fault::LiftsCrossingCart && step < call.deadline;
-            open[call.cell] = call.deadline == step || (open[call.cell] && !lifts);
+            leads_on[call.cell] = call.deadline == step || (leads_on[call.cell] && !lifts);
         }
         for point in chokes.iter().filter(|p| p.step == step) {
-            open[point.cell] = false;
+            leads_on[point.cell] = false;
+        }
+        for (cell, leads_on) in leads_on.iter_mut().enumerate() {
+            *leads_on = *leads_on && !is_closed(cell, step);
         }
     }
-    job.carts.iter().all(|&cell| !open[cell])
+    job.carts.iter().all(|&cell| !leads_on[cell])
 }
 
-fn one_step_before(job: &Job, open: &[bool]) -> Vec<bool> {
-    let mut before = open.to_vec();
+fn one_step_before(job: &Job, leads_on: &[bool]) -> Vec<bool> {
+    let mut before = leads_on.to_vec();
     for &(a, b) in &job.tracks {
-        before[a] = before[a] || open[b];
-        before[b] = before[b] || open[a];
+        before[a] = before[a] || leads_on[b];
+        before[b] = before[b] || leads_on[a];
     }
     before
 }

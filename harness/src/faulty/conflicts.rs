@@ -1,19 +1,22 @@
 //! Whether paths are a plan, by a table of who stands where at each step.
 
+use super::bays::Closed;
 use super::Fault;
 use crate::model::job::Job;
 use crate::model::sheet::Path;
 
 /// Each call once, by deadline, then number.
-pub fn in_order(job: &Job, paths: &[Path]) -> bool {
-    let key = |p: &Path| (job.calls[p.call].deadline, p.call);
+pub fn in_order(job: &Job, paths: &[Path], fault: Fault) -> bool {
+    let is_behind = |p: &Path| fault == Fault::PutsBaysBehindCalls && job.calls[p.call].is_bay();
+    let key = |p: &Path| (job.calls[p.call].deadline, is_behind(p), p.call);
     (1..paths.len()).all(|i| key(&paths[i - 1]) < key(&paths[i]))
 }
 
 /// Enters the walks into the table, one after the other, until one does not fit.
 pub fn none(job: &Job, paths: &[Path], fault: Fault) -> bool {
-    let mut table =
-        Table { joined: joined(job), cells: job.cells, who: vec![None; (job.last() + 1) * job.cells], fault };
+    let who = vec![None; (job.last() + 1) * job.cells];
+    let closed = Closed::by_bays(job, fault);
+    let mut table = Table { joined: joined(job), cells: job.cells, who, closed, fault };
     let mut free = vec![true; job.carts.len()];
     paths.iter().enumerate().all(|(i, p)| {
         std::mem::replace(&mut free[p.cart], false)
@@ -37,6 +40,7 @@ struct Table {
     cells: usize,
     /// Which path is on the cell at the step.
     who: Vec<Option<usize>>,
+    closed: Closed,
     fault: Fault,
 }
 
@@ -45,7 +49,8 @@ impl Table {
         (0..walk.len()).all(|step| {
             let from = if step == 0 { walk[0] } else { walk[step - 1] };
             let is_step = from == walk[step] || self.joined[from * self.cells + walk[step]];
-            is_step && !self.trades(step, from, walk[step]) && self.stand(path, step, walk)
+            let is_closed = self.fault != Fault::IgnoresBaysInPlans && self.closed.at(walk[step], step);
+            is_step && !is_closed && !self.trades(step, from, walk[step]) && self.stand(path, step, walk)
         })
     }
 

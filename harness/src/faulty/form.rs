@@ -1,5 +1,6 @@
 //! The form of a sheet, in one pass over its bytes.
 
+use super::bays::{lifts, Closed};
 use super::Fault;
 use crate::model::job::Job;
 use crate::model::sheet::{Choke, Path, Sheet};
@@ -40,6 +41,7 @@ pub fn read(sheet: &[u8], job: &Job, fault: Fault) -> Result<Sheet, usize> {
     let right = match is_plan {
         true => count == calls,
         false if fault == Fault::PassesAsManyPointsAsCalls => count <= calls,
+        false if fault == Fault::CountsNoBays => count < lifts(job).count(),
         false => count < calls,
     };
     if !right {
@@ -84,9 +86,11 @@ fn choke(rest: &mut Rest, job: &Job, fault: Fault) -> Option<Choke> {
     let cell = rest.field_below(job.cells)?;
     let last = match (fault, job.calls.last()) {
         (Fault::TakesLastCallForLargestDeadline, Some(call)) => call.deadline,
+        (Fault::TakesLastLiftForLargestDeadline, _) => lifts(job).map(|call| call.deadline).max().unwrap_or(0),
         _ => job.last(),
     };
     let step = rest.field_below(last + 1)?;
     rest.bytes(b"\n")?;
-    Some(Choke { step, cell })
+    let is_refused = fault == Fault::RefusesClosedPoint && Closed::by_bays(job, fault).at(cell, step);
+    (!is_refused).then_some(Choke { step, cell })
 }

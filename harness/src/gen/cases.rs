@@ -1,11 +1,13 @@
 //! What is tried on a job, mostly a small one: right plans, wrong ones, choke lists, damaged sheets, damaged jobs,
 //! short stores.
 
+use super::bays::no_bays;
 use super::damage::{changed, damaged, Damage};
 use super::plans::plans;
 use super::{lists, wrong, Rng};
 use crate::model::job::{Call, Job};
 use crate::model::limits::{self, store_least};
+use crate::model::plan::is_plan;
 use crate::model::reader;
 use crate::model::sheet::{Choke, Path, Sheet};
 use crate::model::walks::{all_walks, Walk};
@@ -23,11 +25,14 @@ pub struct Known {
     pub walks: Vec<Vec<Vec<Walk>>>,
     pub plans: Vec<Vec<Path>>,
     pub lists: Vec<Vec<Choke>>,
+    /// What would be a plan if the bays were lifts, and is none only because a cart stands on a closed cell.
+    pub over_bays: Vec<Vec<Path>>,
 }
 
 impl Known {
     pub fn of(job: Job) -> Known {
-        Known { walks: all_walks(&job), plans: plans(&job, 300), lists: lists::true_lists(&job), job }
+        let (walks, lists, over_bays) = (all_walks(&job), lists::true_lists(&job), over_bays(&job));
+        Known { walks, plans: plans(&job, 300), lists, over_bays, job }
     }
 
     /// What is known of a larger job by one right sheet of it. No walk is written out.
@@ -37,7 +42,7 @@ impl Known {
             Sheet::Plan(paths) => (vec![paths], Vec::new()),
             Sheet::Cannot(list) => (Vec::new(), vec![list]),
         };
-        Known { job, walks, plans, lists }
+        Known { job, walks, plans, lists, over_bays: Vec::new() }
     }
 
     /// A right sheet of the job: it has a plan or a true choke list, whichever it is.
@@ -55,6 +60,12 @@ impl Known {
     }
 }
 
+fn over_bays(job: &Job) -> Vec<Vec<Path>> {
+    let mut all = plans(&no_bays(job.clone()), 300);
+    all.retain(|paths| !is_plan(job, paths));
+    all
+}
+
 /// A kind of cases: some of them for a job.
 pub type Kind = fn(&Known, &mut Rng) -> Vec<Case>;
 
@@ -65,7 +76,8 @@ pub fn right_sheets(known: &Known, rng: &mut Rng) -> Vec<Case> {
     (0..8).map(|_| known.case(known.right_sheet(rng).text(), rng)).collect()
 }
 
-/// Plans that conflict or not as chance has it, and right ones with one thing changed, where there are any.
+/// Plans that conflict or not as chance has it, right ones with one thing changed, where there are any, and those that
+/// lead over closed cells.
 pub fn wrong_plans(known: &Known, rng: &mut Rng) -> Vec<Case> {
     let mut all = Vec::new();
     for _ in 0..8 {
@@ -73,6 +85,9 @@ pub fn wrong_plans(known: &Known, rng: &mut Rng) -> Vec<Case> {
         let near = if known.plans.is_empty() { &by_chance } else { rng.pick(&known.plans) };
         all.push(wrong::tampered_plan(&known.job, near, rng));
         all.push(by_chance);
+        if !known.over_bays.is_empty() {
+            all.push(rng.pick(&known.over_bays).clone());
+        }
     }
     all.into_iter().map(|paths| known.case(Sheet::Plan(paths).text(), rng)).collect()
 }
@@ -95,7 +110,8 @@ pub fn choke_lists(known: &Known, rng: &mut Rng) -> Vec<Case> {
     all.into_iter().map(|list| known.case(Sheet::Cannot(list).text(), rng)).collect()
 }
 
-/// A true list as it is, longer but still below the calls, as long as them, and with a point twice.
+/// A true list as it is, longer but still below the calls, as long as them, with a point twice, and with points on closed
+/// cells.
 fn lists_near(job: &Job, list: &[Choke], rng: &mut Rng) -> Vec<Vec<Choke>> {
     let calls = job.calls.len();
     vec![
@@ -103,6 +119,8 @@ fn lists_near(job: &Job, list: &[Choke], rng: &mut Rng) -> Vec<Vec<Choke>> {
         lists::longer(job, list, calls - 1, rng),
         lists::longer(job, list, calls, rng),
         wrong::doubled_point(list, rng),
+        wrong::closed_point_more(job, list, rng),
+        wrong::closed_point_instead(job, list, rng),
     ]
 }
 
@@ -126,7 +144,7 @@ pub fn doubled_points(known: &Known, rng: &mut Rng) -> Vec<Case> {
 /// The job with one cart more and one call more, each on a cell of its own that no track leads to.
 fn with_stranded_cart(mut job: Job) -> Job {
     job.carts.push(job.cells);
-    job.calls.push(Call { cell: job.cells + 1, deadline: job.last() });
+    job.calls.push(Call::lift(job.cells + 1, job.last()));
     job.cells += 2;
     job
 }

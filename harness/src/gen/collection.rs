@@ -2,7 +2,7 @@
 //! deadlines up to 255.
 
 use super::floors::{grid, line};
-use super::large::{moving, scattered};
+use super::large::{moving, moving_to_bays, scattered, scattered_with_bays};
 use super::Rng;
 use crate::model::job::Job;
 
@@ -38,12 +38,15 @@ fn some_floor(rng: &mut Rng) -> Job {
     }
 }
 
-/// Three of five have a plan; of the others nobody knows.
+/// Three of five have a plan; of the others nobody knows. About half have bays.
 fn some_job(floor: Job, i: usize, rng: &mut Rng) -> Job {
     let carts = 1 + rng.below((floor.cells / 4).min(64));
     let last = *rng.pick(&[10, 20, 40, 80, 160, 255]);
-    match i {
-        0..3 => moving(floor, carts, 0, last, rng).0,
-        _ => scattered(floor, carts, last, rng),
+    let has_bays = i == 1 || i == 3 || (i == 0 && rng.once_in(2));
+    match (i, has_bays) {
+        (0..3, false) => moving(floor, carts, 0, last, rng).0,
+        (0..3, true) => moving_to_bays(floor, carts, 0, last, rng).0,
+        (_, false) => scattered(floor, carts, last, rng),
+        (_, true) => scattered_with_bays(floor, carts, last, rng),
     }
 }

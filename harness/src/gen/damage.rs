@@ -7,7 +7,7 @@ use crate::model::lines::{LF, TAB};
 pub type Damage = fn(&[u8], &mut Rng) -> Vec<u8>;
 
 const BYTES: [Damage; 6] = [changed_byte, lost_byte, added_byte, cut_off, trailing, repeated];
-const LINES: [Damage; 4] = [lost_line, doubled_line, swapped_lines, other_word];
+const LINES: [Damage; 6] = [lost_line, doubled_line, swapped_lines, other_word, other_end, added_bay];
 const FIELDS: [Damage; 5] = [other_number, leading_zero, lost_field, added_field, other_count];
 
 /// A text with one damage, now and then with more. A changed number comes most often, since it mostly leaves the form
@@ -34,7 +34,7 @@ pub fn changed(text: &[u8], rng: &mut Rng) -> Vec<u8> {
 
 /// Bytes that could stand in a text, and some that could not.
 fn any_byte(rng: &mut Rng) -> u8 {
-    *rng.pick(b"\t\t\n\n00123456789ACFHKLNOPRT \r-+x\0\xff")
+    *rng.pick(b"\t\t\n\n00123456789ABCFHKLNOPRTY \r-+x\0\xff")
 }
 
 fn changed_byte(text: &[u8], rng: &mut Rng) -> Vec<u8> {
@@ -128,9 +128,31 @@ fn on_parts(text: &[u8], rng: &mut Rng, change: fn(&mut Vec<Vec<u8>>, &mut Rng))
 
 fn other_word(text: &[u8], rng: &mut Rng) -> Vec<u8> {
     on_parts(text, rng, |parts, rng| {
-        let words = ["FLOOR", "TRACK", "CART", "CALL", "PLAN", "PATH", "CANNOT", "CHOKE", "", "Path", "CARTS"];
+        let words =
+            ["FLOOR", "TRACK", "CART", "CALL", "BAY", "PLAN", "PATH", "CANNOT", "CHOKE", "", "Path", "CARTS", "BAYS"];
         parts[0] = rng.pick(&words).as_bytes().to_vec();
     })
+}
+
+/// A call that becomes a bay, or a bay that becomes a call: a job stays one. Other texts are left as they are.
+fn other_end(text: &[u8], rng: &mut Rng) -> Vec<u8> {
+    let mut lines = lines(text);
+    let is_end = |line: &[u8]| matches!(word(line), Some(b"CALL" | b"BAY"));
+    let ends: Vec<usize> = (0..lines.len()).filter(|&at| is_end(&lines[at])).collect();
+    if !ends.is_empty() {
+        let line = &mut lines[*rng.pick(&ends)];
+        let (new, old): (&[u8], usize) = if line.starts_with(b"CALL") { (b"BAY", 4) } else { (b"CALL", 3) };
+        line.splice(..old, new.iter().copied());
+    }
+    lines.concat()
+}
+
+/// A BAY line more, mostly behind all others, where it may stand.
+fn added_bay(text: &[u8], rng: &mut Rng) -> Vec<u8> {
+    let mut lines = lines(text);
+    let at = if rng.once_in(3) { rng.below(lines.len() + 1) } else { lines.len() };
+    lines.insert(at, format!("BAY\t{}\t{}\n", any_number(rng), any_number(rng)).into_bytes());
+    lines.concat()
 }
 
 /// Small numbers mostly, so that many are known carts, calls, cells and steps; and the numbers about the limits.

@@ -35,6 +35,13 @@ pub fn true_lists(job: &Job) -> Vec<Vec<Choke>> {
     all
 }
 
+/// Every point on a closed cell, in order: such points are in the form, and stop nothing.
+pub fn closed_points(job: &Job) -> Vec<Choke> {
+    let mut all = points(job);
+    all.retain(|point| !job.is_open(point.cell, point.step));
+    all
+}
+
 /// So many different points of the job, or all, in order.
 pub fn some_points(job: &Job, count: usize, rng: &mut Rng) -> Vec<Choke> {
     longer(job, &[], count, rng)

@@ -1,30 +1,42 @@
 //! Jobs of every size, as chance has them, for long runs.
 
+use super::bays::{all_bays, some_bays};
 use super::floors::{grid, ring, some_floor, with_most_tracks};
-use super::large::{crowded_star, moving, scattered, standing, with_lost_call};
+use super::large::{
+    crowded_star, moving, moving_to_bays, scattered, scattered_with_bays, shut_line, standing, with_lost_call,
+};
 use super::Rng;
 use crate::model::job::Job;
 use crate::model::limits::{CARTS, DEADLINE};
 
-/// A job that has a plan, has none, or has one as chance has it.
+/// A job that has a plan, has none, or has one as chance has it. Half of them have bays.
 pub fn medium(rng: &mut Rng) -> Job {
     let floor = some_floor(rng);
     let carts = rng.below(floor.cells.min(CARTS));
     let most = rng.below(24);
-    match rng.below(3) {
+    match rng.below(6) {
         0 => moving(floor, carts, 0, most, rng).0,
         1 => with_lost_call(moving(floor, carts, 0, most, rng).0).0,
-        _ => scattered(floor, carts, most, rng),
+        2 => scattered(floor, carts, most, rng),
+        3 => moving_to_bays(floor, carts, 0, most, rng).0,
+        4 => with_lost_call(moving_to_bays(floor, carts, 0, most, rng).0).0,
+        _ => scattered_with_bays(floor, carts, most, rng),
     }
 }
 
 /// The same at the limits, and the jobs with the longest sheet and the widest cell.
 pub fn at_the_limits(rng: &mut Rng) -> Job {
-    match rng.below(5) {
+    match rng.below(11) {
         0 => moving(with_most_tracks(grid(16, 16), rng), CARTS, 200, DEADLINE, rng).0,
         1 => with_lost_call(moving(grid(15, 17), CARTS - 1, 100, DEADLINE, rng).0).0,
         2 => scattered(with_most_tracks(grid(16, 16), rng), CARTS, DEADLINE, rng),
         3 => standing(ring(), CARTS, DEADLINE).0,
-        _ => crowded_star(255, CARTS, CARTS).0,
+        4 => crowded_star(255, CARTS, CARTS).0,
+        5 => moving_to_bays(with_most_tracks(grid(16, 16), rng), CARTS, 200, DEADLINE, rng).0,
+        6 => with_lost_call(moving_to_bays(grid(15, 17), CARTS - 1, 100, DEADLINE, rng).0).0,
+        7 => scattered_with_bays(with_most_tracks(grid(16, 16), rng), CARTS, DEADLINE, rng),
+        8 => all_bays(standing(ring(), CARTS, DEADLINE).0),
+        9 => some_bays(crowded_star(255, CARTS, CARTS).0, rng),
+        _ => shut_line(CARTS, CARTS - 1, DEADLINE).0,
     }
 }

@@ -1,10 +1,19 @@
 //! Small jobs: 1 to 5 cells, 0 to 4 carts, deadlines 0 to 4.
 
+use super::bays::some_bays;
 use super::Rng;
-use crate::model::job::{Call, Job};
+use crate::model::job::{Call, End, Job};
+
+/// Half of the jobs have bays.
+pub fn small(rng: &mut Rng) -> Job {
+    match rng.once_in(2) {
+        true => small_with_bays(rng),
+        false => small_without_bays(rng),
+    }
+}
 
 /// Full floors come more often than empty ones: there the carts are in each other's way.
-pub fn small(rng: &mut Rng) -> Job {
+pub fn small_without_bays(rng: &mut Rng) -> Job {
     let cells = 1 + rng.below(5).max(rng.below(5));
     let most = cells.min(4);
     let carts = rng.below(most + 1).max(rng.below(most + 1));
@@ -13,6 +22,42 @@ pub fn small(rng: &mut Rng) -> Job {
         tracks: some_tracks(cells, rng),
         carts: rng.sample(cells, carts),
         calls: some_calls(cells, carts, rng),
+    }
+}
+
+/// A job with a bay at least: any job with bays among its calls, or a corridor that one closes.
+pub fn small_with_bays(rng: &mut Rng) -> Job {
+    let job = match rng.once_in(2) {
+        true => corridor(rng),
+        false => some_bays(small_without_bays(rng), rng),
+    };
+    match job.has_bays() {
+        true => job,
+        false => small_with_bays(rng),
+    }
+}
+
+/// Cells one behind the other, an early bay between the ends, carts on one side, and the other calls mostly on the other
+/// side and late: who has to pass the bay's cell can do so in the first steps only.
+fn corridor(rng: &mut Rng) -> Job {
+    let cells = 3 + rng.below(3);
+    let name = rng.sample(cells, cells);
+    let at = 1 + rng.below(cells - 2);
+    let beyond = 1 + rng.below(at.min(cells - 1 - at));
+    let mut calls = vec![Call::bay(name[at], rng.below(3))];
+    for i in rng.sample(cells - 1 - at, beyond) {
+        calls.push(Call { cell: name[at + 1 + i], deadline: 1 + rng.below(4).max(rng.below(4)), end: some_end(rng) });
+    }
+    rng.shuffle(&mut calls);
+    let carts = rng.sample(at + 1, calls.len()).into_iter().map(|i| name[i]).collect();
+    Job { cells, tracks: (1..cells).map(|i| (name[i - 1], name[i])).collect(), carts, calls }
+}
+
+/// A bay now and then.
+fn some_end(rng: &mut Rng) -> End {
+    match rng.once_in(4) {
+        true => End::Bay,
+        false => End::Lift,
     }
 }
 
@@ -34,6 +79,6 @@ fn some_tracks(cells: usize, rng: &mut Rng) -> Vec<(usize, usize)> {
 fn some_calls(cells: usize, count: usize, rng: &mut Rng) -> Vec<Call> {
     let common = rng.once_in(2).then(|| rng.below(5));
     let on = rng.sample(cells, count);
-    let call = |cell| Call { cell, deadline: common.unwrap_or_else(|| rng.below(5)) };
+    let call = |cell| Call::lift(cell, common.unwrap_or_else(|| rng.below(5)));
     on.into_iter().map(call).collect()
 }

@@ -1,7 +1,7 @@
 //! Sheets in the form that are hardly ever right: plans with conflicts, lists that let walks through.
 
 use super::{lists, Rng};
-use crate::model::job::Job;
+use crate::model::job::{Call, End, Job};
 use crate::model::sheet::{Choke, Path};
 use crate::model::walks::Walk;
 
@@ -32,19 +32,30 @@ pub fn tampered_plan(job: &Job, paths: &[Path], rng: &mut Rng) -> Vec<Path> {
     }
     let mut paths = paths.to_vec();
     let (one, other) = (rng.below(paths.len()), rng.below(paths.len()));
-    match rng.below(6) {
+    match rng.below(if job.has_bays() { 7 } else { 6 }) {
         0 => paths.swap(one, other),
         1 => paths[one] = paths[other].clone(),
         2 => paths[one].cart = rng.below(job.carts.len()),
         3 => swap_carts(&mut paths, one, other),
         4 => swap_tails(&mut paths, one, other, rng),
-        _ => change_cell(&mut paths[one].cells, job, rng),
+        5 => change_cell(&mut paths[one].cells, job, rng),
+        _ => stand_in_bay(&mut paths[one].cells, job, rng),
     }
     paths
 }
 
 fn change_cell(cells: &mut [usize], job: &Job, rng: &mut Rng) {
     cells[rng.below(cells.len())] = rng.below(job.cells);
+}
+
+/// On the cell of a bay after its step, where the path is long enough for one.
+fn stand_in_bay(cells: &mut [usize], job: &Job, rng: &mut Rng) {
+    let passed: Vec<&Call> = job.calls.iter().filter(|call| call.is_bay() && call.deadline + 1 < cells.len()).collect();
+    if !passed.is_empty() {
+        let bay = *rng.pick(&passed);
+        let steps = bay.deadline + 1..cells.len();
+        cells[steps.start + rng.below(steps.len())] = bay.cell;
+    }
 }
 
 fn swap_carts(paths: &mut [Path], one: usize, other: usize) {
@@ -63,6 +74,22 @@ fn swap_tails(paths: &mut [Path], one: usize, other: usize, rng: &mut Rng) {
     }
 }
 
+/// The job with one of its lifts made a bay, one whose cell a path stands on later; none if there is no such call. What
+/// was a plan is none any more, and nothing else is wrong with it.
+pub fn bay_in_the_way(job: &Job, paths: &[Path], rng: &mut Rng) -> Option<Job> {
+    let is_crossed_later = |call: &Call| {
+        let crosses = |p: &Path| p.cells.iter().skip(call.deadline + 1).any(|&cell| cell == call.cell);
+        !call.is_bay() && paths.iter().any(crosses)
+    };
+    let crossed: Vec<usize> = (0..job.calls.len()).filter(|&i| is_crossed_later(&job.calls[i])).collect();
+    if crossed.is_empty() {
+        return None;
+    }
+    let mut job = job.clone();
+    job.calls[*rng.pick(&crossed)].end = End::Bay;
+    Some(job)
+}
+
 /// The list with one thing changed; an empty one with a point.
 pub fn tampered_list(job: &Job, list: &[Choke], rng: &mut Rng) -> Vec<Choke> {
     if list.is_empty() {
@@ -70,12 +97,41 @@ pub fn tampered_list(job: &Job, list: &[Choke], rng: &mut Rng) -> Vec<Choke> {
     }
     let mut list = list.to_vec();
     let (one, other) = (rng.below(list.len()), rng.below(list.len()));
-    match rng.below(5) {
+    match rng.below(if job.has_bays() { 7 } else { 5 }) {
         0 => list.swap(one, other),
         1 => return doubled_point(&list, rng),
         2 => drop(list.remove(one)),
         3 => list.reverse(),
-        _ => list[one] = lists::some_points(job, 1, rng)[0],
+        4 => list[one] = lists::some_points(job, 1, rng)[0],
+        5 => return closed_point_more(job, &list, rng),
+        _ => return closed_point_instead(job, &list, rng),
+    }
+    list
+}
+
+/// The list with one point more that is on a closed cell, if there are such.
+pub fn closed_point_more(job: &Job, list: &[Choke], rng: &mut Rng) -> Vec<Choke> {
+    let mut closed = lists::closed_points(job);
+    closed.retain(|point| !list.contains(point));
+    rng.shuffle(&mut closed);
+    closed.truncate(1);
+    let mut list = [list, &closed].concat();
+    list.sort();
+    list
+}
+
+/// The list with such a point for one of its own, a later one on the same cell, where it has one on a bay's cell. It lets
+/// the walks through that only the lost point stopped.
+pub fn closed_point_instead(job: &Job, list: &[Choke], rng: &mut Rng) -> Vec<Choke> {
+    let mut closed = lists::closed_points(job);
+    closed.retain(|point| !list.contains(point));
+    let of = |at: usize| closed.iter().filter(move |point| point.cell == list[at].cell).map(move |&point| (at, point));
+    let pairs: Vec<(usize, Choke)> = (0..list.len()).flat_map(of).collect();
+    let mut list = list.to_vec();
+    if !pairs.is_empty() {
+        let (at, point) = *rng.pick(&pairs);
+        list[at] = point;
+        list.sort();
     }
     list
 }

@@ -9,7 +9,7 @@ pub fn is_in_order(chokes: &[Choke]) -> bool {
 }
 
 /// A layer is the set of cells on which a walk can stand at a step without having stood on a choke point.
-/// The list is true if no call's cell is in the layer of its deadline.
+/// The list is true if no call's cell is in the layer of its deadline. A point on a closed cell takes nothing away.
 pub fn stops_every_walk(job: &Job, chokes: &[Choke]) -> bool {
     let mut layer = vec![false; job.cells];
     for &cell in &job.carts {
@@ -23,16 +23,19 @@ pub fn stops_every_walk(job: &Job, chokes: &[Choke]) -> bool {
         if due.any(|call| layer[call.cell]) {
             return false;
         }
-        layer = next_layer(job, &layer);
+        layer = next_layer(job, &layer, step + 1);
     }
     true
 }
 
-fn next_layer(job: &Job, layer: &[bool]) -> Vec<bool> {
+fn next_layer(job: &Job, layer: &[bool], step: usize) -> Vec<bool> {
     let mut next = layer.to_vec();
     for &(a, b) in &job.tracks {
         next[a] |= layer[b];
         next[b] |= layer[a];
+    }
+    for (cell, is_reached) in next.iter_mut().enumerate() {
+        *is_reached = *is_reached && job.is_open(cell, step);
     }
     next
 }

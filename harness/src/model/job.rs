@@ -1,4 +1,4 @@
-//! A job: the floor, its carts and its calls.
+//! A job: the floor, its carts and its calls, bays among them.
 
 use super::lines::write;
 
@@ -11,13 +11,57 @@ pub struct Job {
     pub calls: Vec<Call>,
 }
 
+/// A CALL line or a BAY line: they are numbered, counted and limited together.
 #[derive(Clone, Copy, Debug, PartialEq, Eq)]
 pub struct Call {
     pub cell: usize,
+    /// A bay's is its step.
     pub deadline: usize,
+    pub end: End,
+}
+
+/// What becomes of the cart that meets a call.
+#[derive(Clone, Copy, Debug, PartialEq, Eq)]
+pub enum End {
+    /// It is lifted off the floor.
+    Lift,
+    /// It parks there for the rest of the job.
+    Bay,
+}
+
+impl Call {
+    pub fn lift(cell: usize, deadline: usize) -> Call {
+        Call { cell, deadline, end: End::Lift }
+    }
+
+    pub fn bay(cell: usize, deadline: usize) -> Call {
+        Call { cell, deadline, end: End::Bay }
+    }
+
+    pub fn is_bay(&self) -> bool {
+        self.end == End::Bay
+    }
+
+    /// The word of its line.
+    pub fn word(&self) -> &'static str {
+        match self.end {
+            End::Lift => "CALL",
+            End::Bay => "BAY",
+        }
+    }
 }
 
 impl Job {
+    /// Whether a walk may stand on the cell at the step: it may not on a bay's cell after that bay's step. Walks, plans
+    /// and choke lists all have it from here.
+    pub fn is_open(&self, cell: usize, step: usize) -> bool {
+        !self.calls.iter().any(|call| call.is_bay() && call.cell == cell && call.deadline < step)
+    }
+
+    pub fn has_bays(&self) -> bool {
+        self.calls.iter().any(Call::is_bay)
+    }
+
     /// The largest deadline, 0 if there are no calls; the README calls it H.
     pub fn last(&self) -> usize {
         self.calls.iter().map(|c| c.deadline).max().unwrap_or(0)
@@ -51,7 +95,7 @@ impl Job {
             write(&mut out, "CART", &[cell]);
         }
         for call in &self.calls {
-            write(&mut out, "CALL", &[call.cell, call.deadline]);
+            write(&mut out, call.word(), &[call.cell, call.deadline]);
         }
         out
     }

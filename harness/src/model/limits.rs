@@ -5,6 +5,7 @@ use super::job::Job;
 pub const CELLS: usize = 256;
 pub const TRACKS: usize = 512;
 pub const CARTS: usize = 64;
+/// Bays are counted with them.
 pub const CALLS: usize = 64;
 pub const DEADLINE: usize = 255;
 pub const TEXT: usize = 16_384;

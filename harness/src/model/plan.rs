@@ -20,13 +20,15 @@ fn carts_differ(paths: &[Path]) -> bool {
     carts.windows(2).all(|pair| pair[0] != pair[1])
 }
 
-/// Each path starts on its cart's cell, ends on its call's cell, and at each step stands or goes along one track.
+/// Each path starts on its cart's cell, ends on its call's cell, at each step stands or goes along one track, and is on
+/// open cells all the time.
 fn are_walks(job: &Job, paths: &[Path]) -> bool {
     let near = job.within_a_step();
     let is_walk = |p: &Path| {
         p.cells.first() == Some(&job.carts[p.cart])
             && p.cells.last() == Some(&job.calls[p.call].cell)
             && p.cells.windows(2).all(|step| near[step[0]].contains(&step[1]))
+            && p.cells.iter().enumerate().all(|(step, &cell)| job.is_open(cell, step))
     };
     paths.iter().all(is_walk)
 }
@@ -42,7 +44,7 @@ pub fn keep_apart(one: &[usize], other: &[usize]) -> bool {
 }
 
 /// Both on one cell at one step. A walk has the steps up to its deadline, that one included; `zip` ends with the
-/// shorter walk, whose cart is off the floor from then on.
+/// shorter walk, whose cart is off the floor from then on, or parked on a cell that is closed.
 pub fn share(one: &[usize], other: &[usize]) -> bool {
     one.iter().zip(other).any(|(a, b)| a == b)
 }

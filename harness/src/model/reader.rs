@@ -3,17 +3,29 @@
 //! Lines are tested from the first. The five tests of a line go one after the other, each over the whole line.
 
 use super::answer::*;
-use super::job::{Call, Job};
+use super::job::{Call, End, Job};
 use super::limits;
 use super::lines::{lines, numbers, Line};
 
-/// The kinds of lines, in the order in which they stand.
-#[derive(Clone, Copy, PartialEq, PartialOrd)]
+/// The kinds of lines. CALL and BAY lines are of one kind but for how they end.
+#[derive(Clone, Copy, PartialEq)]
 enum Kind {
     Floor,
     Track,
     Cart,
-    Call,
+    Call(End),
+}
+
+impl Kind {
+    /// Lines stand in the order of these; CALL and BAY lines in any mixture.
+    fn rank(self) -> usize {
+        match self {
+            Kind::Floor => 0,
+            Kind::Track => 1,
+            Kind::Cart => 2,
+            Kind::Call(_) => 3,
+        }
+    }
 }
 
 /// Accepted is `Ok`, refused is `Err`.
@@ -59,12 +71,13 @@ fn kind_in_form(before: Option<Kind>, line: &Line) -> Option<Kind> {
         b"FLOOR" => (Kind::Floor, 1),
         b"TRACK" => (Kind::Track, 2),
         b"CART" => (Kind::Cart, 1),
-        b"CALL" => (Kind::Call, 2),
+        b"CALL" => (Kind::Call(End::Lift), 2),
+        b"BAY" => (Kind::Call(End::Bay), 2),
         _ => return None,
     };
     let in_order = match before {
         None => kind == Kind::Floor,
-        Some(before) => kind != Kind::Floor && kind >= before,
+        Some(before) => kind != Kind::Floor && kind.rank() >= before.rank(),
     };
     (line.ended && in_order && line.fields.len() == fields).then_some(kind)
 }
@@ -74,7 +87,7 @@ fn in_range(job: &Job, kind: Kind, n: &[usize]) -> bool {
         Kind::Floor => 1 <= n[0] && n[0] <= limits::CELLS,
         Kind::Track => n[0] < job.cells && n[1] < job.cells,
         Kind::Cart => n[0] < job.cells,
-        Kind::Call => n[0] < job.cells && n[1] <= limits::DEADLINE,
+        Kind::Call(_) => n[0] < job.cells && n[1] <= limits::DEADLINE,
     }
 }
 
@@ -83,7 +96,7 @@ fn has_room(job: &Job, kind: Kind) -> bool {
         Kind::Floor => true,
         Kind::Track => job.tracks.len() < limits::TRACKS,
         Kind::Cart => job.carts.len() < limits::CARTS,
-        Kind::Call => job.calls.len() < limits::CALLS,
+        Kind::Call(_) => job.calls.len() < limits::CALLS,
     }
 }
 
@@ -95,7 +108,7 @@ fn is_doubled(job: &Job, kind: Kind, n: &[usize]) -> bool {
             n[0] == n[1] || job.tracks.iter().any(joined)
         }
         Kind::Cart => job.carts.contains(&n[0]),
-        Kind::Call => job.calls.iter().any(|call| call.cell == n[0]),
+        Kind::Call(_) => job.calls.iter().any(|call| call.cell == n[0]),
     }
 }
 
@@ -104,6 +117,6 @@ fn add(job: &mut Job, kind: Kind, n: &[usize]) {
         Kind::Floor => job.cells = n[0],
         Kind::Track => job.tracks.push((n[0], n[1])),
         Kind::Cart => job.carts.push(n[0]),
-        Kind::Call => job.calls.push(Call { cell: n[0], deadline: n[1] }),
+        Kind::Call(end) => job.calls.push(Call { cell: n[0], deadline: n[1], end }),
     }
 }

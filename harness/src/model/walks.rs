@@ -22,7 +22,7 @@ fn walks_to_calls(job: &Job, near: &[Vec<usize>], start: usize) -> Vec<Vec<Walk>
     let mut walks = vec![vec![start]];
     for step in 0..=job.last() {
         if step > 0 {
-            walks = walks.iter().flat_map(|walk| one_step_longer(near, walk)).collect();
+            walks = walks.iter().flat_map(|walk| one_step_longer(job, near, walk)).collect();
         }
         for (i, call) in job.calls.iter().enumerate().filter(|(_, call)| call.deadline == step) {
             to_calls[i] = walks.iter().filter(|walk| walk[step] == call.cell).cloned().collect();
@@ -31,9 +31,10 @@ fn walks_to_calls(job: &Job, near: &[Vec<usize>], start: usize) -> Vec<Vec<Walk>
     to_calls
 }
 
-fn one_step_longer<'a>(near: &'a [Vec<usize>], walk: &'a [usize]) -> impl Iterator<Item = Walk> + 'a {
-    let here = walk[walk.len() - 1];
-    near[here].iter().map(move |&next| [walk, &[next]].concat())
+fn one_step_longer<'a>(job: &'a Job, near: &'a [Vec<usize>], walk: &'a [usize]) -> impl Iterator<Item = Walk> + 'a {
+    let (here, step) = (walk[walk.len() - 1], walk.len());
+    let open = near[here].iter().filter(move |&&next| job.is_open(next, step));
+    open.map(move |&next| [walk, &[next]].concat())
 }
 
 /// Whether every walk from any cart's cell to any call's cell at its deadline stands on one of the points.

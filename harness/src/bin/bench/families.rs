@@ -1,13 +1,14 @@
 //! The families of jobs that are timed, at the limits and below them, all from seeds.
 
+use harness::gen::bays::with_bays;
 use harness::gen::floors::{grid, line, star};
-use harness::gen::large::{moving, scattered};
+use harness::gen::large::{moving, moving_to_bays, scattered};
 use harness::gen::Rng;
 use harness::model::job::{Call, Job};
 use harness::model::limits::{CARTS, DEADLINE};
 
 use crate::floors::{aisles, clique, comb, rooms, sparse, two_hubs};
-use crate::tight::{bottleneck, crossing, tight};
+use crate::tight::{bottleneck, crossing, crossing_to_bays, shut_aisles, tight};
 
 /// How large: the side of a grid, the carts, the latest deadline.
 #[derive(Clone, Copy)]
@@ -30,7 +31,7 @@ pub struct Family {
 
 pub const OPEN_GRID: Family = Family { name: "open grid", make: |s, i, r| on(grid(s.side, s.side), s, i, r) };
 
-pub const FAMILIES: [Family; 14] = [
+pub const FAMILIES: [Family; 16] = [
     OPEN_GRID,
     Family { name: "bottleneck", make: |s, _, r| bottleneck(s, r) },
     Family { name: "rooms", make: |s, i, r| on(rooms(s.side, r), s, i, r) },
@@ -45,6 +46,8 @@ pub const FAMILIES: [Family; 14] = [
     Family { name: "star", make: |s, i, r| on(star(s.side * s.side - 1), s, i, r) },
     Family { name: "two hubs", make: |s, i, r| on(two_hubs(s.side * s.side), s, i, r) },
     Family { name: "clique", make: |s, i, r| on(clique(2 * s.side), Size { carts: s.carts / 3, ..s }, i, r) },
+    Family { name: "open grid, half bays", make: |s, i, r| to_bays_on(grid(s.side, s.side), s, i, r) },
+    Family { name: "aisles that bays shut", make: |s, i, r| by_turns(shut_aisles(s, r), i) },
 ];
 
 impl Family {
@@ -67,6 +70,24 @@ fn on(floor: Job, size: Size, i: usize, rng: &mut Rng) -> Job {
         1 => scattered(floor, size.carts, size.last, rng),
         2 => crossing(floor, size, rng).1,
         _ => crossing(floor, size, rng).0,
+    }
+}
+
+/// The same with bays for about half of the calls.
+fn to_bays_on(floor: Job, size: Size, i: usize, rng: &mut Rng) -> Job {
+    match i % 4 {
+        0 => moving_to_bays(floor, size.carts, 0, size.last, rng).0,
+        1 => with_bays(scattered(floor, size.carts, size.last, rng), size.carts / 2, rng),
+        2 => crossing_to_bays(floor, size, rng).1,
+        _ => crossing_to_bays(floor, size, rng).0,
+    }
+}
+
+/// The first job, which has a plan, or the second, which has none.
+fn by_turns((some, none): (Job, Job), i: usize) -> Job {
+    match i % 2 {
+        0 => some,
+        _ => none,
     }
 }
 

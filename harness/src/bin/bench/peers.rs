@@ -25,6 +25,7 @@ struct Handed {
     starts: *const c_int,
     lifts: *const c_int,
     deadlines: *const c_int,
+    bays: *const c_int,
 }
 
 type MaxFlow = unsafe extern "C" fn(*const Handed, c_int) -> c_int;
@@ -65,6 +66,7 @@ pub struct Columns {
     starts: Vec<c_int>,
     lifts: Vec<c_int>,
     deadlines: Vec<c_int>,
+    bays: Vec<c_int>,
 }
 
 impl Columns {
@@ -76,6 +78,7 @@ impl Columns {
             starts: job.carts.iter().map(|&c| c as c_int).collect(),
             lifts: job.calls.iter().map(|c| c.cell as c_int).collect(),
             deadlines: job.calls.iter().map(|c| c.deadline as c_int).collect(),
+            bays: job.calls.iter().map(|c| c.is_bay() as c_int).collect(),
         }
     }
 }
@@ -92,6 +95,7 @@ impl Peer {
             starts: job.starts.as_ptr(),
             lifts: job.lifts.as_ptr(),
             deadlines: job.deadlines.as_ptr(),
+            bays: job.bays.as_ptr(),
         };
         // Safety: the columns are as long as it says, and only read.
         unsafe { (self.max_flow)(&handed, backward as c_int) as usize }

@@ -1,6 +1,9 @@
 //! Carts and calls with deadlines that only just leave a plan, or only just none.
 
+use std::ops::Range;
+
 use harness::baseline;
+use harness::gen::bays::{no_bays, with_bays};
 use harness::gen::floors::grid;
 use harness::gen::large::scattered;
 use harness::gen::Rng;
@@ -28,7 +31,7 @@ fn across(floor: Job, size: Size, late: usize, rng: &mut Rng, due: usize) -> Job
     left.truncate(count);
     right.truncate(count);
     let mut deadline = |i: usize| if i + late < count { due } else { size.last - rng.below(8) };
-    let calls = right.into_iter().enumerate().map(|(i, cell)| Call { cell, deadline: deadline(i) }).collect();
+    let calls = right.into_iter().enumerate().map(|(i, cell)| Call::lift(cell, deadline(i))).collect();
     Job { carts: left, calls, ..floor }
 }
 
@@ -74,6 +77,52 @@ pub fn crossing(floor: Job, size: Size, rng: &mut Rng) -> (Job, Job) {
     let seed = rng.below(1 << 30) as u64;
     let due_at = |k: usize| across(floor.clone(), size, 1 + size.carts / 16, &mut Rng::new(seed), k);
     brink(size.last, due_at).expect("time for all to cross")
+}
+
+/// The same with bays for half of the calls.
+pub fn crossing_to_bays(floor: Job, size: Size, rng: &mut Rng) -> (Job, Job) {
+    loop {
+        let seed = rng.below(1 << 30) as u64;
+        let due_at = |k: usize| {
+            let rng = &mut Rng::new(seed);
+            let job = across(floor.clone(), size, 1 + size.carts / 16, rng, k);
+            let bays = job.calls.len() / 2;
+            with_bays(job, bays, rng)
+        };
+        if let Some(pair) = brink(size.last, due_at) {
+            return pair;
+        }
+    }
+}
+
+/// Carts in the upper half of the aisles; in the lower half bays on three of four ends, those in the middle met at one step
+/// and those at the far end later; the other calls are between the ends and late. Most carts have to pass a bay's cell before
+/// it is closed: in the second job they cannot, and could if the bays were lifts.
+pub fn shut_aisles(size: Size, rng: &mut Rng) -> (Job, Job) {
+    let (side, middle) = (size.side, size.side / 2);
+    let row = |row: usize| (row * side..(row + 1) * side).collect::<Vec<usize>>();
+    let mut some_of = |rows: Range<usize>, count: usize| {
+        let mut cells: Vec<usize> = rows.flat_map(row).collect();
+        rng.shuffle(&mut cells);
+        cells.truncate(count);
+        cells
+    };
+    loop {
+        let near = some_of(middle..middle + 1, 3 * side / 4);
+        let far = some_of(side - 1..side, 3 * side / 4);
+        let between = some_of(middle + 1..side - 1, size.carts - near.len() - far.len());
+        let carts = some_of(0..middle, size.carts);
+        let shut_at = |k: usize| {
+            let bays = near.iter().map(|&cell| Call::bay(cell, k));
+            let bays = bays.chain(far.iter().map(|&cell| Call::bay(cell, (k + side).min(size.last))));
+            let lifts = between.iter().map(|&cell| Call::lift(cell, size.last - cell % 8));
+            Job { carts: carts.clone(), calls: bays.chain(lifts).collect(), ..aisles(side) }
+        };
+        let pair = brink(size.last, shut_at);
+        if let Some((some, none)) = pair.filter(|(_, none)| has_plan(&no_bays(none.clone()))) {
+            return (some, none);
+        }
+    }
 }
 
 /// Jobs from k = 0, without a plan, to k = `most`, with one: the first of two neighbours between which that changes has

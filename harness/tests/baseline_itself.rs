@@ -1,0 +1,68 @@
+//! The planner in plain Rust, which the library is timed against and `floors` is tested with: PLAN exactly where an
+//! exhaustive search finds a plan, and on larger jobs a sheet that passes the model's check.
+
+use harness::baseline::{plan, plan_by, Mode};
+use harness::gen::plans::has_plan;
+use harness::gen::sizes::{at_the_limits, medium};
+use harness::gen::small::{small_with_bays, small_without_bays};
+use harness::gen::Rng;
+use harness::model::answer::*;
+use harness::model::check::check;
+use harness::model::job::Job;
+use harness::model::limits::{sheet_least, store_least};
+use harness::tally::Tally;
+
+/// As the library goes.
+struct StandFirst;
+
+impl Mode for StandFirst {
+    const STAND_FIRST: bool = true;
+    const KEEP_PLACE: bool = false;
+}
+
+/// The answer, the same in both ways, after the model has passed both sheets.
+fn answer(job: &Job) -> u8 {
+    let text = job.text();
+    let (mut store, mut sheet) = (vec![1; store_least(job)], vec![1; sheet_least(job)]);
+    let passed = |packed: u64, sheet: &[u8]| {
+        let (answer, len) = unpack(packed);
+        assert_eq!(check(&text, store_least(job), &sheet[..len]), (answer, 0), "{job:?}");
+        answer
+    };
+    let quick = plan(&text, &mut store, &mut sheet);
+    let quick = passed(quick, &sheet);
+    let other = plan_by(&mut StandFirst, &text, &mut store, &mut sheet);
+    assert_eq!(passed(other, &sheet), quick);
+    quick
+}
+
+fn try_small(make: fn(&mut Rng) -> Job, seed: u64) {
+    let mut rng = Rng::new(seed);
+    let mut tally = Tally::default();
+    for _ in 0..30_000 {
+        let job = make(&mut rng);
+        let answer = answer(&job);
+        assert_eq!(answer == PLAN, has_plan(&job), "{job:?}");
+        tally.count(answer);
+    }
+    tally.assert_each(&[PLAN, CANNOT], 6000);
+}
+
+#[test]
+fn small_jobs_without_bays() {
+    try_small(small_without_bays, 1);
+}
+
+#[test]
+fn small_jobs_with_bays() {
+    try_small(small_with_bays, 2);
+}
+
+#[test]
+fn larger_jobs() {
+    let mut rng = Rng::new(3);
+    let mut tally = Tally::default();
+    (0..500).for_each(|_| tally.count(answer(&medium(&mut rng))));
+    (0..30).for_each(|_| tally.count(answer(&at_the_limits(&mut rng))));
+    tally.assert_each(&[PLAN, CANNOT], 100);
+}
