@@ -4,6 +4,7 @@ mod planner;
 
 pub use planner::{plan, planned};
 
+use crate::examples::tabs;
 use crate::ffi::{self, Checker, Library};
 use crate::gen::cases::Case;
 use crate::gen::Rng;
@@ -35,6 +36,18 @@ pub fn library(job: &[u8], store_len: usize, sheet: &[u8]) -> (u8, usize) {
     let case = Case { job: job.to_vec(), store_len, sheet: sheet.to_vec() };
     let seed = job.len() as u64 ^ (sheet.len() as u64) << 32;
     library_on(&case, &mut Rng::new(seed))
+}
+
+/// The library's answer to a job text and its line, told by the check of a sheet without paths.
+pub fn answer_to(job: &[u8]) -> (u8, usize) {
+    library(job, 4096, b"PLAN\t0\n")
+}
+
+/// Job texts, with spaces for tabs, that are turned back with one number: text, line.
+pub fn assert_turned_back(number: u8, rows: &[(&str, usize)]) {
+    for &(job, line) in rows {
+        assert_eq!(answer_to(&tabs(job)), (number, line), "{job:?}");
+    }
 }
 
 fn report(what: &str, case: &Case) -> String {

@@ -1,25 +1,14 @@
 //! BAY lines of job texts: where they may stand, what they may hold, and that they count with the CALL lines. The answers
 //! are told by hand. Tabs are shown as spaces.
 
-use harness::compare::library;
+use harness::compare::{answer_to, assert_turned_back, library};
 use harness::examples::{tabs, BUFFER};
 use harness::gen::large::full_text;
 use harness::model::answer::*;
 
-fn answer(job: &[u8]) -> (u8, usize) {
-    library(job, 4096, b"PLAN\t0\n")
-}
-
-/// Texts that are turned back with one number: text, line.
-fn assert_rows(number: u8, rows: &[(&str, usize)]) {
-    for &(job, line) in rows {
-        assert_eq!(answer(&tabs(job)), (number, line), "{job:?}");
-    }
-}
-
 #[test]
 fn a_bad_line_is_3() {
-    assert_rows(
+    assert_turned_back(
         BAD_LINE,
         &[
             ("BAY 0 0\n", 1),
@@ -47,7 +36,7 @@ fn a_bad_line_is_3() {
 
 #[test]
 fn a_field_that_is_no_number_is_4() {
-    assert_rows(
+    assert_turned_back(
         NO_NUMBER,
         &[
             ("FLOOR 2\nBAY  0\n", 2),
@@ -64,7 +53,7 @@ fn a_field_that_is_no_number_is_4() {
 
 #[test]
 fn a_number_out_of_range_is_5() {
-    assert_rows(
+    assert_turned_back(
         OUT_OF_RANGE,
         &[
             ("FLOOR 2\nBAY 2 0\n", 2),
@@ -80,7 +69,7 @@ fn a_number_out_of_range_is_5() {
 
 #[test]
 fn a_second_call_or_bay_on_a_cell_is_7() {
-    assert_rows(
+    assert_turned_back(
         DOUBLED,
         &[
             ("FLOOR 1\nBAY 0 0\nBAY 0 0\n", 3),
@@ -95,7 +84,7 @@ fn a_second_call_or_bay_on_a_cell_is_7() {
 
 #[test]
 fn carts_are_compared_with_calls_and_bays_together() {
-    assert_rows(
+    assert_turned_back(
         UNEVEN,
         &[
             ("FLOOR 1\nBAY 0 0\n", 0),
@@ -130,7 +119,7 @@ fn full_with(bays: usize, first: bool, more: &str) -> Vec<u8> {
 #[test]
 fn calls_and_bays_are_64_together() {
     for (bays, first) in [(0, true), (1, true), (1, false), (32, true), (32, false), (63, true), (64, true)] {
-        let number = |more| answer(&full_with(bays, first, more));
+        let number = |more| answer_to(&full_with(bays, first, more));
         assert_eq!(number(""), (STORE_TOO_SHORT, 0), "{bays} bays");
         for more in ["CALL 0 0\n", "BAY 0 0\n", "BAY 255 255\n", "CALL 255 0\n"] {
             assert_eq!(number(more), (TOO_MANY, 642), "{bays} bays and {more:?}");
@@ -144,7 +133,7 @@ fn calls_and_bays_are_64_together() {
 
 #[test]
 fn the_first_bad_line_counts() {
-    assert_rows(DOUBLED, &[("FLOOR 1\nBAY 0 0\nCALL 0 0\nx\n", 3)]);
-    assert_rows(OUT_OF_RANGE, &[("FLOOR 1\nBAY 1 0\nBAY 0\n", 2)]);
-    assert_rows(BAD_LINE, &[("FLOOR 1\nBAY 0 0\nBAY 0 0", 3)]);
+    assert_turned_back(DOUBLED, &[("FLOOR 1\nBAY 0 0\nCALL 0 0\nx\n", 3)]);
+    assert_turned_back(OUT_OF_RANGE, &[("FLOOR 1\nBAY 1 0\nBAY 0\n", 2)]);
+    assert_turned_back(BAD_LINE, &[("FLOOR 1\nBAY 0 0\nBAY 0 0", 3)]);
 }

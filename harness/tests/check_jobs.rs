@@ -1,36 +1,25 @@
 //! Job texts that the check turns back, 2 to 8, with their lines told by hand. Tabs are shown as spaces.
 
-use harness::compare::library;
+use harness::compare::{answer_to, assert_turned_back};
 use harness::examples::tabs;
 use harness::gen::large::full_text;
 use harness::gen::Rng;
 use harness::model::answer::*;
 use harness::model::limits;
 
-fn answer(job: &[u8]) -> (u8, usize) {
-    library(job, 4096, b"PLAN\t0\n")
-}
-
-/// Texts that are turned back with one number: text, line.
-fn assert_rows(number: u8, rows: &[(&str, usize)]) {
-    for &(job, line) in rows {
-        assert_eq!(answer(&tabs(job)), (number, line), "{job:?}");
-    }
-}
-
 #[test]
 fn a_text_over_the_limit_is_2_whatever_it_is() {
-    assert_eq!(answer(&[b'x'; limits::TEXT + 1]), (TEXT_TOO_LONG, 0));
-    assert_eq!(answer(&[b'x'; limits::TEXT]), (BAD_LINE, 1));
-    assert_eq!(answer(&Rng::new(1).noise(1_000_000)), (TEXT_TOO_LONG, 0));
+    assert_eq!(answer_to(&[b'x'; limits::TEXT + 1]), (TEXT_TOO_LONG, 0));
+    assert_eq!(answer_to(&[b'x'; limits::TEXT]), (BAD_LINE, 1));
+    assert_eq!(answer_to(&Rng::new(1).noise(1_000_000)), (TEXT_TOO_LONG, 0));
     let spun_out = [tabs("FLOOR 1\n"), vec![b'\n'; limits::TEXT - 7]].concat();
-    assert_eq!(answer(&spun_out), (TEXT_TOO_LONG, 0));
-    assert_eq!(answer(&spun_out[1..]), (BAD_LINE, 1));
+    assert_eq!(answer_to(&spun_out), (TEXT_TOO_LONG, 0));
+    assert_eq!(answer_to(&spun_out[1..]), (BAD_LINE, 1));
 }
 
 #[test]
 fn a_bad_line_is_3() {
-    assert_rows(
+    assert_turned_back(
         BAD_LINE,
         &[
             ("", 1),
@@ -68,7 +57,7 @@ fn a_bad_line_is_3() {
 
 #[test]
 fn a_field_that_is_no_number_is_4() {
-    assert_rows(
+    assert_turned_back(
         NO_NUMBER,
         &[
             ("FLOOR \n", 1),
@@ -91,17 +80,17 @@ fn a_field_that_is_no_number_is_4() {
             ("FLOOR 2\nCALL 9 1e0\n", 2),
         ],
     );
-    assert_eq!(answer(b"FLOOR\t 1\n"), (NO_NUMBER, 1));
-    assert_eq!(answer(b"FLOOR\t1 \n"), (NO_NUMBER, 1));
-    assert_eq!(answer(b"FLOOR\t\xff\n"), (NO_NUMBER, 1));
-    assert_eq!(answer(b"FLOOR\t/\n"), (NO_NUMBER, 1));
-    assert_eq!(answer(b"FLOOR\t:\n"), (NO_NUMBER, 1));
-    assert_eq!(answer(b"FLOOR 1\n"), (BAD_LINE, 1));
+    assert_eq!(answer_to(b"FLOOR\t 1\n"), (NO_NUMBER, 1));
+    assert_eq!(answer_to(b"FLOOR\t1 \n"), (NO_NUMBER, 1));
+    assert_eq!(answer_to(b"FLOOR\t\xff\n"), (NO_NUMBER, 1));
+    assert_eq!(answer_to(b"FLOOR\t/\n"), (NO_NUMBER, 1));
+    assert_eq!(answer_to(b"FLOOR\t:\n"), (NO_NUMBER, 1));
+    assert_eq!(answer_to(b"FLOOR 1\n"), (BAD_LINE, 1));
 }
 
 #[test]
 fn a_number_out_of_range_is_5() {
-    assert_rows(
+    assert_turned_back(
         OUT_OF_RANGE,
         &[
             ("FLOOR 0\n", 1),
@@ -148,13 +137,13 @@ fn one_line_too_many_is_6() {
         (642, "CART 0\n", BAD_LINE),
         (642, "CALL 0 0", BAD_LINE),
     ] {
-        assert_eq!(answer(&full_with(at, line)), (number, at), "{line:?} at line {at}");
+        assert_eq!(answer_to(&full_with(at, line)), (number, at), "{line:?} at line {at}");
     }
 }
 
 #[test]
 fn what_stands_twice_is_7() {
-    assert_rows(
+    assert_turned_back(
         DOUBLED,
         &[
             ("FLOOR 1\nTRACK 0 0\n", 2),
@@ -169,7 +158,7 @@ fn what_stands_twice_is_7() {
 
 #[test]
 fn carts_and_calls_that_differ_in_number_are_8() {
-    assert_rows(
+    assert_turned_back(
         UNEVEN,
         &[
             ("FLOOR 1\nCART 0\n", 0),
@@ -182,7 +171,7 @@ fn carts_and_calls_that_differ_in_number_are_8() {
 
 #[test]
 fn the_first_bad_line_counts() {
-    assert_rows(DOUBLED, &[("FLOOR 1\nCART 0\nCART 0\nx\n", 3)]);
-    assert_rows(OUT_OF_RANGE, &[("FLOOR 1\nCART 1\nCART x\n", 2), ("FLOOR 0\nx", 1)]);
-    assert_rows(BAD_LINE, &[("FLOOR 1\nCART 0\nCALL 0 0\nCALL 0 0", 4)]);
+    assert_turned_back(DOUBLED, &[("FLOOR 1\nCART 0\nCART 0\nx\n", 3)]);
+    assert_turned_back(OUT_OF_RANGE, &[("FLOOR 1\nCART 1\nCART x\n", 2), ("FLOOR 0\nx", 1)]);
+    assert_turned_back(BAD_LINE, &[("FLOOR 1\nCART 0\nCALL 0 0\nCALL 0 0", 4)]);
 }

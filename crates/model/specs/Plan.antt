@@ -21,7 +21,7 @@ pub record Leads (j : Job) (p : Path) : Type 0 where
   pub walks : Walk j (cartCell j (p .cart)) (p .cells)
   pub serves : Serves (p .cells) (callOf j (p .call))
 
--- The cart that walks w is on the cell v at the step t. It is on the floor up to its deadline, that step included, and off it from the next.
+-- The cart that walks w is on the cell v at the step t. It is on the floor up to its deadline, that step included, and off it or parked from the next.
 abbrev pub OnFloor : List ℕ → ℕ → ℕ → Type 0
 OnFloor w t v = At w t v
 

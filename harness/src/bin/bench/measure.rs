@@ -3,7 +3,7 @@
 use std::hint::black_box;
 
 use harness::baseline;
-use harness::model::answer::{pack, unpack, PLAN};
+use harness::model::answer::{pack, unpack, CANNOT, PLAN};
 use harness::model::job::Job;
 use harness::model::limits::{sheet_least, store_least};
 
@@ -51,6 +51,8 @@ pub fn measure(job: &Job, peers: &[Peer], before: Option<Before>, effort: Effort
     let passed = pack(answer, 0);
     let mut written = sheet[..len].to_vec();
     let (library, keeping) = counts(&text, &mut store, &mut sheet, &written);
+    // A former library turns back what it did not know yet.
+    let before = before.filter(|b| unpack(b.plan(&text, &mut store, &mut sheet)).0 <= CANNOT);
 
     let mut best = [f64::NAN; 6];
     let mut times = 1;
