@@ -75,17 +75,17 @@ fn killed_at_many_moments() {
 /// An interrupt ends the run behind the jobs that are begun, and leaves nothing behind.
 #[test]
 fn interrupted() {
-    // Safety: no handler is run. Started by `nohup`, the tests would hand an ignored HUP on to the program.
-    unsafe { signal(HUP, 0) };
-    for signal in [HUP, INT, TERM] {
+    for number in [HUP, INT, TERM] {
+        // Safety: no handler is run. By `nohup` or behind a shell's `&` the tests would hand on that it is ignored.
+        unsafe { signal(number, 0) };
         let (folder, entries) = Folder::with_jobs(3000, 3);
         let child = piped(plan(&folder)).spawn().expect("the program");
         while !folder.path("0010/0.sheet").exists() {
             thread::sleep(Duration::from_millis(1));
         }
-        send(&child, signal);
+        send(&child, number);
         let Ended { status, out, err } = finish(child, Vec::new()).expect("an end");
-        assert_eq!((status.signal(), out.len()), (Some(signal), 0));
+        assert_eq!((status.signal(), out.len()), (Some(number), 0));
         let (sheets, parts) = assert_no_half_sheet(&folder.files());
         assert_eq!(parts, 0);
         assert!(sheets < entries.len());

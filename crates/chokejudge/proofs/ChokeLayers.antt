@@ -7,7 +7,7 @@ use mathlib.Core.Bool.{true}
 use mathlib.Core.Logic.{_⊎_, _↔_, inl, inr}
 use native.Mathlib.Omega.{arith}
 use lib.Dec.{ltb, leb}
-use lib.ListN.{length, getD}
+use lib.ListN.{getD}
 use borrow.Author.Tests.{ltb-true, leb-true}
 use Rattle.model.specs.Limits.{maxSteps}
 use Rattle.model.specs.Lists.{In}
@@ -20,9 +20,9 @@ use Rattle.model.specs.Contracts.{RightChokes}
 use Rattle.model.proofs.Basics.{and-left, and-right}
 use Rattle.job.specs.Arrays.{callAt, jobOf}
 use Rattle.job.specs.declared.state.Job.{Job}
-use Rattle.job.specs.Held.{Some, pointsOf}
-use Rattle.job.proofs.Pairs.{in-pairs, pairs-count}
-use Rattle.job.proofs.Arrays.{Whole, in-carts, in-calls, calls-count}
+use Rattle.job.specs.Held.{Some, pointAt, pointsOf}
+use Rattle.job.proofs.UpTo.{up-count, in-up}
+use Rattle.job.proofs.Arrays.{in-carts, in-calls, calls-count}
 use Rattle.floor.specs.Tables.{Near, Shut}
 use Rattle.floor.specs.Made.{Filled, never, closesAt}
 use Rattle.floor.proofs.JobTables.{move-even, near-even}
@@ -54,19 +54,19 @@ closing-of kinds targets deadlines {calls} {shut} r = record { first = λ v h. f
     due v t few e (inl f) = absurd (omega arith)
     due v t few e (inr (k, h, (f, g))) = (k, h, (step (getD kinds k 0) (getD deadlines k 0) t few (sym g ∙ e), f))
 
-module _ (s : Job) (w : Whole s) (ready : Ready (jobOf s)) {near begin shut : List ℕ} (r : Near (jobOf s) near begin) (a : Shut (jobOf s) shut) where
+module _ (s : Job) (ready : Ready (jobOf s)) {near begin shut : List ℕ} (r : Near (jobOf s) near begin) (a : Shut (jobOf s) shut) where
   pub carts-known : (k : ℕ) → k < s .carts → getD (s .starts) k 0 < s .cells
-  carts-known k h = ready .fit .known-carts (getD (s .starts) k 0) (in-carts s w (getD (s .starts) k 0) .1 (k, h, refl))
+  carts-known k h = ready .fit .known-carts (getD (s .starts) k 0) (in-carts s (getD (s .starts) k 0) .1 (k, h, refl))
 
-  module _ (cells steps : List ℕ) (n : ℕ) (h : n ≤ length cells) (g : n ≤ length steps) where
+  module _ (cells steps : List ℕ) (n : ℕ) where
     choked : (t v : ℕ) → In (point v t) (pointsOf cells steps n) ↔ Choked cells steps n t v
     choked t v = (there, back)
       where
         there : In (point v t) (pointsOf cells steps n) → Choked cells steps n t v
-        there m = let (k, b, e) = in-pairs point cells steps n h g (point v t) .0 m in (k, b, (sym (ap (λ x. x .step) e), sym (ap (λ x. x .cell) e)))
+        there m = let (k, b, e) = in-up (pointAt cells steps) n (point v t) .0 m in (k, b, (sym (ap (λ x. x .step) e), sym (ap (λ x. x .cell) e)))
 
         back : Choked cells steps n t v → In (point v t) (pointsOf cells steps n)
-        back (k, b, (e, f)) = in-pairs point cells steps n h g (point v t) .1 (k, b, point-eq (point v t) (getD cells k 0) (getD steps k 0) (sym f) (sym e))
+        back (k, b, (e, f)) = in-up (pointAt cells steps) n (point v t) .1 (k, b, point-eq (point v t) (getD cells k 0) (getD steps k 0) (sym f) (sym e))
 
     -- the layers by the arrays
     abbrev InLayer : ℕ → ℕ → Type 0
@@ -80,7 +80,7 @@ module _ (s : Job) (w : Whole s) (ready : Ready (jobOf s)) {near begin shut : Li
     opens t v b few = a .opens v t (omega (arith, ready .fit .few-cells)) few
 
     free : (t v : ℕ) → t ≤ maxSteps → InLayer t v ↔ Free (jobOf s) (pointsOf cells steps n) t v
-    free zero v few = (λ p. (in-carts s w v .1 (p .0), λ q. p .1 (choked 0 v .0 q)), λ p. (in-carts s w v .0 (p .0), λ q. p .1 (choked 0 v .1 q)))
+    free zero v few = (λ p. (in-carts s v .1 (p .0), λ q. p .1 (choked 0 v .0 q)), λ p. (in-carts s v .0 (p .0), λ q. p .1 (choked 0 v .1 q)))
     free (suc t) v few = (λ p. there p (λ u. free t u (omega arith) .0), λ p. back p (λ u. free t u (omega arith) .1))
       where
         there : InLayer (suc t) v → ((u : ℕ) → InLayer t u → Free (jobOf s) (pointsOf cells steps n) t u) → Free (jobOf s) (pointsOf cells steps n) (suc t) v
@@ -101,7 +101,7 @@ module _ (s : Job) (w : Whole s) (ready : Ready (jobOf s)) {near begin shut : Li
     pub chokes-wrong : SomeCallIn (s .targets) (s .deadlines) (s .calls) InLayer → RightChokes (jobOf s) (pointsOf cells steps n) → ⊥
     chokes-wrong (k, b, p) o =
         let q : Call = callAt (s .kinds) (s .targets) (s .deadlines) k in
-        let m = in-calls s w q .1 (k, b, refl) in
+        let m = in-calls s q .1 (k, b, refl) in
         chokes (jobOf s) (pointsOf cells steps n) .1 (o .0 .chokes) q m (free (q .deadline) (q .cell) (in-time q m) .0 p)
 
     module _ (all : (x : Point) → In x (pointsOf cells steps n) → knownPoint (jobOf s) x ≡ true) where
@@ -113,14 +113,14 @@ module _ (s : Job) (w : Whole s) (ready : Ready (jobOf s)) {near begin shut : Li
           (ltb-true (x .cell) (s .cells) (and-left y z e), leb-true (x .step) (horizon (jobOf s)) (and-right y z e))
 
       pub points-known : (k : ℕ) → k < n → getD cells k 0 < s .cells
-      points-known k b = seen (point (getD cells k 0) (getD steps k 0)) (in-pairs point cells steps n h g (point (getD cells k 0) (getD steps k 0)) .1 (k, b, refl)) .0
+      points-known k b = seen (point (getD cells k 0) (getD steps k 0)) (in-up (pointAt cells steps) n (point (getD cells k 0) (getD steps k 0)) .1 (k, b, refl)) .0
 
       -- a list that no call refutes is right
       pub chokes-right : (SomeCallIn (s .targets) (s .deadlines) (s .calls) InLayer → ⊥) → n < s .calls → ChokesInOrder (pointsOf cells steps n) → RightChokes (jobOf s) (pointsOf cells steps n)
       chokes-right out few order =
-          (record { known = seen; few = omega (arith, few, pairs-count point cells steps n h g, calls-count s w); chokes = chokes (jobOf s) (pointsOf cells steps n) .0 none }, order)
+          (record { known = seen; few = omega (arith, few, up-count (pointAt cells steps) n, calls-count s); chokes = chokes (jobOf s) (pointsOf cells steps n) .0 none }, order)
         where
           none : (q : Call) → In q (jobOf s .calls) → Free (jobOf s) (pointsOf cells steps n) (q .deadline) (q .cell) → ⊥
           none q p f =
-              let (k, l, e) = in-calls s w q .0 p in
+              let (k, l, e) = in-calls s q .0 p in
               out (k, l, rw e at (free (q .deadline) (q .cell) (in-time q p) .1 f))

@@ -7,23 +7,20 @@ use native.Mathlib.Omega.{arith}
 use native.Mathlib.Nat.{eq-or-lt-of-le}
 use lib.ListN.{length, getD}
 use Rattle.model.proofs.Lists.{rising-of, rising-at}
-use Rattle.model.specs.Choke.{Point, point, Rises, ChokesInOrder}
-use Rattle.job.specs.Held.{pointsOf}
-use Rattle.job.proofs.Pairs.{pairs-count, pairs-at}
+use Rattle.model.specs.Choke.{point, Rises, ChokesInOrder}
+use Rattle.job.specs.Held.{pointAt, pointsOf}
+use Rattle.job.proofs.UpTo.{up-count, up-at}
 use Rattle.chokejudge.specs.Grown.{Climbs}
 
-abbrev pub pointAt : List ℕ → List ℕ → ℕ → Point
-pointAt cells steps k = point (getD cells k 0) (getD steps k 0)
-
-pub in-order : (cells steps : List ℕ) (n : ℕ) → n ≤ length cells → n ≤ length steps
+pub in-order : (cells steps : List ℕ) (n : ℕ)
     → ChokesInOrder (pointsOf cells steps n) ↔ ((k : ℕ) → k < n → 1 ≤ k → Rises (pointAt cells steps (k - 1)) (pointAt cells steps k))
-in-order cells steps n h g = (there, back)
+in-order cells steps n = (there, back)
   where
     size : length (pointsOf cells steps n) ≡ n
-    size = pairs-count point cells steps n h g
+    size = up-count (pointAt cells steps) n
 
     item : (k : ℕ) → k < n → getD (pointsOf cells steps n) k (point 0 0) ≡ pointAt cells steps k
-    item k b = pairs-at point cells steps n h g k (point 0 0) b
+    item k b = up-at (pointAt cells steps) n k (point 0 0) b
 
     there : ChokesInOrder (pointsOf cells steps n) → (k : ℕ) → k < n → 1 ≤ k → Rises (pointAt cells steps (k - 1)) (pointAt cells steps k)
     there o zero b f = absurd (omega arith)

@@ -1,5 +1,4 @@
 pub mod BitLaws
-pub mod Pairs
 pub mod UpTo
 pub mod Arrays
 pub mod Triangle

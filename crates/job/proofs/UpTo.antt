@@ -6,8 +6,8 @@ use mathlib.Core.List.{List, [], _∷_, _++_}
 use mathlib.Core.Logic.{_↔_}
 use native.Mathlib.Omega.{arith}
 use native.Mathlib.Numerals.{add-one}
-use lib.ListN.{length, getD, List·getD-append, length-append}
-use lib.Seq.{getD-at}
+use lib.ListN.{length, getD, set, List·getD-append, length-append}
+use lib.Seq.{getD-at, getD-set-same, getD-set-other}
 use Rattle.model.specs.Lists.{In}
 use Rattle.model.proofs.Decide.{dec-eq}
 use Rattle.model.proofs.Lists.{in-getD, in-place}
@@ -45,3 +45,18 @@ module _ {A : Type 0} (f : ℕ → A) where
       before : (i : ℕ) → i ≤ n → upTo g i ≡ upTo f i
       before zero l = refl
       before (suc i) l = rw (before i (omega arith), kept i (omega arith))
+
+-- one value more, taken in
+pub up-suc : {A : Type 0} (f : ℕ → A) (n : ℕ) → upTo f (n + 1) ≡ upTo f n ++ (f n ∷ [])
+up-suc f n = rw add-one refl
+
+-- Values of three arrays, one more of them written at the end. For values of fewer arrays one is named twice.
+module _ {A : Type 0} (f : ℕ → ℕ → ℕ → A) (l m o : List ℕ) (n a b c : ℕ) where
+  kept : (r : List ℕ) (x k : ℕ) → k < n → getD (set r n x) k 0 ≡ getD r k 0
+  kept r x k h = getD-set-other r n k x 0 (λ e. omega arith)
+
+  pub up-set : n < length l → n < length m → n < length o
+      → upTo (λ k. f (getD (set l n a) k 0) (getD (set m n b) k 0) (getD (set o n c) k 0)) (n + 1) ≡ upTo (λ k. f (getD l k 0) (getD m k 0) (getD o k 0)) n ++ (f a b c ∷ [])
+  up-set h g i =
+      up-more (λ k. f (getD l k 0) (getD m k 0) (getD o k 0)) _ n _ (λ k d. rw (kept l a k d, kept m b k d, kept o c k d))
+      (rw (getD-set-same l n a 0 h, getD-set-same m n b 0 g, getD-set-same o n c 0 i))

@@ -2,17 +2,11 @@
 use Prim.Native.Nat.{ℕ, zero, suc, _≤_}
 use mathlib.Core.Path.{_≡_}
 use mathlib.Core.List.{List, [], _∷_, _++_}
-use lib.ListN.{length, getD, take}
+use lib.ListN.{length, getD}
 use Rattle.model.specs.Limits.{maxTracks, maxCarts, maxCalls}
 use Rattle.model.specs.Job as model
 use Rattle.model.specs.Job.{CallKind, lift, bay, track, call}
 use Rattle.job.specs.declared.state.Job.{Job}
-
--- the pairs of two lists
-abbrev pub pairs : {A : Type 0} → (ℕ → ℕ → A) → List ℕ → List ℕ → List A
-pairs f [] ys = []
-pairs f (x ∷ xs) [] = []
-pairs f (x ∷ xs) (y ∷ ys) = f x y ∷ pairs f xs ys
 
 -- the first n values of f
 abbrev pub upTo : {A : Type 0} → (ℕ → A) → ℕ → List A
@@ -24,14 +18,17 @@ abbrev pub kindOf : ℕ → CallKind
 kindOf zero = lift
 kindOf (suc n) = bay
 
+abbrev pub trackAt : List ℕ → List ℕ → ℕ → model.Track
+trackAt from to k = track (getD from k 0) (getD to k 0)
+
 abbrev pub callAt : List ℕ → List ℕ → List ℕ → ℕ → model.Call
 callAt kinds targets deadlines k = call (kindOf (getD kinds k 0)) (getD targets k 0) (getD deadlines k 0)
 
 abbrev pub jobOf : Job → model.Job
 jobOf s = record {
   cells = s .cells;
-  tracks = pairs track (take (s .tracks) (s .from)) (take (s .tracks) (s .to));
-  carts = take (s .carts) (s .starts);
+  tracks = upTo (trackAt (s .from) (s .to)) (s .tracks);
+  carts = upTo (λ k. getD (s .starts) k 0) (s .carts);
   calls = upTo (callAt (s .kinds) (s .targets) (s .deadlines)) (s .calls);
 }
 

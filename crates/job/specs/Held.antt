@@ -7,7 +7,7 @@ use lib.ListN.{length, getD, take, drop}
 use Rattle.model.specs.Limits.{maxCalls, maxSteps}
 use Rattle.model.specs.Plan.{Path}
 use Rattle.model.specs.Choke.{Point, point}
-use Rattle.job.specs.Arrays.{pairs, upTo}
+use Rattle.job.specs.Arrays.{upTo}
 
 -- the path of the k-th line: its cells are the first of row k, up to its last step
 abbrev pub pathAt : List ℕ → List ℕ → List ℕ → List ℕ → ℕ → Path
@@ -21,9 +21,12 @@ pathAt carts calls lasts rows k = record {
 abbrev pub pathsTo : List ℕ → List ℕ → List ℕ → List ℕ → ℕ → List Path
 pathsTo carts calls lasts rows = upTo (pathAt carts calls lasts rows)
 
--- the first n choke points
+-- the choke point of the k-th line, and the first n
+abbrev pub pointAt : List ℕ → List ℕ → ℕ → Point
+pointAt cells steps k = point (getD cells k 0) (getD steps k 0)
+
 abbrev pub pointsOf : List ℕ → List ℕ → ℕ → List Point
-pointsOf cells steps n = pairs point (take n cells) (take n steps)
+pointsOf cells steps = upTo (pointAt cells steps)
 
 -- There is room for all that a sheet can hold.
 pub record Room (first second lasts rows : List ℕ) : Type 0 where

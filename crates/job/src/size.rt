@@ -3,17 +3,16 @@ use crate::state::Job;
 use model::Limits;
 use model::bytes::wide;
 ghost use mathlib.Core.Path.{_≡_};
-ghost use mathlib.Core.List.{map};
 ghost use Prim.Native.Nat.{_<_, _≤_};
-ghost use lib.ListN.{take};
+ghost use lib.ListN.{getD};
 ghost use Rattle.model.specs.Limits.{maxCells, maxCalls, maxSteps};
 ghost use Rattle.model.specs.Job.{lift, call, latest, horizon, storeLeast, sheetLeast};
-ghost use Rattle.job.specs.Arrays.{jobOf, Sized};
+ghost use Rattle.job.specs.Arrays.{upTo, jobOf, Sized};
 
 // The largest of the first `calls` deadlines, 0 if there are none.
 pub fn horizon(deadlines: &[u8; Limits::CALLS], calls: usize) -> usize
     requires { ⌜ calls ≤ maxCalls ⌝ }
-    ensures { λ r. ⌜ (r ≡ latest (map (call lift 0) (take calls (now (deadlines .entry))))) × (r < maxSteps) ⌝ }
+    ensures { λ r. ⌜ (r ≡ latest (upTo (λ k. call lift 0 (getD (now (deadlines .entry)) k 0)) calls)) × (r < maxSteps) ⌝ }
 {
     let mut last = 0;
     let mut k = 0;

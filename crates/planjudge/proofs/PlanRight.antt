@@ -24,7 +24,7 @@ use Rattle.job.specs.declared.state.Job.{Job}
 use Rattle.job.specs.Held.{pathAt, pathsTo}
 use Rattle.job.proofs.Triangle.{pair-back}
 use Rattle.planjudge.specs.PlanTests.{cellOf, Fits, PairIn, Ordered, Marks, Goes, Allowed, AllLed, Unshared, Untraded, Clear}
-use Rattle.job.proofs.Arrays.{Whole, calls-count, carts-count, call-at, cart-at, in-tracks, deadline-by}
+use Rattle.job.proofs.Arrays.{calls-count, carts-count, call-at, cart-at, in-tracks, deadline-by}
 use Rattle.job.proofs.UpTo.{up-count, up-at, in-up}
 use Rattle.floor.specs.Tables.{Shut}
 use Rattle.planjudge.proofs.PlanLaws.{Ranged, known-ranged, nodup-of, cell-at, cells-count}
@@ -33,7 +33,6 @@ use Rattle.planjudge.proofs.PlanSteps.{other-call}
 -- What is given: the job as its arrays have it, and paths whose numbers are known.
 pub record Given (s : Job) (carts calls lasts rows : List ℕ) : Type 0 where
   pub ready : Ready (jobOf s)
-  pub full : Whole s
   pub fits : Fits lasts rows (s .calls)
   pub bytes : (k : ℕ) → getD lasts k 0 < maxSteps
   pub known : (p : Path) → In p (pathsTo carts calls lasts rows (length (jobOf s .calls))) → knownPath (jobOf s) p ≡ true
@@ -46,7 +45,7 @@ module _ {s : Job} {carts calls lasts rows : List ℕ} (g : Given s carts calls 
   Ps = pathsTo carts calls lasts rows (length (jobOf s .calls))
 
   size : length (jobOf s .calls) ≡ s .calls
-  size = calls-count s (g .full)
+  size = calls-count s
 
   in-plan : (k : ℕ) → k < s .calls → In (P k) Ps
   in-plan k h = in-up P (length (jobOf s .calls)) (P k) .1 (k, omega (arith, size), refl)
@@ -78,7 +77,7 @@ module _ {s : Job} {carts calls lasts rows : List ℕ} (g : Given s carts calls 
   known-call k h = omega (arith, ranged k h .call, size)
 
   pub known-cart : (k : ℕ) → k < s .calls → getD carts k 0 < s .carts
-  known-cart k h = omega (arith, ranged k h .cart, carts-count s (g .full))
+  known-cart k h = omega (arith, ranged k h .cart, carts-count s)
 
   long : (k : ℕ) → k < s .calls → length (P k .cells) ≡ suc (getD lasts k 0)
   long k h = cells-count carts calls lasts rows k (omega (arith, g .fits .few)) (g .fits .cells) (g .bytes k)
@@ -100,7 +99,7 @@ module _ {s : Job} {carts calls lasts rows : List ℕ} (g : Given s carts calls 
 
   -- Order.
   call-is : (k : ℕ) → k < s .calls → callOf (jobOf s) (getD calls k 0) ≡ callAt (s .kinds) (s .targets) (s .deadlines) (getD calls k 0)
-  call-is k h = call-at s (g .full) (getD calls k 0) (known-call k h)
+  call-is k h = call-at s (getD calls k 0) (known-call k h)
 
   in-order : Ordered (s .targets) (s .deadlines) calls (s .calls) → PlanInOrder (jobOf s) Ps
   in-order o = rising-of (P 0) (Before (jobOf s)) Ps (λ k h.
@@ -143,10 +142,10 @@ module _ {s : Job} {carts calls lasts rows : List ℕ} (g : Given s carts calls 
   -- Walks.
   track-listed : (u v : ℕ) → In (track u v) (jobOf s .tracks) → PairIn (s .from) (s .to) (s .tracks) u v
   track-listed u v h =
-      let (i, l, e) = in-tracks s (g .full) (track u v) .0 h in (i, l, sym (track-parts e .0), sym (track-parts e .1))
+      let (i, l, e) = in-tracks s (track u v) .0 h in (i, l, sym (track-parts e .0), sym (track-parts e .1))
 
   listed-track : (u v : ℕ) → PairIn (s .from) (s .to) (s .tracks) u v → In (track u v) (jobOf s .tracks)
-  listed-track u v (i, l, e, f) = in-tracks s (g .full) (track u v) .1 (i, l, track-eq (sym e, sym f))
+  listed-track u v (i, l, e, f) = in-tracks s (track u v) .1 (i, l, track-eq (sym e, sym f))
 
   module _ {table shut : List ℕ} (marks : Marks (s .from) (s .to) (s .tracks) table) (shuts : Shut (jobOf s) shut) where
     goes : (u v : ℕ) → u < maxCells → v < maxCells → Move (jobOf s) u v → Goes table u v
@@ -176,7 +175,7 @@ module _ {s : Job} {carts calls lasts rows : List ℕ} (g : Given s carts calls 
       step (x, l) = (move _ _ here next x, shuts .opens _ (suc t) next early .0 (omega arith))
 
     start : (k : ℕ) → k < s .calls → cartCell (jobOf s) (getD carts k 0) ≡ getD (s .starts) (getD carts k 0) 0
-    start k h = cart-at s (g .full) (getD carts k 0) (known-cart k h)
+    start k h = cart-at s (getD carts k 0) (known-cart k h)
 
     target : (k : ℕ) → k < s .calls → callOf (jobOf s) (getD calls k 0) .cell ≡ getD (s .targets) (getD calls k 0) 0
     target k h = ap (λ q. q .cell) (call-is k h)
@@ -211,7 +210,7 @@ module _ {s : Job} {carts calls lasts rows : List ℕ} (g : Given s carts calls 
 
     module _ (h : ℕ) (late : horizon (jobOf s) ≤ h) (clear : (t : ℕ) → t ≤ h → Clear lasts rows (s .calls) t) where
       top : (k : ℕ) → k < s .calls → getD lasts k 0 ≤ h
-      top k a = omega (arith, late, deadline k a, ap (λ q. q .deadline) (call-is k a), deadline-by s (g .full) (getD calls k 0) (known-call k a))
+      top k a = omega (arith, late, deadline k a, ap (λ q. q .deadline) (call-is k a), deadline-by s (getD calls k 0) (known-call k a))
 
       one-share : (k m t : ℕ) → k < s .calls → m < s .calls → Share (P k .cells) (P m .cells) t → k ≡ m
       one-share k m t a b (v, x, y) =

@@ -1,15 +1,11 @@
 -- A right answer can be written: a plan's paths are known, choke points are fewer than the calls, and the text of either is short. What is then written
 -- is the planner's answer. Assumes nothing.
-use Prim.Native.Nat.{ℕ, _+_, _*_, _≤_, _<_}
-use mathlib.Core.Path.{_≡_, refl, sym, _∙_}
+use Prim.Native.Nat.{ℕ, _+_, _*_, _≤_}
+use mathlib.Core.Path.{_≡_, refl}
 use mathlib.Core.List.{List, [], _∷_}
-use mathlib.Core.Bool.{Bool, true, false}
 use mathlib.Core.Logic.{inl, inr}
 use native.Mathlib.Omega.{arith}
-use lib.Dec.{ltb}
-use lib.ListN.{length, take, length-append}
-use lib.Seq.{take-all}
-use borrow.Author.Tests.{ltb-true, ltb-false}
+use lib.ListN.{length, length-append}
 use Rattle.model.specs.declared.answer.Answer.the-variants as answer
 use Rattle.model.specs.Answers.{number}
 use Rattle.model.specs.Limits.{maxCalls, maxSteps}
@@ -17,13 +13,11 @@ use Rattle.model.specs.Text.{line, planWord, pathWord, cannotWord, chokeWord}
 use Rattle.model.specs.Job.{Job, callOf}
 use Rattle.model.specs.Ready.{Fit}
 use Rattle.model.specs.Plan.{Path, Leads, Plan}
-use Rattle.model.specs.Choke.{Point, point, TrueChokes}
+use Rattle.model.specs.Choke.{Point, TrueChokes}
 use Rattle.model.specs.SheetText.{linesText, pathNumbers, chokeNumbers, planText, cannotText}
 use Rattle.model.specs.Contracts.{RightPlan, RightChokes}
 use Rattle.model.proofs.Lists.{in-getD}
 use Rattle.model.proofs.Contrary.{weak}
-use Rattle.job.specs.Held.{pointsOf}
-use Rattle.job.proofs.Pairs.{pairs-count}
 use Rattle.text.specs.Wrote.{Wrote}
 use Rattle.text.proofs.Wrote.{wrote-whole, line-room, lines-room}
 use Rattle.planner.specs.Written.{Written}
@@ -43,22 +37,6 @@ module _ (j : Job) (f : Fit j) where
   chokes-short xs h =
       let lines = lines-room chokeWord chokeNumbers (length chokeWord + 9) xs (λ x m. line-room chokeWord (chokeNumbers x)) in
       rw (length-append (line cannotWord (length xs ∷ [])) (linesText chokeWord chokeNumbers xs)) (omega (arith, line-room cannotWord (length xs ∷ []), lines, h .few, f .few-calls))
-
--- More points than the lists hold would be as many as there can be calls.
-pub points-few : (first second : List ℕ) (n calls : ℕ) → length first ≡ maxCalls → length second ≡ maxCalls → calls ≤ maxCalls → length (pointsOf first second n) < calls → n < calls
-points-few first second n calls e f h l = go (ltb n maxCalls) refl
-  where
-    go : (t : Bool) → ltb n maxCalls ≡ t → n < calls
-    go true q =
-        let b = ltb-true n maxCalls q in
-        let k = pairs-count point first second n (omega arith) (omega arith) in
-        omega (arith, k)
-    go false q =
-        let b = ltb-false n maxCalls q in
-        let s : take n first ≡ take maxCalls first = take-all n first (omega arith) ∙ sym (take-all maxCalls first (omega arith)) in
-        let t : take n second ≡ take maxCalls second = take-all n second (omega arith) ∙ sym (take-all maxCalls second (omega arith)) in
-        let m : length (pointsOf first second maxCalls) < calls = rw (s, t) at l in
-        absurd (omega (arith, m, pairs-count point first second maxCalls (omega arith) (omega arith)))
 
 module _ (j : Job) (sheet sheet′ : List ℕ) (n r : ℕ) where
   pub plan-written : r ≡ number answer.Plan + 256 * n → (ps : List Path) → RightPlan j ps → Wrote sheet 0 (planText ps) sheet′ n → Written j sheet sheet′ r

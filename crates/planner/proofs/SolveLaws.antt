@@ -8,8 +8,7 @@ use mathlib.Core.Logic.{_⊎_, inl, inr, _↔_}
 use native.Mathlib.Omega.{arith}
 use borrow.Author.Tests.{eqb-true}
 use lib.Dec.{eqb}
-use lib.ListN.{length, getD, take}
-use lib.Seq.{length-take-le, getD-take}
+use lib.ListN.{length, getD}
 use Rattle.model.specs.Limits.{maxCells, maxCalls}
 use Rattle.model.specs.Lists.{In, NoDup}
 use Rattle.model.specs.Job.{Job, Call, lift, call, callOf}
@@ -18,7 +17,8 @@ use Rattle.model.proofs.Basics.{nope}
 use Rattle.model.proofs.Decide.{dec-lt}
 use Rattle.model.proofs.Lists.{in-getD, in-place, place-of, rising-of}
 use Rattle.model.proofs.Sharing.{every}
-use Rattle.job.proofs.Pairs.{in-first}
+use Rattle.job.specs.Arrays.{upTo}
+use Rattle.job.proofs.UpTo.{up-count, up-at, in-up}
 use Rattle.floor.specs.Tables.{Rows}
 use Rattle.flow.specs.Flow.{Link, off, end}
 use Rattle.flow.proofs.Flow.{empty-flow, flow-same}
@@ -87,31 +87,28 @@ module _ {j : Job} {targets deadlines : List ℕ} {calls : ℕ} {near begin due 
   }
 
   -- The order has each number once.
-  in-time : n ≤ length order
-  in-time = omega (arith, b .ordered .size, b .ready .fit .few-calls)
+  abbrev number : ℕ → ℕ
+  number k = getD order k 0
 
-  size : length (take n order) ≡ n
-  size = length-take-le n order in-time
-
-  once : NoDup (map (λ q. q) (take n order))
+  once : NoDup (map (λ q. q) (upTo number n))
   once =
-      rising-once (λ q. q) (Precedes j) (precedes-on j) (precedes-apart j) (take n order)
-      (rising-of 0 (Precedes j) (take n order) (λ k l.
-      let h : suc k < n = omega (arith, size) in
-      rw (getD-take n order k 0 (omega arith), getD-take n order (suc k) 0 h) (b .ordered .rises k h)))
+      rising-once (λ q. q) (Precedes j) (precedes-on j) (precedes-apart j) (upTo number n)
+      (rising-of 0 (Precedes j) (upTo number n) (λ k l.
+      let h : suc k < n = omega (arith, up-count number n) in
+      rw (up-at number n k 0 (omega arith), up-at number n (suc k) 0 h) (b .ordered .rises k h)))
 
-  different : (a c : ℕ) → a < n → c < n → getD order a 0 ≡ getD order c 0 → a ≡ c
+  different : (a c : ℕ) → a < n → c < n → number a ≡ number c → a ≡ c
   different a c h l e =
-      place-of (λ q. q) (take n order) once a c 0 (omega (arith, size)) (omega (arith, size)) (getD-take n order a 0 h ∙ e ∙ sym (getD-take n order c 0 l))
+      place-of (λ q. q) (upTo number n) once a c 0 (omega (arith, up-count number n)) (omega (arith, up-count number n)) (up-at number n a 0 h ∙ e ∙ sym (up-at number n c 0 l))
 
-  each : (k : ℕ) → k < n → (m : ℕ) × (m < n) × (getD order m 0 ≡ k)
+  each : (k : ℕ) → k < n → (m : ℕ) × (m < n) × (number m ≡ k)
   each k h =
-      let (q, i, e) = every (λ q. q) n (take n order) size once (λ q i. known q (in-first n order in-time q .0 i)) k h in
-      let (m, l, f) = in-first n order in-time q .0 i in
-      (m, l, f ∙ e)
+      let (q, i, e) = every (λ q. q) n (upTo number n) (up-count number n) once (λ q i. known q (in-up number n q .0 i)) k h in
+      let (m, l, f) = in-up number n q .0 i in
+      (m, l, sym f ∙ e)
     where
-      known : (q : ℕ) → (m : ℕ) × (m < n) × (getD order m 0 ≡ q) → q < n
-      known q (m, l, f) = rw (← f) (b .ordered .known m l)
+      known : (q : ℕ) → (m : ℕ) × (m < n) × (q ≡ number m) → q < n
+      known q (m, l, f) = rw f (b .ordered .known m l)
 
   pub few : calls ≤ maxCalls
   few = omega (arith, b .listed .counted, b .ready .fit .few-calls)

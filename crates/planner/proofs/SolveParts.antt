@@ -9,7 +9,6 @@ use lib.ListN.{length}
 use Rattle.model.specs.Job.{Job, horizon, storeLeast}
 use Rattle.job.specs.Arrays.{jobOf}
 use Rattle.job.specs.declared.state.Job as arrays
-use Rattle.job.proofs.Arrays.{Whole}
 use Rattle.floor.specs.Tables.{Tables}
 use Rattle.floor.proofs.JobTables.{calls-of}
 use Rattle.network.specs.declared.planes.Grid.{Grid}
@@ -32,22 +31,22 @@ roomy j s e room =
     let less : j .cells ≤ j .cells + 2 * length (j .tracks) = omega arith in
     rw e (omega (arith, mul-le-mul-left ((horizon j + 1) * 32) less))
 
-module _ (a : arrays.Job) (w : Whole a) where
+module _ (a : arrays.Job) where
   -- Serving the calls can begin.
   pub begun : {near begin due shut cartOn order s : List ℕ} {g : Grid} → Tables (jobOf a) near begin due shut cartOn → Wiped (jobOf a) order s g
       → Begun (jobOf a) (a .targets) (a .deadlines) (a .calls) near begin due shut cartOn order s g
   begun tables h =
-      record { ready = h .ready; listed = calls-of a w; tables = tables; ordered = h .ordered; grid = h .grid; room = h .room; blank = h .blank }
+      record { ready = h .ready; listed = calls-of a; tables = tables; ordered = h .ordered; grid = h .grid; room = h .room; blank = h .blank }
 
   module _ {cartOn order : List ℕ} {g : Grid} {s : List ℕ} {r : Served} (f : Finished (jobOf a) cartOn order g s r) where
     -- All calls are served.
     pub full : {m : ℕ} → r ≡ Yes m → FullFlow (jobOf a) (a .targets) (a .deadlines) (a .calls) cartOn order g s
     full {m} e =
         let all : ServedAll (jobOf a) s (Yes m) = rw e at (f .served) in
-        record { listed = calls-of a w; carts = f .carts; ordered = f .ordered; holds = f .holds; full = all }
+        record { listed = calls-of a; carts = f .carts; ordered = f .ordered; holds = f .holds; full = all }
 
     -- One cannot be.
     pub stuck : {m : ℕ} → r ≡ No m → Failed (jobOf a) (a .targets) (a .deadlines) (a .calls) g s m
     stuck {m} e =
         let all : ServedAll (jobOf a) s (No m) = rw e at (f .served) in
-        record { listed = calls-of a w; holds = f .holds; from = all .0; stuck = all .1 }
+        record { listed = calls-of a; holds = f .holds; from = all .0; stuck = all .1 }

@@ -27,17 +27,15 @@ use Rattle.reader.specs.declared.read.Verdict.the-variants.{Refused}
 use Rattle.job.specs.Arrays.{jobOf, Sized, Long}
 use Rattle.reader.specs.Reading.{Read}
 use Rattle.reader.specs.Lines.{held, kindOf, answerTo, saidBy, SameCounts, Small, Taken, tableSize, noted, Noted}
-use Rattle.job.proofs.Arrays.{whole, tracks-count, carts-count, calls-count}
+use Rattle.job.proofs.Arrays.{tracks-count, carts-count, calls-count}
 use Rattle.reader.proofs.Noted.{noted-zeros, noted-add, noted-length}
 
 -- The counts beside the arrays are those of the job in them.
 abbrev pub countsOf : Job → Counts
 countsOf s = record { cells = s .cells; tracks = s .tracks; carts = s .carts; calls = s .calls }
 
-pub counted : (s : Job) → Sized s → Long s → SameCounts (countsOf s) (jobOf s)
-counted s z g =
-    let w = whole s z g in
-    record { cells = refl; tracks = sym (tracks-count s w); carts = sym (carts-count s w); calls = sym (calls-count s w) }
+pub counted : (s : Job) → SameCounts (countsOf s) (jobOf s)
+counted s = record { cells = refl; tracks = sym (tracks-count s); carts = sym (carts-count s); calls = sym (calls-count s) }
 
 -- What holds at the head of the loop: the rest of the text, read on from the job so far, says what the whole text says.
 pub record ReadSoFar (s : List ℕ) (job : Job) (seen : List ℕ) (at line : ℕ) : Type 0 where
@@ -61,7 +59,7 @@ unfolding readJob
 too-long s h = simp (lt-ltb _ _ h)
 
 pub so-far-counts : {s : List ℕ} {job : Job} {seen : List ℕ} {at line : ℕ} → ReadSoFar s job seen at line → SameCounts (countsOf job) (jobOf job)
-so-far-counts {s} {job} k = counted job (k .sized) (k .long)
+so-far-counts {s} {job} k = counted job
 
 -- The arrays before the first line.
 abbrev pub unfilled : Job

@@ -9,7 +9,7 @@ use Rattle.model.specs.ReadSheet.{cannot, chokeLine}
 use Rattle.sheet.specs.Parts.{chokeRead, ChokeKnown}
 use lib.ListN.{length, length-set}
 use Rattle.model.specs.Choke.{point}
-use Rattle.job.proofs.Pairs.{pairs-more}
+use Rattle.job.proofs.UpTo.{up-set}
 use Rattle.job.specs.Held.{pointsOf}
 use Rattle.sheet.proofs.Lines.{Left, left-all, turn-bad, turn-cut, turn-good, turns-done, turns-over}
 use borrow.Author.Needs.{needs}
@@ -57,7 +57,8 @@ loop-again c =
       simp length-set (l .inv .2),
       simp length-set (l .inv .3),
       λ j q r. turn-good (l .inv .4 j q r) (known-told→in-loop c .loop-test .taken) (known-told→next c .next .ensures) (known-told→else1 c .if1 .left)
-          (sym (ap chokeRead (v .1)) ∙ known-told→choke-line c .choke-line .ensures .0 j q r) (pairs-more point (l .first) (l .second) (l .k) (v .0 .0) (v .0 .1 .0) (omega arith) (omega arith)),
+          (sym (ap chokeRead (v .1)) ∙ known-told→choke-line c .choke-line .ensures .0 j q r)
+          (up-set (λ u v w. point u v) (l .first) (l .second) (l .second) (l .k) (v .0 .0) (v .0 .1 .0) (v .0 .1 .0) (omega arith) (omega arith) (omega arith)),
     )
 
 returns-3 : tie.Need-returns-3 Inv-loop μ-loop

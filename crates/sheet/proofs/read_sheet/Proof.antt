@@ -9,7 +9,7 @@ use Rattle.model.specs.Text.{linesOf}
 use Rattle.model.specs.ReadSheet.{cannot, plan, readSheet}
 use Rattle.job.specs.Arrays.{jobOf}
 use Rattle.job.specs.Held.{Room, pathsTo, pointsOf}
-use Rattle.job.proofs.Arrays.{Whole, long, whole, calls-count, carts-count, deadline-at, last-deadline}
+use Rattle.job.proofs.Arrays.{calls-count, carts-count, deadline-at, last-deadline}
 use Rattle.sheet.specs.declared.Head.{Head}
 use Rattle.sheet.specs.declared.Head.the-variants.{Bad, Plan}
 use Rattle.sheet.specs.Parts.{headGoes, unlessBad, HeadKnown}
@@ -20,11 +20,8 @@ use Rattle.sheet.proofs.read_sheet.Tie as tie
 mod Places
 use Places.*
 
-arrays : (c : tie.Start) → Whole (c .args .t1)
-arrays c = whole (c .args .t1) (c .pre .1) (long (c .args .t1) (c .good .0 .0) (c .good .0 .1 .1))
-
 counted : (c : tie.Start) → length (jobOf (c .args .t1) .calls) ≡ c .args .t1 .calls
-counted c = calls-count (c .args .t1) (arrays c)
+counted c = calls-count (c .args .t1)
 
 returns : tie.Need-returns
 returns c = (whole-cut _ _ (then1→next c .next .ensures) (c .if1 .taken), then1→start c .pre .2, omega arith)
@@ -43,11 +40,10 @@ plan-said : (c : tie.After-read-paths) → let j = jobOf (read-paths→start c .
     unlessBad (c .read-paths .result) (plan (pathsTo (l .0) (l .1 .0) (l .1 .1 .0) (l .1 .1 .1 .0) (length (j .calls)))) ≡ readSheet j (now (read-paths→start c .args .sheet))
 plan-said c =
     let s = read-paths→start c .args .t1 in
-    let w = arrays (read-paths→start c) in
     let n = counted (read-paths→start c) in
     let l = c .read-paths .last .1 .1 .1 .1 .1 .1 in
     plan-whole (jobOf s) _ (λ m. unlessBad (c .read-paths .result) (plan (pathsTo (l .0) (l .1 .0) (l .1 .1 .0) (l .1 .1 .1 .0) m))) n
-    (c .read-paths .ensures .0 (jobOf s) (record { cells-are = refl; carts-are = carts-count s w; calls-are = n; deadlines-are = deadline-at s w }))
+    (c .read-paths .ensures .0 (jobOf s) (record { cells-are = refl; carts-are = carts-count s; calls-are = n; deadlines-are = deadline-at s }))
     (said (read-paths→head-line c) Plan (read-paths→enum-told2 c .enum-told2 .given .1))
 
 returns-3 : tie.Need-returns-3
@@ -69,7 +65,7 @@ cannot-said : (c : tie.After-read-chokes) → let j = jobOf (read-chokes→start
     unlessBad (c .read-chokes .result) (cannot (pointsOf (l .0) (l .1 .0) (read-chokes→head c .head .given .0 .0))) ≡ readSheet j (now (read-chokes→start c .args .sheet))
 cannot-said c =
     let s = read-chokes→start c .args .t1 in
-    c .read-chokes .ensures .0 (jobOf s) refl (last-deadline s (arrays (read-chokes→start c)) ∙ sym (read-chokes→horizon c .horizon .ensures .0))
+    c .read-chokes .ensures .0 (jobOf s) refl (last-deadline s ∙ sym (read-chokes→horizon c .horizon .ensures .0))
     ∙ said (read-chokes→head-line c) _ (read-chokes→head c .head .given .1)
 
 -- the two lists are as long as they were, and the others are as they were

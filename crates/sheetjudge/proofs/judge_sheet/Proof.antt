@@ -9,14 +9,13 @@ use denote.Ref.{now}
 use lib.ListN.{length}
 use Rattle.model.specs.Limits.{maxCalls}
 use Rattle.model.specs.Job.{Job}
-use Rattle.model.specs.Choke.{point}
 use Rattle.model.specs.ReadSheet.{readSheet}
 use Rattle.model.specs.Contracts.{Judged}
 use Rattle.model.proofs.Read.{plan-back, cannot-back}
 use Rattle.job.specs.Arrays.{jobOf}
-use Rattle.job.specs.Held.{pathsTo, pointsOf}
-use Rattle.job.proofs.Arrays.{long, whole, calls-count}
-use Rattle.job.proofs.Pairs.{pairs-count}
+use Rattle.job.specs.Held.{pathsTo, pointAt, pointsOf}
+use Rattle.job.proofs.Arrays.{calls-count}
+use Rattle.job.proofs.UpTo.{up-count}
 use Rattle.sheet.specs.declared.Form.{Form}
 use Rattle.sheet.specs.declared.Form.the-variants.{Bad, Plan, Cannot}
 use Rattle.sheet.specs.Form.{formOf, LineFits}
@@ -90,8 +89,8 @@ is-choke-list-requires c κs =
     let (f, e) = second4→form2 c .form2 .given in
     let few : f .0 ≤ maxCalls = fits m (Cannot (f .0)) e in
     let back = cannot-back (j m) (now (s .args .sheet)) (pointsOf (first m) (second m) (f .0)) (said m (Cannot (f .0)) e) in
-    let count = pairs-count point (first m) (second m) (f .0) (omega (arith, r .firsts)) (omega (arith, r .seconds)) in
-    let calls = calls-count (s .args .job) (whole (s .args .job) (s .pre .1) (long (s .args .job) (s .good .0 .0) (s .good .0 .1 .1))) in
+    let count = up-count (pointAt (first m) (second m)) (f .0) in
+    let calls = calls-count (s .args .job) in
     (s .pre .0, s .pre .1, r .firsts, r .seconds, omega (arith, back .1, count, calls), back .2)
 
 returns-4 : tie.Need-returns-4

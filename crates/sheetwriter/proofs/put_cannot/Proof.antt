@@ -5,8 +5,8 @@ use mathlib.Core.List.{[], _∷_}
 use Prim.Native.Nat.{_*_, _+_, _-_, _<_, _≤_}
 use mathlib.Core.Path.{_∙_, _≡_, refl}
 use native.Mathlib.Omega.{arith}
-use Rattle.job.proofs.Pairs.{pairs-count, pairs-suc}
-use Rattle.job.proofs.Arrays.{calls-count, long, whole}
+use Rattle.job.proofs.UpTo.{up-count, up-suc}
+use Rattle.job.proofs.Arrays.{calls-count}
 use Rattle.model.specs.Text.{chokeWord}
 use Rattle.model.specs.SheetText.{chokeNumbers, linesText}
 use Rattle.sheetwriter.proofs.Laws.{chokes-room, wrote-lines}
@@ -15,7 +15,7 @@ use lib.ListN.{length}
 use Rattle.text.proofs.Wrote.{line-room, wrote-more, wrote-none}
 use denote.Ref.{now}
 use Rattle.model.specs.Choke.{point}
-use Rattle.job.specs.Held.{pointsOf}
+use Rattle.job.specs.Held.{pointAt, pointsOf}
 use borrow.Author.Needs.{needs}
 use Rattle.sheetwriter.proofs.put_cannot.Statement.{statement}
 use Rattle.sheetwriter.proofs.put_cannot.Tie as tie
@@ -33,8 +33,7 @@ loop-holds : tie.Need-loop-holds Inv-loop μ-loop
 loop-holds c =
     let s = slice-known2→start c in
     let j = s .args .job in
-    let g = long j (s .good .0 .0) (s .good .0 .1 .1) in
-    let n : s .args .n < length (jobOf j .calls) = omega (arith, calls-count j (whole j (s .pre .1) g)) in
+    let n : s .args .n < length (jobOf j .calls) = omega (arith, calls-count j) in
     let w = slice-known2→put-head c .put-head .ensures in
     (search needs, omega (arith, chokes-room (jobOf j) (s .pre .0) (s .args .n) n, w .1), refl, wrote-none (omega (arith, w .0 .next, w .0 .fits)))
 
@@ -44,13 +43,11 @@ loop-again c =
     let l = slice-known3→loop c .loop in
     let a = slice-known3→wide c .wide in
     let b = slice-known3→wide2 c .wide2 in
-    let w = slice-known3→put-choke c .put-choke in
-    let h : l .k < length (now (s .cells)) = omega arith in
-    let i : l .k < length (now (s .steps)) = omega arith in (
+    let w = slice-known3→put-choke c .put-choke in (
       omega arith,
       omega (arith, w .ensures .next, line-room chokeWord (a .result ∷ b .result ∷ [])),
       w .kept .0 ∙ l .inv .2,
-      rw (pairs-suc point (now (s .cells)) (now (s .steps)) (l .k) h i, ← a .ensures .0, ← b .ensures .0)
+      rw (up-suc (pointAt (now (s .cells)) (now (s .steps))) (l .k), ← a .ensures .0, ← b .ensures .0)
           (wrote-lines chokeWord chokeNumbers (pointsOf (now (s .cells)) (now (s .steps)) (l .k)) (point (a .result) (b .result)) (l .inv .3) (w .ensures)),
     )
 
@@ -59,7 +56,7 @@ returns c =
     let s = after-loop→start c .args in
     let l = c .before .loop in
     let e : l .k ≡ s .n = omega arith in
-    rw (pairs-count point (now (s .cells)) (now (s .steps)) (s .n) (omega arith) (omega arith)) (wrote-more (after-loop→put-head c .put-head .ensures .0) (rw e at (l .inv .3)))
+    rw (up-count (pointAt (now (s .cells)) (now (s .steps))) (s .n)) (wrote-more (after-loop→put-head c .put-head .ensures .0) (rw e at (l .inv .3)))
 
 pub put-cannot-spec : {M : Type 1} → statement M
 put-cannot-spec =

@@ -6,7 +6,7 @@ use Rattle.text.specs.Wrote.{Wrote}
 use Prim.Native.Nat.{_*_, _+_, _-_, _≤_, _<_}
 use mathlib.Core.Path.{_≡_, refl, _∙_}
 use native.Mathlib.Omega.{arith}
-use Rattle.job.proofs.Arrays.{calls-count, long, whole}
+use Rattle.job.proofs.Arrays.{calls-count}
 use Rattle.job.specs.Arrays.{jobOf}
 use lib.ListN.{length}
 use Rattle.text.proofs.Wrote.{wrote-none, wrote-more}
@@ -30,7 +30,7 @@ abbrev μ-loop : tie.MeasureT-loop
 μ-loop job carts calls lasts rows out₀ p₀ k₀ out p k = job .calls - k
 
 counted : (c : tie.Start Inv-loop μ-loop) → length (jobOf (c .args .job) .calls) ≡ c .args .job .calls
-counted c = let j = c .args .job in calls-count j (whole j (c .pre .1) (long j (c .good .0 .0) (c .good .0 .1 .1)))
+counted c = calls-count (c .args .job)
 
 loop-holds : tie.Need-loop-holds Inv-loop μ-loop
 loop-holds c =

@@ -1,10 +1,11 @@
 -- `in_order` compares each choke point with the one before it. Invariant: those before i rise. The measure is what is left of the n points. Assumes nothing.
+use Rattle.job.specs.Held.{pointAt}
 use Rattle.job.proofs.Tested.{denied, told}
 use Rattle.model.specs.Choke.{Rises}
 use Prim.Native.Nat.{_-_, _<_, _≤_, ℕ}
 use native.Mathlib.Omega.{arith}
 use borrow.Author.Count.{below-more}
-use Rattle.chokejudge.proofs.OrderLaws.{in-order, pointAt}
+use Rattle.chokejudge.proofs.OrderLaws.{in-order}
 use borrow.Author.Tests.{not-false, not-true}
 use denote.Ref.{now}
 use borrow.Author.Needs.{needs}
@@ -25,10 +26,9 @@ loop-holds c = (search needs, λ k l g. absurd (omega arith))
 returns : tie.Need-returns Inv-loop μ-loop
 returns c =
     let a = then1→start c .args in
-    let p = then1→start c .pre in
     let l = then1→loop c .loop in
     denied
-    (λ o. then1→rises c .rises .ensures .1 (not-true _ (c .if1 .taken)) (in-order (now (a .cells)) (now (a .steps)) (a .n) (p .0) (p .1) .0 o (l .i) (then1→in-loop c .loop-test .taken) (l .inv .0)))
+    (λ o. then1→rises c .rises .ensures .1 (not-true _ (c .if1 .taken)) (in-order (now (a .cells)) (now (a .steps)) (a .n) .0 o (l .i) (then1→in-loop c .loop-test .taken) (l .inv .0)))
 
 loop-again : tie.Need-loop-again Inv-loop μ-loop
 loop-again c = (omega arith, below-more _ _ (else1→loop c .loop .inv .1) (λ l. else1→rises c .rises .ensures .0 (not-false _ (c .if1 .left))))
@@ -36,8 +36,7 @@ loop-again c = (omega arith, below-more _ _ (else1→loop c .loop .inv .1) (λ l
 returns-2 : tie.Need-returns-2 Inv-loop μ-loop
 returns-2 c =
     let a = after-loop→start c .args in
-    let p = after-loop→start c .pre in
-    told (in-order (now (a .cells)) (now (a .steps)) (a .n) (p .0) (p .1) .1 (λ k l. after-loop→loop c .loop .inv .1 k (omega arith)))
+    told (in-order (now (a .cells)) (now (a .steps)) (a .n) .1 (λ k l. after-loop→loop c .loop .inv .1 k (omega arith)))
 
 pub in-order-spec : {M : Type 1} → statement M
 in-order-spec =

@@ -1,7 +1,6 @@
 -- `is_choke_list` decides what no walk gets round: the points are in order, and no call is reached without standing on one. Assumes nothing.
 use Rattle.job.proofs.Tested.{denied}
 use Rattle.job.specs.Arrays.{jobOf}
-use Rattle.job.proofs.Arrays.{Whole, long, whole}
 use Prim.Native.Nat.{_≤_}
 use native.Mathlib.Omega.{arith}
 use Rattle.chokejudge.proofs.ChokeLayers.{carts-known, chokes-right, chokes-wrong, closing-of, points-known}
@@ -16,9 +15,6 @@ use Rattle.chokejudge.proofs.choke.is_choke_list.Tie as tie
 mod Places
 use Places.*
 
-arrays : (c : tie.Start) → Whole (c .args .t1)
-arrays c = whole (c .args .t1) (c .pre .1) (long (c .args .t1) (c .good .0 .0) (c .good .0 .1 .1))
-
 enough-cells : (c : tie.Start) → c .args .n ≤ length (now (c .args .cells))
 enough-cells c = omega (arith, c .pre .1 .calls, c .pre .2, c .pre .4)
 
@@ -31,31 +27,30 @@ returns c = denied (λ r. then1→in-order c .in-order .ensures .1 (not-true _ (
 neighbours-requires : tie.Need-neighbours-requires
 neighbours-requires c κs =
     let s = begin→start c in
-    (tracks-of (s .args .t1) (arrays s) (s .pre .0), s .pre .1 .tracks, s .pre .0 .fit .few-cells, search needs, search needs)
+    (tracks-of (s .args .t1) (s .pre .0), s .pre .1 .tracks, s .pre .0 .fit .few-cells, search needs, search needs)
 
 bays-requires : tie.Need-bays-requires
 bays-requires c κs =
     let s = shut→start c in
-    (calls-apart (s .args .t1) (arrays s) (s .pre .0), s .pre .1 .calls, search needs)
+    (calls-apart (s .args .t1) (s .pre .0), s .pre .1 .calls, search needs)
 
 reaches-requires : tie.Need-reaches-requires
 reaches-requires c κs =
     let s = reaches-arg3→start c in
     let p = s .pre in
-    let w = arrays s in
     let cells = now (s .args .cells) in
     let steps = now (s .args .steps) in
     let h = enough-cells s in
     let g = enough-steps s in
-    let r = near-of (s .args .t1) w (reaches-arg3→neighbours c .neighbours .ensures) in
-    let b = shut-of (s .args .t1) w (p .0) (reaches-arg3→bays c .bays .ensures) in (
+    let r = near-of (s .args .t1) (reaches-arg3→neighbours c .neighbours .ensures) in
+    let b = shut-of (s .args .t1) (p .0) (reaches-arg3→bays c .bays .ensures) in (
       p .1 .carts,
       p .1 .calls,
       omega (arith, p .1 .calls, p .4),
       h,
       g,
-      climbs cells steps (s .args .n) (in-order cells steps (s .args .n) h g .0 (reaches-arg3→in-order c .in-order .ensures .0 (not-false _ (reaches-arg3→else1 c .if1 .left)))),
-      (jobOf (s .args .t1), r, carts-known (s .args .t1) w (p .0) r b, points-known (s .args .t1) w (p .0) r b cells steps (s .args .n) h g (p .5), p .0 .fit .few-cells),
+      climbs cells steps (s .args .n) (in-order cells steps (s .args .n) .0 (reaches-arg3→in-order c .in-order .ensures .0 (not-false _ (reaches-arg3→else1 c .if1 .left)))),
+      (jobOf (s .args .t1), r, carts-known (s .args .t1) (p .0) r b, points-known (s .args .t1) (p .0) r b cells steps (s .args .n) (p .5), p .0 .fit .few-cells),
       closing-of (s .args .t1 .kinds) (s .args .t1 .targets) (s .args .t1 .deadlines) (reaches-arg3→bays c .bays .ensures),
     )
 
@@ -63,16 +58,13 @@ returns-2 : tie.Need-returns-2
 returns-2 c =
     let s = reaches→start c in
     let p = s .pre in
-    let w = arrays s in
     let cells = now (s .args .cells) in
     let steps = now (s .args .steps) in
-    let h = enough-cells s in
-    let g = enough-steps s in
-    let r = near-of (s .args .t1) w (reaches→neighbours c .neighbours .ensures) in
-    let b = shut-of (s .args .t1) w (p .0) (reaches→bays c .bays .ensures) in (
-      λ e. chokes-right (s .args .t1) w (p .0) r b cells steps (s .args .n) h g (p .5) (c .reaches .ensures .1 (not-true _ e)) (p .4)
+    let r = near-of (s .args .t1) (reaches→neighbours c .neighbours .ensures) in
+    let b = shut-of (s .args .t1) (p .0) (reaches→bays c .bays .ensures) in (
+      λ e. chokes-right (s .args .t1) (p .0) r b cells steps (s .args .n) (p .5) (c .reaches .ensures .1 (not-true _ e)) (p .4)
           (reaches→in-order c .in-order .ensures .0 (not-false _ (reaches→else1 c .if1 .left))),
-      λ e. chokes-wrong (s .args .t1) w (p .0) r b cells steps (s .args .n) h g (c .reaches .ensures .0 (not-false _ e)),
+      λ e. chokes-wrong (s .args .t1) (p .0) r b cells steps (s .args .n) (c .reaches .ensures .0 (not-false _ e)),
     )
 
 pub is-choke-list-spec : {M : Type 1} → statement M

@@ -6,6 +6,8 @@ use Prim.Native.Nat.{_+_, _-_, _<_, _≤_, ℕ}
 use native.Mathlib.Omega.{arith}
 use native.Mathlib.Nat.{not-suc-le-zero}
 use Rattle.chokejudge.proofs.ClearedLaws.{cursor-first}
+use lib.ListN.{getD}
+use Rattle.model.specs.Job.{lift, call}
 use Rattle.model.specs.Limits.{maxCells, maxSteps}
 use denote.Ref.{now}
 use Rattle.job.proofs.Tested.{denied, told}
@@ -110,7 +112,8 @@ returns-2 : tie.Need-returns-2 Inv-loop μ-loop
 returns-2 c =
     let a = after-loop→start c .args in
     let l = after-loop→loop c .loop in
-    denied (λ m. l .inv .2 (m .0) (m .1) (passed (latest-le (now (a .deadlines)) (a .calls) (m .0) (m .1)) (after-loop→horizon c .horizon .ensures .0) (c .loop-test .left)) (m .2))
+    let last = latest-le (λ k. call lift 0 (getD (now (a .deadlines)) k 0)) (a .calls) in
+    denied (λ m. l .inv .2 (m .0) (m .1) (passed (last (m .0) (m .1)) (after-loop→horizon c .horizon .ensures .0) (c .loop-test .left)) (m .2))
 
 pub reaches-spec : {M : Type 1} → statement M
 reaches-spec =

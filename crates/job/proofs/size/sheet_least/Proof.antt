@@ -4,7 +4,7 @@ use Prim.Native.Nat.{ℕ, _*_, _+_, _<_, _≤_}
 use mathlib.Core.Path.{refl}
 use native.Mathlib.Omega.{arith}
 use Rattle.model.specs.Limits.{maxCarts, maxSteps}
-use Rattle.job.proofs.Arrays.{carts-count, long, whole}
+use Rattle.job.proofs.Arrays.{carts-count}
 use native.Mathlib.Nat.{mul-le-mul}
 use borrow.Author.Needs.{needs}
 use Rattle.job.proofs.size.sheet_least.Statement.{statement}
@@ -28,8 +28,7 @@ add-result-2 c =
 returns : tie.Need-returns
 returns c =
     let s = c .before .before in
-    let g = long (s .args .job) (s .good .0 .0) (s .good .0 .1 .1) in
-    rw (carts-count (s .args .job) (whole (s .args .job) (s .pre) g), ← c .before .last-step .ensures .0) refl
+    rw (carts-count (s .args .job), ← c .before .last-step .ensures .0) refl
 
 pub sheet-least-spec : {M : Type 1} → statement M
 sheet-least-spec = tie.close (tie.spec (λ c κs. search needs) (λ c. search needs) (λ c. search needs) (λ c. search needs) mul-result-2 add-result-2 returns)

@@ -5,7 +5,7 @@ use mathlib.Core.Path.{refl}
 use native.Mathlib.Omega.{arith}
 use native.Mathlib.Nat.{mul-le-mul}
 use Rattle.model.specs.Limits.{maxCells, maxTracks, maxSteps}
-use Rattle.job.proofs.Arrays.{tracks-count, long, whole}
+use Rattle.job.proofs.Arrays.{tracks-count}
 use borrow.Author.Needs.{needs}
 use Rattle.job.proofs.size.store_least.Statement.{statement}
 use Rattle.job.proofs.size.store_least.Tie as tie
@@ -32,8 +32,7 @@ add-result-2 c =
 returns : tie.Need-returns
 returns c =
     let s = c .before .before .before in
-    let g = long (s .args .job) (s .good .0 .0) (s .good .0 .1 .1) in
-    rw (tracks-count (s .args .job) (whole (s .args .job) (s .pre .0) g), ← c .before .before .last-step .ensures .0) refl
+    rw (tracks-count (s .args .job), ← c .before .before .last-step .ensures .0) refl
 
 pub store-least-spec : {M : Type 1} → statement M
 store-least-spec = tie.close (tie.spec (λ c κs. search needs) (λ c. search needs) (λ c. search needs) (λ c. search needs) (λ c. search needs) mul-result-3 add-result-2 returns)

@@ -6,7 +6,7 @@ use Rattle.planjudge.proofs.PlanRight.{Given, known-call, known-cart, r
 use Rattle.job.specs.Bits.{pairsBelow}
 use Rattle.model.specs.Limits.{maxCells}
 use Rattle.job.proofs.BitLaws.{no-bits}
-use Rattle.job.proofs.Arrays.{long, whole, last-deadline}
+use Rattle.job.proofs.Arrays.{last-deadline}
 use borrow.Author.Needs.{needs}
 use borrow.Author.Tests.{not-false, not-true}
 use denote.Ref.{now}
@@ -27,7 +27,6 @@ given c =
     let j = s .args .t1 in
     record {
       ready = s .pre .0;
-      full = whole j (s .pre .1) (long j (s .good .0 .0) (s .good .0 .1 .1));
       fits = record { few = s .pre .1 .calls; ends = s .pre .2 .steps; cells = s .pre .2 .cells };
       bytes = λ k. omega (arith, c .shared-slice-known3 .given k);
       known = s .pre .3;
@@ -48,7 +47,7 @@ bays-requires : tie.Need-bays-requires
 bays-requires c κs =
     let s = shut→start c in
     let g = given (shut→shared-slice-known3 c) in
-    (calls-apart (s .args .t1) (g .full) (g .ready), s .pre .1 .calls, length-replicate {A = ℕ} maxCells 0)
+    (calls-apart (s .args .t1) (g .ready), s .pre .1 .calls, length-replicate {A = ℕ} maxCells 0)
 
 all-lead-requires : tie.Need-all-lead-requires
 all-lead-requires c κs =
@@ -59,7 +58,7 @@ all-lead-requires c κs =
 returns-2 : tie.Need-returns-2
 returns-2 c =
     let g = given (then2→shared-slice-known3 c) in
-    let shuts = shut-of (then2→start c .args .t1) (g .full) (g .ready) (then2→bays c .bays .ensures) in
+    let shuts = shut-of (then2→start c .args .t1) (g .ready) (then2→bays c .bays .ensures) in
     denied (λ r. then2→all-lead c .all-lead .ensures .1 (not-true _ (c .if2 .taken)) (plan-led g (then2→mark c .mark .ensures) shuts (r .0 .leads)))
 
 horizon-requires : tie.Need-horizon-requires
@@ -72,11 +71,11 @@ returns-3 : tie.Need-returns-3
 returns-3 c =
     let g = given (all-clear→shared-slice-known3 c) in
     let j = all-clear→start c .args .t1 in
-    let shuts = shut-of j (g .full) (g .ready) (all-clear→bays c .bays .ensures) in
+    let shuts = shut-of j (g .ready) (all-clear→bays c .bays .ensures) in
     let h = all-clear→horizon c .horizon in
     let order = all-clear→in-order c .in-order .ensures .0 (not-false _ (all-clear→else1 c .if1 .left)) in
     let led = all-clear→all-lead c .all-lead .ensures .0 (not-false _ (all-clear→else2 c .if2 .left)) in
-    let late : horizon (jobOf j) ≤ h .result = omega (arith, last-deadline j (g .full), h .ensures .0) in
+    let late : horizon (jobOf j) ≤ h .result = omega (arith, last-deadline j, h .ensures .0) in
     same-answer (λ clear. tests-right g (all-clear→mark c .mark .ensures) shuts (h .result) late clear order led) (λ r t l. plan-clear g (r .0) t) (c .all-clear .ensures)
 
 pub is-plan-spec : {M : Type 1} → statement M

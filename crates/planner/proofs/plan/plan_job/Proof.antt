@@ -11,12 +11,13 @@ use Rattle.model.specs.Plan.{Path}
 use Rattle.model.specs.Choke.{Point}
 use Rattle.model.proofs.Floor.{path-known}
 use Rattle.job.specs.Arrays.{jobOf}
-use Rattle.job.specs.Held.{pathsTo, pointsOf}
-use Rattle.job.proofs.Arrays.{long, whole, calls-count}
+use Rattle.job.specs.Held.{pathsTo, pointAt, pointsOf}
+use Rattle.job.proofs.Arrays.{calls-count}
+use Rattle.job.proofs.UpTo.{up-count}
 use Rattle.planner.specs.declared.solve.Solution.{Solution}
 use Rattle.planner.specs.declared.solve.Solution.the-variants.{Plan, Cannot}
 use Rattle.planner.specs.Solved.{Solved}
-use Rattle.planner.proofs.Sheets.{plan-short, chokes-short, points-few, plan-written, chokes-written}
+use Rattle.planner.proofs.Sheets.{plan-short, chokes-short, plan-written, chokes-written}
 use borrow.Author.Needs.{needs}
 use Rattle.planner.proofs.plan.plan_job.Statement.{statement}
 use Rattle.planner.proofs.plan.plan_job.Tie as tie
@@ -73,9 +74,8 @@ put-cannot-requires c κs =
     let (f, e) = put-cannot-arg→solution c .solution .given in
     let right = solved m (Cannot (f .0)) e in
     let room = m .solve .ensures .1 in
-    let calls = calls-count (s .args .job) (whole (s .args .job) (s .pre .1) (long (s .args .job) (s .good .0 .0) (s .good .0 .1 .1))) in
-    let few = points-few (first m) (second m) (f .0) (length (job m .calls)) (room .firsts) (room .seconds) (s .pre .0 .fit .few-calls) (right .0 .few) in
-    (s .pre .0, s .pre .1, room .firsts, room .seconds, omega (arith, few, calls), s .pre .3)
+    let count = up-count (pointAt (first m) (second m)) (f .0) in
+    (s .pre .0, s .pre .1, room .firsts, room .seconds, omega (arith, right .0 .few, count, calls-count (s .args .job)), s .pre .3)
 
 packed-requires-2 : tie.Need-packed-requires-2
 packed-requires-2 c κs =

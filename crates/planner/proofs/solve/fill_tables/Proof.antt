@@ -1,5 +1,4 @@
 -- `fill_tables` meets its contract: the job's arrays have what each table asks for, and each table is the job's. Assumes nothing.
-use Rattle.job.proofs.Arrays.{Whole, long, whole}
 use Rattle.floor.proofs.JobTables.{calls-apart, carts-apart, carts-of, due-of, shut-of, near-of, tracks-of}
 use borrow.Author.Needs.{needs}
 use Rattle.planner.proofs.solve.fill_tables.Statement.{statement}
@@ -7,30 +6,26 @@ use Rattle.planner.proofs.solve.fill_tables.Tie as tie
 mod Places
 use Places.*
 
-arrays-long : (c : tie.Start) → Whole (c .args .t1)
-arrays-long c = whole (c .args .t1) (c .pre .1) (long (c .args .t1) (c .good .0 .0) (c .good .0 .1 .1))
-
 neighbours-requires : tie.Need-neighbours-requires
-neighbours-requires c κs = let s = neighbours-arg4→start c in (tracks-of (s .args .t1) (arrays-long s) (s .pre .0), s .pre .1 .tracks, s .pre .0 .fit .few-cells, s .pre .2, s .pre .3)
+neighbours-requires c κs = let s = neighbours-arg4→start c in (tracks-of (s .args .t1) (s .pre .0), s .pre .1 .tracks, s .pre .0 .fit .few-cells, s .pre .2, s .pre .3)
 
 deadlines-requires : tie.Need-deadlines-requires
-deadlines-requires c κs = let s = deadlines-arg3→start c in (calls-apart (s .args .t1) (arrays-long s) (s .pre .0), s .pre .1 .calls, s .pre .4)
+deadlines-requires c κs = let s = deadlines-arg3→start c in (calls-apart (s .args .t1) (s .pre .0), s .pre .1 .calls, s .pre .4)
 
 bays-requires : tie.Need-bays-requires
-bays-requires c κs = let s = bays-arg4→start c in (calls-apart (s .args .t1) (arrays-long s) (s .pre .0), s .pre .1 .calls, s .pre .5)
+bays-requires c κs = let s = bays-arg4→start c in (calls-apart (s .args .t1) (s .pre .0), s .pre .1 .calls, s .pre .5)
 
 carts-requires : tie.Need-carts-requires
-carts-requires c κs = let s = carts-arg2→start c in (carts-apart (s .args .t1) (arrays-long s) (s .pre .0), s .pre .1 .carts, s .pre .6)
+carts-requires c κs = let s = carts-arg2→start c in (carts-apart (s .args .t1) (s .pre .0), s .pre .1 .carts, s .pre .6)
 
 returns : tie.Need-returns
 returns c =
     let s = slice-known10→start c in
-    let w = arrays-long s in
     record {
-      sides = near-of (s .args .t1) w (slice-known10→neighbours c .neighbours .ensures);
-      dues = due-of (s .args .t1) w (s .pre .0) (slice-known10→deadlines c .deadlines .ensures);
-      shuts = shut-of (s .args .t1) w (s .pre .0) (slice-known10→bays c .bays .ensures);
-      carts = carts-of (s .args .t1) w (s .pre .0) (slice-known10→carts c .carts .ensures);
+      sides = near-of (s .args .t1) (slice-known10→neighbours c .neighbours .ensures);
+      dues = due-of (s .args .t1) (s .pre .0) (slice-known10→deadlines c .deadlines .ensures);
+      shuts = shut-of (s .args .t1) (s .pre .0) (slice-known10→bays c .bays .ensures);
+      carts = carts-of (s .args .t1) (s .pre .0) (slice-known10→carts c .carts .ensures);
     }
 
 pub fill-tables-spec : {M : Type 1} → statement M

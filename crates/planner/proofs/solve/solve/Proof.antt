@@ -1,6 +1,5 @@
 -- `solve` meets its contract: the wiped store is a flow that uses no node; serving all calls on it gives a flow that serves them all, or the marks of a search that failed,
 -- from which the answer is written. Assumes nothing.
-use Rattle.job.proofs.Arrays.{Whole, long, whole}
 use mathlib.Core.Path.{_∙_, _≡_, ap}
 use native.Mathlib.Omega.{arith}
 use Rattle.network.proofs.NodeBytes.{few-nodes}
@@ -15,9 +14,6 @@ use Rattle.planner.proofs.solve.solve.Statement.{statement}
 use Rattle.planner.proofs.solve.solve.Tie as tie
 mod Places
 use Places.*
-
-arrays-long : (c : tie.Start) → Whole (c .args .t1)
-arrays-long c = whole (c .args .t1) (c .pre .1) (long (c .args .t1) (c .good .0 .0) (c .good .0 .1 .1))
 
 grid-made : (c : tie.After-last-step) → gridTo (jobOf (last-step→start c .args .t1)) (c .last-step .result) ≡ gridOf (jobOf (last-step→start c .args .t1))
 grid-made c = grid-is (jobOf (last-step→start c .args .t1)) (c .last-step .ensures .0)
@@ -38,7 +34,7 @@ serve-job-requires c κs =
       search needs,
       record {
         ready = s .pre .0;
-        ordered = order-of (s .args .t1) (arrays-long s) (serve-job-arg2→by-deadline c .by-deadline .ensures);
+        ordered = order-of (s .args .t1) (serve-job-arg2→by-deadline c .by-deadline .ensures);
         grid = g;
         room = roomy j (serve-job-arg2→wipe c .wipe .last .0) g (rw same (s .pre .2));
         blank = blank;

@@ -1,5 +1,4 @@
 -- `write_answer` meets its contract: a flow that serves every call becomes the plan, and the marks of a search that failed show the choke list. Assumes nothing.
-use Rattle.job.proofs.Arrays.{Whole, long, whole}
 use Rattle.planner.proofs.SolveParts.{full, stuck}
 use Rattle.job.specs.Arrays.{jobOf}
 use borrow.Author.Needs.{needs}
@@ -8,28 +7,25 @@ use Rattle.planner.proofs.solve.write_answer.Tie as tie
 mod Places
 use Places.*
 
-arrays-long : (c : tie.Start) → Whole (c .args .t1)
-arrays-long c = whole (c .args .t1) (c .pre .0) (long (c .args .t1) (c .good .0 .0) (c .good .0 .1 .1))
-
 write-paths-requires : tie.Need-write-paths-requires
-write-paths-requires c κs = let s = write-paths-arg6→start c in ((jobOf (s .args .t1), full (s .args .t1) (arrays-long s) (s .pre .1) (write-paths-arg6→enum-told c .enum-told .given .1)), s .pre .2)
+write-paths-requires c κs = let s = write-paths-arg6→start c in ((jobOf (s .args .t1), full (s .args .t1) (s .pre .1) (write-paths-arg6→enum-told c .enum-told .given .1)), s .pre .2)
 
 returns : tie.Need-returns
 returns c =
     let s = slice-known7→start c in
     let h = slice-known7→write-paths c .write-paths .ensures in
-    (h .0, h .1 (jobOf (s .args .t1)) (full (s .args .t1) (arrays-long s) (s .pre .1) (slice-known7→enum-told c .enum-told .given .1)))
+    (h .0, h .1 (jobOf (s .args .t1)) (full (s .args .t1) (s .pre .1) (slice-known7→enum-told c .enum-told .given .1)))
 
 list-chokes-requires : tie.Need-list-chokes-requires
 list-chokes-requires c κs = let s = list-chokes-arg4→start c in
-    ((jobOf (s .args .t1), stuck (s .args .t1) (arrays-long s) (s .pre .1) (list-chokes-arg4→served c .served .given .1)), s .pre .2 .firsts, s .pre .2 .seconds)
+    ((jobOf (s .args .t1), stuck (s .args .t1) (s .pre .1) (list-chokes-arg4→served c .served .given .1)), s .pre .2 .firsts, s .pre .2 .seconds)
 
 returns-2 : tie.Need-returns-2
 returns-2 c =
     let s = slice-known9→start c in
     let h = slice-known9→list-chokes c .list-chokes .ensures in (
       record { firsts = h .0; seconds = h .1; steps = s .pre .2 .steps; cells = s .pre .2 .cells },
-      h .2 (jobOf (s .args .t1)) (stuck (s .args .t1) (arrays-long s) (s .pre .1) (slice-known9→served c .served .given .1)),
+      h .2 (jobOf (s .args .t1)) (stuck (s .args .t1) (s .pre .1) (slice-known9→served c .served .given .1)),
     )
 
 pub write-answer-spec : {M : Type 1} → statement M

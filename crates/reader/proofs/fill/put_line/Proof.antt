@@ -6,23 +6,21 @@ use native.Mathlib.Omega.{arith}
 use denote.Ref.{now}
 use lib.ListN.{length, length-set}
 use Rattle.model.specs.Limits.{maxTracks, maxCarts, maxCalls}
-use Rattle.model.specs.Job.{CallKind, track}
+use Rattle.model.specs.Job.{CallKind, track, call}
 use Rattle.model.specs.ReadJob.{callLine}
+use Rattle.job.specs.Arrays as arrays
 use Rattle.job.specs.declared.state.Job.{Job}
 use Rattle.reader.specs.Lines.{kindOf, held}
-use Rattle.job.proofs.Pairs.{first-more, pairs-more}
-use Rattle.job.proofs.Arrays.{Whole, whole, calls-more, tracks-room, carts-room, calls-room}
+use Rattle.job.proofs.UpTo.{up-set}
+use Rattle.job.proofs.Arrays.{tracks-room, carts-room, calls-room}
 use Rattle.reader.proofs.Tests.{called}
 use borrow.Author.Needs.{needs}
 use Rattle.reader.proofs.fill.put_line.Statement.{statement}
 use Rattle.reader.proofs.fill.put_line.Tie as tie
 
--- The job that the arrays hold at first, and that they are long enough for it.
+-- The job that the arrays hold at first.
 abbrev job : tie.Start → Job
 job s = held (s .args .counts) (now (s .args .from)) (now (s .args .to)) (now (s .args .starts)) (now (s .args .kinds)) (now (s .args .targets)) (now (s .args .deadlines))
-
-spacious : (s : tie.Start) → Whole (job s)
-spacious s = whole (job s) (s .pre .sized) (s .pre .long)
 
 returns : tie.Need-returns
 returns c = record { adds = rw (c .enum-told .given .1); sized = search needs; long = search needs }
@@ -31,7 +29,7 @@ cast-from : tie.Need-cast-from
 cast-from c = let s = rw (c .enum-told2 .given .1) at (c .before .before .pre .small) in omega arith
 
 element-write-from : tie.Need-element-write-from
-element-write-from c = let s = c .before .before in tracks-room (job s) (spacious s) (rw (c .enum-told2 .given .1) at (s .pre .room))
+element-write-from c = let s = c .before .before in tracks-room (job s) (rw (c .enum-told2 .given .1) at (s .pre .room))
 
 cast-to : tie.Need-cast-to
 cast-to c = let s = rw (c .enum-told2 .given .1) at (c .before .before .pre .small) in omega arith
@@ -44,7 +42,7 @@ returns-2 c =
     let h : j .tracks < length (j .from) = omega (arith, s .pre .long .from) in
     let k : j .tracks < length (j .to) = omega (arith, s .pre .long .to) in
     record {
-      adds = rw (c .enum-told2 .given .1, pairs-more track (j .from) (j .to) (j .tracks) (s .args .a) (s .args .b) h k);
+      adds = rw (c .enum-told2 .given .1, up-set (λ u v w. track u v) (j .from) (j .to) (j .to) (j .tracks) (s .args .a) (s .args .b) (s .args .b) h k k);
       sized = record { tracks = omega arith; carts = s .pre .sized .carts; calls = s .pre .sized .calls };
       long = record {
         from = simp length-set (s .pre .long .from);
@@ -60,7 +58,7 @@ cast-starts : tie.Need-cast-starts
 cast-starts c = let s = rw (c .enum-told3 .given .1) at (c .before .before .pre .small) in omega arith
 
 element-write-starts : tie.Need-element-write-starts
-element-write-starts c = let s = c .before .before in carts-room (job s) (spacious s) (rw (c .enum-told3 .given .1) at (s .pre .room))
+element-write-starts c = let s = c .before .before in carts-room (job s) (rw (c .enum-told3 .given .1) at (s .pre .room))
 
 returns-3 : tie.Need-returns-3
 returns-3 c =
@@ -69,7 +67,7 @@ returns-3 c =
     let room : j .carts < maxCarts = element-write-starts c in
     let h : j .carts < length (j .starts) = omega (arith, s .pre .long .starts) in
     record {
-      adds = rw (c .enum-told3 .given .1, first-more (j .starts) (j .carts) (s .args .a) h);
+      adds = rw (c .enum-told3 .given .1, up-set (λ u v w. u) (j .starts) (j .starts) (j .starts) (j .carts) (s .args .a) (s .args .a) (s .args .a) h h h);
       sized = record { tracks = s .pre .sized .tracks; carts = omega arith; calls = s .pre .sized .calls };
       long = record {
         from = s .pre .long .from;
@@ -89,7 +87,7 @@ element-write-kinds : tie.Need-element-write-kinds
 element-write-kinds c =
     let s = c .before .before in
     let (q, e) = told c in
-    calls-room (job s) (spacious s) q (rw e at (s .pre .room))
+    calls-room (job s) q (rw e at (s .pre .room))
 
 cast-targets : tie.Need-cast-targets
 cast-targets c = let s = rw (told c .1) at (c .before .before .pre .small) in omega arith
@@ -107,7 +105,7 @@ returns-4 c =
     let k : j .calls < length (j .targets) = omega (arith, s .pre .long .targets) in
     let l : j .calls < length (j .deadlines) = omega (arith, s .pre .long .deadlines) in
     record {
-      adds = rw (e, calls-more (j .kinds) (j .targets) (j .deadlines) (j .calls) (c .kind-byte .result) (s .args .a) (s .args .b) h k l, c .kind-byte .ensures q e);
+      adds = rw (e, up-set (λ u v w. call (arrays.kindOf u) v w) (j .kinds) (j .targets) (j .deadlines) (j .calls) (c .kind-byte .result) (s .args .a) (s .args .b) h k l, c .kind-byte .ensures q e);
       sized = record { tracks = s .pre .sized .tracks; carts = s .pre .sized .carts; calls = omega arith };
       long = record {
         from = s .pre .long .from;
