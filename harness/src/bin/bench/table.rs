@@ -49,7 +49,8 @@ pub fn least(values: impl Iterator<Item = f64>) -> f64 {
     values.fold(f64::NAN, f64::min)
 }
 
+/// Of those that are numbers.
 pub fn geometric_mean(values: impl Iterator<Item = f64>) -> f64 {
-    let (sum, n) = values.fold((0.0, 0), |(sum, n), value| (sum + value.ln(), n + 1));
+    let (sum, n) = values.filter(|value| !value.is_nan()).fold((0.0, 0), |(sum, n), value| (sum + value.ln(), n + 1));
     (sum / n as f64).exp()
 }
