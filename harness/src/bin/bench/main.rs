@@ -57,6 +57,7 @@ fn main() {
     let measured = |name: &str, jobs: &[Job], peers: &[Peer]| Measured {
         name: name.into(),
         jobs: jobs.iter().map(|job| measure(job, peers, before, effort)).collect(),
+        has_bays: jobs.iter().any(Job::has_bays),
     };
 
     let mut families = Vec::new();
@@ -93,7 +94,7 @@ fn of_side(side: usize) -> (Size, Measured) {
     let size = Size { side, carts: side * side / 4, last: side * side - 1 };
     let jobs: Vec<Job> = (0..20).map(|i| OPEN_GRID.job(size, i)).collect();
     let jobs = jobs.iter().map(|job| measure(job, &[], None, QUICK)).collect();
-    (size, Measured { name: String::new(), jobs })
+    (size, Measured { name: String::new(), jobs, has_bays: false })
 }
 
 fn listed(names: &[&str]) -> String {

@@ -9,6 +9,7 @@ use crate::table::{geometric_mean, least, median, most, Table};
 pub struct Measured {
     pub name: String,
     pub jobs: Vec<Figures>,
+    pub has_bays: bool,
 }
 
 impl Measured {
@@ -56,11 +57,15 @@ fn visits(f: &Figures) -> f64 {
 pub fn ratios(families: &[Measured], open_grid: &Measured, filed: Option<Filed>) {
     let all = || families.iter().flat_map(|family| &family.jobs);
     let medians = |of: fn(&Figures) -> f64| families.iter().map(move |family| family.median(of));
+    let without =
+        |of: fn(&Figures) -> f64| families.iter().filter(|f| !f.has_bays).map(move |family| family.median(of));
     let mut table = Table::new(&["ratio", "asked", "measured"]);
     let mut row = |name: &str, asked: &str, value: f64| table.row([name.into(), asked.into(), shown(value, 2)]);
     row("plan / baseline, geometric mean of the families", "at most 1.1", geometric_mean(medians(to_baseline)));
+    row("plan / baseline, geometric mean without bays", "", geometric_mean(without(to_baseline)));
     row("plan / baseline, worst family", "at most 2", most(medians(to_baseline)));
     row("best peer / plan, geometric mean of the families", "at least 25", geometric_mean(medians(of_peer)));
+    row("best peer / plan, geometric mean without bays", "", geometric_mean(without(of_peer)));
     row("best peer / plan, worst job", "at least 2", least(all().map(of_peer)));
     row("best peer / plan with LEMON tuned, geometric mean", "", geometric_mean(medians(of_tuned)));
     row("best peer / plan with LEMON tuned, worst job", "", least(all().map(of_tuned)));
