@@ -23,10 +23,10 @@ use Rattle.job.specs.declared.state.Job.{Job}
 use Rattle.job.specs.Held.{Some, pointAt, pointsOf}
 use Rattle.job.proofs.UpTo.{up-count, in-up}
 use Rattle.job.proofs.Arrays.{in-carts, in-calls, calls-count}
-use Rattle.floor.specs.Tables.{Near, Shut}
+use Rattle.floor.specs.Tables.{OpenAt, Near, Shut}
 use Rattle.floor.specs.Made.{Filled, never, closesAt}
 use Rattle.floor.proofs.JobTables.{move-even, near-even}
-use Rattle.chokejudge.specs.ChokeLayers.{Placed, Choked, Side, OpenAt, Closing, Reached, SomeCallIn}
+use Rattle.chokejudge.specs.ChokeLayers.{Placed, Choked, Side, Closing, Reached, SomeCallIn}
 use Rattle.chokejudge.proofs.LayerLaws.{layer-known}
 use Rattle.chokejudge.proofs.ChokeWalks.{Free, point-eq, chokes}
 

@@ -8,7 +8,8 @@ use mathlib.Core.Logic.{⊎-elim, _⊎_, _↔_, inl, inr}
 use native.Mathlib.Omega.{arith}
 use native.Mathlib.Numerals.{add-one}
 use lib.ListN.{getD}
-use Rattle.chokejudge.specs.ChokeLayers.{OpenAt, Layer}
+use Rattle.floor.specs.Tables.{OpenAt}
+use Rattle.chokejudge.specs.ChokeLayers.{Layer}
 use Rattle.chokejudge.specs.Grown.{Between, Older, Grown, Cleared}
 use Rattle.chokejudge.proofs.Numbers.{zero-or}
 

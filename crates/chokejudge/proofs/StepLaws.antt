@@ -11,9 +11,9 @@ use lib.ListN.{length, getD, List·getD-eq-default}
 use Rattle.model.specs.Limits.{maxCells, maxCalls, maxSteps}
 use Rattle.model.specs.Job.{Job}
 use Rattle.job.specs.Held.{Some}
-use Rattle.floor.specs.Tables.{Near}
+use Rattle.floor.specs.Tables.{OpenAt, Near}
 use Rattle.floor.proofs.JobTables.{near-even}
-use Rattle.chokejudge.specs.ChokeLayers.{Placed, Choked, Side, OpenAt, Closing, Reached, SomeCallIn}
+use Rattle.chokejudge.specs.ChokeLayers.{Placed, Choked, Side, Closing, Reached, SomeCallIn}
 use Rattle.chokejudge.specs.Grown.{Between, Older, Again, Onward, Roomy, Grown, Cleared, Cursor, members, queueSize}
 use Rattle.chokejudge.proofs.Numbers.{below-or}
 use Rattle.chokejudge.proofs.GrownLaws.{grown-as}

@@ -6,7 +6,7 @@ use lib.ListN.{getD}
 use Rattle.model.specs.Limits.{maxCells, maxSteps}
 use Rattle.model.specs.Lists.{In}
 use Rattle.job.specs.Held.{Some}
-use Rattle.floor.specs.Tables.{rowOf}
+use Rattle.floor.specs.Tables.{rowOf, OpenAt}
 
 -- One of the first n carts starts on v.
 abbrev pub Placed : List ℕ → ℕ → ℕ → Type 0
@@ -19,10 +19,6 @@ Side near begin c x = In x (rowOf near begin c)
 -- One of the first n points is v at the step t.
 abbrev pub Choked : List ℕ → List ℕ → ℕ → ℕ → ℕ → Type 0
 Choked cells steps n t v = Some n (λ k. (getD steps k 0 ≡ t) × (getD cells k 0 ≡ v))
-
--- v is open at the step t: its entry, the first step at which it is closed, is later.
-abbrev pub OpenAt : List ℕ → ℕ → ℕ → Type 0
-OpenAt shut t v = t < getD shut v 0
 
 -- What the table says of the calls: at step 0 every cell is open, and one that closes behind a step has a call then.
 pub record Closing (targets deadlines : List ℕ) (calls : ℕ) (shut : List ℕ) : Type 0 where

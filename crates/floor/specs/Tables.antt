@@ -43,10 +43,13 @@ pub record Due (j : Job) (due : List ℕ) : Type 0 where
   pub size : length due ≡ maxCells
   pub targets : (c t : ℕ) → c < j .cells → (getD due c 0 ≡ t + 1) ↔ ((k : CallKind) × In (call k c t) (j .calls))
 
--- Entry c of `shut` is the first step at which c is closed, or one past all steps.
+-- Entry c of `shut` is the first step at which c is closed, or one past all steps: by it, c is open at the step t.
+abbrev pub OpenAt : List ℕ → ℕ → ℕ → Type 0
+OpenAt shut t c = t < getD shut c 0
+
 pub record Shut (j : Job) (shut : List ℕ) : Type 0 where
   pub size : length shut ≡ maxCells
-  pub opens : (c t : ℕ) → c < maxCells → t ≤ maxSteps → (t < getD shut c 0) ↔ Open j t c
+  pub opens : (c t : ℕ) → c < maxCells → t ≤ maxSteps → OpenAt shut t c ↔ Open j t c
 
 -- row c at the step t: none where c is closed then
 abbrev pub rowAt : List ℕ → List ℕ → List ℕ → ℕ → ℕ → List ℕ

@@ -14,15 +14,15 @@ upTo f zero = []
 upTo f (suc n) = upTo f n ++ (f n ∷ [])
 
 -- the kind of a call, by its byte
-abbrev pub kindOf : ℕ → CallKind
-kindOf zero = lift
-kindOf (suc n) = bay
+abbrev pub callKind : ℕ → CallKind
+callKind zero = lift
+callKind (suc n) = bay
 
 abbrev pub trackAt : List ℕ → List ℕ → ℕ → model.Track
 trackAt from to k = track (getD from k 0) (getD to k 0)
 
 abbrev pub callAt : List ℕ → List ℕ → List ℕ → ℕ → model.Call
-callAt kinds targets deadlines k = call (kindOf (getD kinds k 0)) (getD targets k 0) (getD deadlines k 0)
+callAt kinds targets deadlines k = call (callKind (getD kinds k 0)) (getD targets k 0) (getD deadlines k 0)
 
 abbrev pub jobOf : Job → model.Job
 jobOf s = record {

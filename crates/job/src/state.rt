@@ -1,7 +1,12 @@
 // A job as arrays with their counts.
 use model::Limits;
 
-// The first `tracks` entries of `from` and `to` are the tracks, and so for carts and calls. Of a call: its kind, 0 for a lift and 1 for a bay, its cell and its deadline.
+// The kind of a call, as a byte.
+pub const LIFT: u8 = 0;
+
+pub const BAY: u8 = 1;
+
+// The first `tracks` entries of `from` and `to` are the tracks, and so for carts and calls. Of a call: its kind, its cell and its deadline.
 pub struct Job {
     pub cells: usize,
     pub tracks: usize,

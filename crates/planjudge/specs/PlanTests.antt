@@ -6,6 +6,7 @@ use mathlib.Core.Logic.{_⊎_}
 use mathlib.Core.Bool.{true}
 use lib.ListN.{getD, length}
 use Rattle.job.specs.Bits.{bitAt, pairAt}
+use Rattle.floor.specs.Tables.{OpenAt}
 use Rattle.floor.specs.Order.{SoonerIn}
 use Rattle.model.specs.Limits.{maxCells, maxCalls, maxSteps}
 
@@ -42,7 +43,7 @@ Goes table u v = (u ≡ v) ⊎ (bitAt table (pairAt u v) ≡ true)
 
 -- By the tables, it may do so from the step t to the next: `shut` has for each cell the first step at which it is closed.
 abbrev pub Allowed : List ℕ → List ℕ → ℕ → ℕ → ℕ → Type 0
-Allowed table shut t u v = Goes table u v × (t + 1 < getD shut v 0)
+Allowed table shut t u v = Goes table u v × OpenAt shut (t + 1) v
 
 -- By the tables, path k walks up to the step d.
 abbrev pub Walks : List ℕ → List ℕ → List ℕ → ℕ → ℕ → Type 0

@@ -1,15 +1,16 @@
 // Filling the arrays of a job line by line, and the table of what stands in them already.
 use job::bits;
 use job::bits::pair;
+use job::state::BAY;
 use job::state::Job;
+use job::state::LIFT;
 use model::Limits;
 ghost use mathlib.Core.Path.{_≡_};
 ghost use Prim.Native.Nat.{_*_};
 ghost use lib.ListN.{length};
 ghost use Rattle.model.specs.Job.{CallKind};
 ghost use Rattle.model.specs.ReadJob.{callLine, noJob};
-ghost use Rattle.job.specs.Arrays as arrays;
-ghost use Rattle.job.specs.Arrays.{jobOf, Sized};
+ghost use Rattle.job.specs.Arrays.{callKind, jobOf, Sized};
 ghost use Rattle.reader.specs.Lines.{kindOf, held, Small, Takes, Taken, placeOf, noted, tableSize};
 
 // How much of the arrays of a job is filled, as its lines are read.
@@ -60,12 +61,12 @@ pub fn empty() -> Job
 
 // The byte that stands for the kind of a call; of another line it says nothing.
 fn kind_byte(kind: Kind) -> u8
-    ensures { λ r. ⌜ ((q : CallKind) → kindOf kind ≡ callLine q → arrays.kindOf r ≡ q) ⌝ }
+    ensures { λ r. ⌜ ((q : CallKind) → kindOf kind ≡ callLine q → callKind r ≡ q) ⌝ }
 {
     if let Kind::Bay = kind {
-        return 1;
+        return BAY;
     }
-    0
+    LIFT
 }
 
 // Puts the numbers of a line at the end of the arrays of its kind. Answers the counts with one line more.

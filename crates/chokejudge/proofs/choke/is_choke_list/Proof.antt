@@ -43,7 +43,7 @@ reaches-requires c κs =
     let h = enough-cells s in
     let g = enough-steps s in
     let r = near-of (s .args .t1) (reaches-arg3→neighbours c .neighbours .ensures) in
-    let b = shut-of (s .args .t1) (p .0) (reaches-arg3→bays c .bays .ensures) in (
+    let b = shut-of (s .args .t1) (reaches-arg3→bays c .bays .ensures) in (
       p .1 .carts,
       p .1 .calls,
       omega (arith, p .1 .calls, p .4),
@@ -61,7 +61,7 @@ returns-2 c =
     let cells = now (s .args .cells) in
     let steps = now (s .args .steps) in
     let r = near-of (s .args .t1) (reaches→neighbours c .neighbours .ensures) in
-    let b = shut-of (s .args .t1) (p .0) (reaches→bays c .bays .ensures) in (
+    let b = shut-of (s .args .t1) (reaches→bays c .bays .ensures) in (
       λ e. chokes-right (s .args .t1) (p .0) r b cells steps (s .args .n) (p .5) (c .reaches .ensures .1 (not-true _ e)) (p .4)
           (reaches→in-order c .in-order .ensures .0 (not-false _ (reaches→else1 c .if1 .left))),
       λ e. chokes-wrong (s .args .t1) (p .0) r b cells steps (s .args .n) (c .reaches .ensures .0 (not-false _ e)),

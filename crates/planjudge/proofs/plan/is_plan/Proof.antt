@@ -58,7 +58,7 @@ all-lead-requires c κs =
 returns-2 : tie.Need-returns-2
 returns-2 c =
     let g = given (then2→shared-slice-known3 c) in
-    let shuts = shut-of (then2→start c .args .t1) (g .ready) (then2→bays c .bays .ensures) in
+    let shuts = shut-of (then2→start c .args .t1) (then2→bays c .bays .ensures) in
     denied (λ r. then2→all-lead c .all-lead .ensures .1 (not-true _ (c .if2 .taken)) (plan-led g (then2→mark c .mark .ensures) shuts (r .0 .leads)))
 
 horizon-requires : tie.Need-horizon-requires
@@ -71,7 +71,7 @@ returns-3 : tie.Need-returns-3
 returns-3 c =
     let g = given (all-clear→shared-slice-known3 c) in
     let j = all-clear→start c .args .t1 in
-    let shuts = shut-of j (g .ready) (all-clear→bays c .bays .ensures) in
+    let shuts = shut-of j (all-clear→bays c .bays .ensures) in
     let h = all-clear→horizon c .horizon in
     let order = all-clear→in-order c .in-order .ensures .0 (not-false _ (all-clear→else1 c .if1 .left)) in
     let led = all-clear→all-lead c .all-lead .ensures .0 (not-false _ (all-clear→else2 c .if2 .left)) in

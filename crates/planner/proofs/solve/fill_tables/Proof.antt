@@ -24,7 +24,7 @@ returns c =
     record {
       sides = near-of (s .args .t1) (slice-known10→neighbours c .neighbours .ensures);
       dues = due-of (s .args .t1) (s .pre .0) (slice-known10→deadlines c .deadlines .ensures);
-      shuts = shut-of (s .args .t1) (s .pre .0) (slice-known10→bays c .bays .ensures);
+      shuts = shut-of (s .args .t1) (slice-known10→bays c .bays .ensures);
       carts = carts-of (s .args .t1) (s .pre .0) (slice-known10→carts c .carts .ensures);
     }
 

@@ -23,8 +23,11 @@ no-bay Cart h q e = nope (cc)
 no-bay Call h q e = cc
 no-bay Bay h q e = absurd (⊎-elim (λ e. omega arith) (⊎-elim (λ e. omega arith) (⊎-elim (λ e. omega arith) (λ e. omega arith))) h)
 
+kind-same : (p q : CallKind) → callLine p ≡ callLine q → p ≡ q
+kind-same p q e = cc
+
 returns : tie.Need-returns
-returns c = λ q e. let f : callLine bay ≡ callLine q = rw (c .enum-told .given .1) at e in cc
+returns c = λ q e. kind-same bay q (rw (c .enum-told .given .1) at e)
 
 returns-2 : tie.Need-returns-2
 returns-2 c = no-bay (c .before .args .kind) (c .match .keys2)

@@ -8,7 +8,7 @@ use lib.ListN.{length, length-set}
 use Rattle.model.specs.Limits.{maxTracks, maxCarts, maxCalls}
 use Rattle.model.specs.Job.{CallKind, track, call}
 use Rattle.model.specs.ReadJob.{callLine}
-use Rattle.job.specs.Arrays as arrays
+use Rattle.job.specs.Arrays.{callKind}
 use Rattle.job.specs.declared.state.Job.{Job}
 use Rattle.reader.specs.Lines.{kindOf, held}
 use Rattle.job.proofs.UpTo.{up-set}
@@ -105,7 +105,7 @@ returns-4 c =
     let k : j .calls < length (j .targets) = omega (arith, s .pre .long .targets) in
     let l : j .calls < length (j .deadlines) = omega (arith, s .pre .long .deadlines) in
     record {
-      adds = rw (e, up-set (λ u v w. call (arrays.kindOf u) v w) (j .kinds) (j .targets) (j .deadlines) (j .calls) (c .kind-byte .result) (s .args .a) (s .args .b) h k l, c .kind-byte .ensures q e);
+      adds = rw (e, up-set (λ u v w. call (callKind u) v w) (j .kinds) (j .targets) (j .deadlines) (j .calls) (c .kind-byte .result) (s .args .a) (s .args .b) h k l, c .kind-byte .ensures q e);
       sized = record { tracks = s .pre .sized .tracks; carts = s .pre .sized .carts; calls = omega arith };
       long = record {
         from = s .pre .long .from;
