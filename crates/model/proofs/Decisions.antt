@@ -164,7 +164,7 @@ module _ (j : Job) (ps : List Path) where
 
 abbrev pub dec-before : (j : Job) (p q : Path) → Dec (Before j p q)
 dec-before j p q = dec-or (dec-lt (callOf j (p .call) .deadline) (callOf j (q .call) .deadline))
-    (dec-and (dec-eq (callOf j (p .call) .deadline) (callOf j (q .call) .deadline)) (dec-lt (p .call) (q .call)))
+    (dec-and (dec-eq (callOf j (p .call) .deadline) (callOf j (q .call) .deadline)) (dec-lt (callOf j (p .call) .cell) (callOf j (q .call) .cell)))
 
 abbrev pub dec-right-plan : (j : Job) (ps : List Path) → Dec (RightPlan j ps)
 dec-right-plan j ps = dec-and (dec-plan j ps) (dec-rising (dec-before j) ps)

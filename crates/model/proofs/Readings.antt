@@ -1,4 +1,4 @@
--- What no filed example shows, each as a row: the least buffers, the form of a sheet and the line of a 11, what is no conflict.
+-- What no filed example shows, each as a row: the least buffers, the form of a sheet and the line of a 11, what is no conflict, the order of a plan.
 use Prim.Native.Nat.{ℕ, _+_, _*_}
 use mathlib.Core.List.{List, [], _∷_}
 use Rattle.model.specs.Lists.{In}
@@ -24,7 +24,7 @@ at line = 11 + 256 * line
 
 abbrev sheets : List Row
 sheets =
-    checks jobA big "PLAN\t2\nPATH\t1\t0\t1\t2\nPATH\t0\t1\t0\t1\n" 0
+    checks jobA big "PLAN\t2\nPATH\t0\t1\t0\t1\nPATH\t1\t0\t1\t2\n" 0
     ∷ checks jobB big "CANNOT\t1\nCHOKE\t1\t0\n" 1
     ∷ checks jobB big "CANNOT\t1\nCHOKE\t0\t0\n" 12
     ∷ checks jobB big "CANNOT\t1\nCHOKE\t0\t2\n" (at 2)
@@ -48,7 +48,7 @@ abbrev moves : List Row
 moves =
     plans "FLOOR\t2\nTRACK\t1\t0\nCART\t0\nCALL\t1\t1\n" big big (wrote 0 "PLAN\t1\nPATH\t0\t0\t0\t1\n")
     ∷ checks "FLOOR\t3\nTRACK\t0\t1\nTRACK\t1\t2\nTRACK\t2\t0\nCART\t0\nCART\t1\nCART\t2\nCALL\t1\t1\nCALL\t2\t1\nCALL\t0\t1\n" big
-    "PLAN\t3\nPATH\t0\t0\t0\t1\nPATH\t1\t1\t1\t2\nPATH\t2\t2\t2\t0\n" 0
+    "PLAN\t3\nPATH\t2\t2\t2\t0\nPATH\t0\t0\t0\t1\nPATH\t1\t1\t1\t2\n" 0
     ∷ checks "FLOOR\t2\nTRACK\t0\t1\nCART\t0\nCART\t1\nCALL\t1\t0\nCALL\t0\t2\n" big "PLAN\t2\nPATH\t1\t0\t1\nPATH\t0\t1\t0\t1\t0\n" 0
     ∷ checks "FLOOR\t2\nTRACK\t0\t1\nCART\t0\nCART\t1\nCALL\t1\t1\nCALL\t0\t2\n" big "PLAN\t2\nPATH\t1\t0\t1\t1\nPATH\t0\t1\t0\t1\t0\n" 12
     ∷ []
@@ -70,6 +70,16 @@ bays =
     ∷ plans "FLOOR\t1\nCART\t0\nBAY\t0\t255\n" 12287 big (refuses 9 0)
     ∷ []
 
+-- what is due at one step goes by cell, bays among calls, whatever their order in the job; an earlier step goes before a lower cell
+abbrev orders : List Row
+orders =
+    plans "FLOOR\t2\nCART\t0\nCART\t1\nBAY\t1\t0\nCALL\t0\t0\n" big big (wrote 0 "PLAN\t2\nPATH\t0\t1\t0\nPATH\t1\t0\t1\n")
+    ∷ plans "FLOOR\t2\nCART\t0\nCART\t1\nCALL\t1\t0\nBAY\t0\t0\n" big big (wrote 0 "PLAN\t2\nPATH\t0\t1\t0\nPATH\t1\t0\t1\n")
+    ∷ plans "FLOOR\t2\nCART\t0\nCART\t1\nCALL\t0\t1\nCALL\t1\t0\n" big big (wrote 0 "PLAN\t2\nPATH\t1\t1\t1\nPATH\t0\t0\t0\t0\n")
+    ∷ checks "FLOOR\t3\nCART\t0\nCART\t1\nCART\t2\nCALL\t2\t0\nCALL\t0\t0\nCALL\t1\t0\n" big "PLAN\t3\nPATH\t0\t1\t0\nPATH\t1\t2\t1\nPATH\t2\t0\t2\n" 0
+    ∷ checks "FLOOR\t3\nCART\t0\nCART\t1\nCART\t2\nCALL\t2\t0\nCALL\t0\t0\nCALL\t1\t0\n" big "PLAN\t3\nPATH\t2\t0\t2\nPATH\t0\t1\t0\nPATH\t1\t2\t1\n" 12
+    ∷ []
+
 pub buffers-hold : (x : Row) → In x buffers → RowHolds x
 unfolding readJob readSheet
 buffers-hold x m = row-holds x (decided (all-in dec-row buffers) tt x m)
@@ -81,6 +91,10 @@ sheets-hold x m = row-holds x (decided (all-in dec-row sheets) tt x m)
 pub bays-hold : (x : Row) → In x bays → RowHolds x
 unfolding readJob readSheet
 bays-hold x m = row-holds x (decided (all-in dec-row bays) tt x m)
+
+pub orders-hold : (x : Row) → In x orders → RowHolds x
+unfolding readJob readSheet
+orders-hold x m = row-holds x (decided (all-in dec-row orders) tt x m)
 
 pub moves-hold : (x : Row) → In x moves → RowHolds x
 unfolding readJob readSheet

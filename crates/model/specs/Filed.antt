@@ -68,7 +68,8 @@ big = 65536
 
 abbrev pub filed : List Row
 filed =
-    plans jobA big big (wrote 0 "PLAN\t2\nPATH\t1\t0\t1\t2\nPATH\t0\t1\t0\t1\n")
+    plans jobA big big (wrote 0 "PLAN\t2\nPATH\t0\t1\t0\t1\nPATH\t1\t0\t1\t2\n")
+    ∷ checks jobA big "PLAN\t2\nPATH\t1\t0\t1\t2\nPATH\t0\t1\t0\t1\n" 12
     ∷ plans jobB big big (wrote 1 "CANNOT\t1\nCHOKE\t1\t0\n")
     ∷ plans "FLOOR\t1\n" big big (wrote 0 "PLAN\t0\n")
     ∷ plans jobD big big (wrote 0 "PLAN\t1\nPATH\t0\t0\t0\n")

@@ -48,12 +48,12 @@ pub record Plan (j : Job) (ps : List Path) : Type 0 where
   pub no-share : NoShare ps
   pub no-trade : NoTrade ps
 
--- The order of calls and of the lines of a plan: by deadline, equal deadlines in the order of the job. m and n are the numbers of the calls p and q.
-abbrev pub Sooner : Call → ℕ → Call → ℕ → Type 0
-Sooner p m q n = (p .deadline < q .deadline) ⊎ ((p .deadline ≡ q .deadline) × (m < n))
+-- The order of calls and of the lines of a plan: by deadline, equal deadlines by cell.
+abbrev pub Sooner : Call → Call → Type 0
+Sooner p q = (p .deadline < q .deadline) ⊎ ((p .deadline ≡ q .deadline) × (p .cell < q .cell))
 
 abbrev pub Before : Job → Path → Path → Type 0
-Before j p q = Sooner (callOf j (p .call)) (p .call) (callOf j (q .call)) (q .call)
+Before j p q = Sooner (callOf j (p .call)) (callOf j (q .call))
 
 abbrev pub PlanInOrder : Job → List Path → Type 0
 PlanInOrder j ps = Rising (Before j) ps

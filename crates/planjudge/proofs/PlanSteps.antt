@@ -49,7 +49,7 @@ module _ (targets deadlines calls : List ℕ) where
     where
       go : PathBefore i k → ⊥
       go (inl l) = omega (arith, ap (λ q. getD deadlines q 0) e)
-      go (inr l) = omega arith
+      go (inr l) = omega (arith, ap (λ q. getD targets q 0) e)
 
 -- Tracks.
 module _ (from to : List ℕ) where

@@ -8,7 +8,7 @@ use Rattle.network.specs.declared.planes.Grid.{Grid}
 use Rattle.network.specs.Store.{gridOf}
 use Rattle.job.specs.Arrays.{jobOf}
 use denote.Ref.{now}
-use Rattle.floor.proofs.JobTables.{order-of}
+use Rattle.floor.proofs.JobTables.{calls-apart, order-of}
 use borrow.Author.Needs.{needs}
 use Rattle.planner.proofs.solve.solve.Statement.{statement}
 use Rattle.planner.proofs.solve.solve.Tie as tie
@@ -23,6 +23,9 @@ mul-nodes c = omega (arith, few-nodes (jobOf (last-step→start c .args .t1)) (l
 
 wipe-requires : tie.Need-wipe-requires
 wipe-requires c κs = let s = wipe-arg→start c in roomy (jobOf (s .args .t1)) (now (s .args .store)) (grid-made (wipe-arg→last-step c)) (s .pre .2)
+
+by-deadline-requires : tie.Need-by-deadline-requires
+by-deadline-requires c κs = let s = by-deadline-arg3→start c in (s .pre .1 .calls, calls-apart (s .args .t1) (s .pre .0), s .pre .3 .seconds)
 
 serve-job-requires : tie.Need-serve-job-requires
 serve-job-requires c κs =
@@ -63,5 +66,5 @@ pub solve-spec : {M : Type 1} → statement M
 solve-spec =
     tie.close
     (tie.spec
-    (λ c κs. search needs) (λ c. search needs) mul-nodes wipe-requires (λ c κs. search needs) (λ c. search needs) serve-job-requires (λ c. search needs) write-answer-requires
+    (λ c κs. search needs) (λ c. search needs) mul-nodes wipe-requires by-deadline-requires (λ c. search needs) serve-job-requires (λ c. search needs) write-answer-requires
     same-length (λ c. search needs) (λ c. search needs) (λ c. search needs) (λ c. search needs) returns)

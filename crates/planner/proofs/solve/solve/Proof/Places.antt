@@ -22,6 +22,9 @@ wipe-arg→last-step c = c .before
 abbrev pub wipe-arg→start : tie.After-wipe-arg → tie.Start
 wipe-arg→start c = last-step→start (wipe-arg→last-step c)
 
+abbrev pub by-deadline-arg3→start : tie.After-by-deadline-arg3 → tie.Start
+by-deadline-arg3→start c = wipe-arg→start (c .before .before .before .before .before .before .before)
+
 abbrev pub serve-job-arg2→by-deadline : tie.After-serve-job-arg2 → tie.After-by-deadline
 serve-job-arg2→by-deadline c = c .before .before .before .before .before
 
