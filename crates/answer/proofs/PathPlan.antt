@@ -14,6 +14,7 @@ use Rattle.model.specs.Plan.{Path, Before}
 use Rattle.model.specs.Contracts.{RightPlan}
 use Rattle.model.proofs.Decide.{dec-lt}
 use Rattle.model.proofs.Lists.{in-getD, rising-of}
+use Rattle.model.proofs.Lex.{lex-on}
 use Rattle.job.specs.Held.{Room, pathAt, pathsTo}
 use Rattle.job.proofs.Rows.{withRow, room-more, path-kept, path-new}
 use Rattle.job.proofs.UpTo.{up-count, up-at, in-up}
@@ -29,7 +30,7 @@ use Rattle.network.proofs.Calm.{stood-flow, stood-calm, stood-ends}
 use Rattle.answer.specs.Full.{FullFlow}
 use Rattle.answer.specs.Trail.{backFrom, HasCart, Trail}
 use Rattle.answer.proofs.Calls.{node-read}
-use Rattle.answer.proofs.Rising.{rising-once, precedes-on, precedes-apart}
+use Rattle.answer.proofs.Rising.{rising-once, precedes-apart}
 
 -- The first i paths are traced.
 pub record PathsTraced (j : Job) (order s first lasts rows : List ℕ) (i : ℕ) : Type 0 where
@@ -146,7 +147,7 @@ module _ {j : Job} {targets deadlines : List ℕ} {calls : ℕ} {cartOn order : 
             rw (up-at (pathAt first order lasts rows) all k none (omega arith), up-at (pathAt first order lasts rows) all (suc k) none b) (g .ordered .rises k b))
 
         own : NoDup (map (λ p. p .call) ps)
-        own = rising-once (λ p. p .call) (Before j) (λ x y z. precedes-on j (x .call) (y .call) (z .call)) (λ x y. precedes-apart j (x .call) (y .call)) ps rises
+        own = rising-once (λ p. p .call) (Before j) (λ x y z. lex-on) (λ x y. precedes-apart j (x .call) (y .call)) ps rises
 
         traced : (p : Path) → (k : ℕ) × (k < all) × (p ≡ pathAt first order lasts rows k) → Traced j (backFrom j s) p
         traced p (k, l, f) = rw f (w .traced k (omega (arith, g .listed .counted)))

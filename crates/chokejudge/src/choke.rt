@@ -4,6 +4,7 @@ use crate::calls::has_due;
 use crate::layer::close;
 use crate::layer::grow;
 use crate::layer::place;
+use floor::order::rises;
 use job::state::Job;
 use model::Limits;
 ghost use mathlib.Core.Path.{_≡_};
@@ -13,7 +14,7 @@ ghost use lib.ListN.{length, getD};
 ghost use Rattle.model.specs.Lists.{In};
 ghost use Rattle.model.specs.Limits.{maxCells, maxCarts, maxCalls};
 ghost use Rattle.model.specs.Job as model;
-ghost use Rattle.model.specs.Choke.{Point, point, Rises, ChokesInOrder};
+ghost use Rattle.model.specs.Choke.{Point, ChokesInOrder};
 ghost use Rattle.model.specs.Ready.{Ready};
 ghost use Rattle.model.specs.ReadSheet.{knownPoint};
 ghost use Rattle.model.specs.Contracts.{RightChokes};
@@ -23,23 +24,13 @@ ghost use Rattle.floor.specs.Tables.{Near};
 ghost use Rattle.chokejudge.specs.ChokeLayers.{Closing, Reached, SomeCallIn};
 ghost use Rattle.chokejudge.specs.Grown.{Climbs};
 
-// Whether a point stands before the next: by step, then by cell.
-fn rises(cell: u8, step: u8, next: u8, later: u8) -> bool
-    ensures { λ r. ⌜ Decides r (Rises (point cell step) (point next later)) ⌝ }
-{
-    if step == later {
-        return cell < next;
-    }
-    step < later
-}
-
 fn in_order(cells: &[u8], steps: &[u8], n: usize) -> bool
     requires { ⌜ (n ≤ length (now cells)) × (n ≤ length (now steps)) ⌝ }
     ensures { λ r. ⌜ Decides r (ChokesInOrder (pointsOf (now (cells .entry)) (now (steps .entry)) n)) ⌝ }
 {
     let mut i = 1;
     while i < n {
-        if !rises(cells[i - 1], steps[i - 1], cells[i], steps[i]) {
+        if !rises(steps[i - 1], cells[i - 1], steps[i], cells[i]) {
             return false;
         }
         i += 1;

@@ -7,10 +7,11 @@ use lib.ListN.{length, getD}
 use Rattle.model.specs.Lists.{In, NoDup, Rising}
 use Rattle.model.specs.Job.{Job, Track, CallKind, lift, bay, Call, track, cartCell, callOf, horizon}
 use Rattle.model.specs.Walk.{At, Open, Step, Walk, Serves}
-use Rattle.model.specs.Plan.{Path, Plan, Leads, OnFloor, Share, Trade, NoShare, NoTrade, Before}
+use Rattle.model.specs.Plan.{Path, Plan, Leads, OnFloor, Share, Trade, NoShare, NoTrade, Sooner, Before}
 use Rattle.model.specs.Choke.{Point, Known, StandsOn, TrueChokes, Rises}
 use Rattle.model.specs.Contracts.{RightPlan, RightChokes}
 use Rattle.model.proofs.Basics.{nope}
+use Rattle.model.proofs.Lex.{dec-lex}
 use Rattle.model.proofs.Decide.{dec-by, dec-and, dec-or, dec-imp, dec-not, dec-eq, dec-le, dec-lt, all-below, all-in, any-in, dec-in}
 use Rattle.model.proofs.Listed.{walks, walk-listed}
 
@@ -162,9 +163,11 @@ module _ (j : Job) (ps : List Path) where
       (dec-and (dec-eq (length ps) (length (j .calls))) (dec-and (dec-nodup (map (λ p. p .call) ps)) (dec-and (dec-nodup (map (λ p. p .cart) ps))
       (dec-and (all-in (dec-leads j) ps) (dec-and (dec-no-share ps) (dec-no-trade ps))))))
 
+abbrev pub dec-sooner : (p q : Call) → Dec (Sooner p q)
+dec-sooner p q = dec-lex (p .deadline) (p .cell) (q .deadline) (q .cell)
+
 abbrev pub dec-before : (j : Job) (p q : Path) → Dec (Before j p q)
-dec-before j p q = dec-or (dec-lt (callOf j (p .call) .deadline) (callOf j (q .call) .deadline))
-    (dec-and (dec-eq (callOf j (p .call) .deadline) (callOf j (q .call) .deadline)) (dec-lt (callOf j (p .call) .cell) (callOf j (q .call) .cell)))
+dec-before j p q = dec-sooner (callOf j (p .call)) (callOf j (q .call))
 
 abbrev pub dec-right-plan : (j : Job) (ps : List Path) → Dec (RightPlan j ps)
 dec-right-plan j ps = dec-and (dec-plan j ps) (dec-rising (dec-before j) ps)
@@ -192,7 +195,7 @@ module _ (j : Job) (xs : List Point) where
       (all-in (λ c. all-in (λ q. all-in (λ w. dec-imp (dec-and (dec-walk j c w) (dec-serves w q)) (dec-stands w xs)) (walks j (q .deadline) c)) (j .calls)) (j .carts))))
 
 abbrev pub dec-rises : (x y : Point) → Dec (Rises x y)
-dec-rises x y = dec-or (dec-lt (x .step) (y .step)) (dec-and (dec-eq (x .step) (y .step)) (dec-lt (x .cell) (y .cell)))
+dec-rises x y = dec-lex (x .step) (x .cell) (y .step) (y .cell)
 
 abbrev pub dec-right-chokes : (j : Job) (xs : List Point) → Dec (RightChokes j xs)
 dec-right-chokes j xs = dec-and (dec-chokes j xs) (dec-rising dec-rises xs)

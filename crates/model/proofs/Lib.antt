@@ -3,6 +3,7 @@ pub mod Lists
 pub mod Words
 pub mod Contrary
 pub mod Decide
+pub mod Lex
 pub mod Listed
 pub mod Sharing
 pub mod Floor

@@ -1,10 +1,8 @@
 -- Choke points show that there is no plan.
 use Prim.Native.Nat.{ℕ, _<_, _≤_}
-use mathlib.Core.Path.{_≡_}
 use mathlib.Core.List.{List}
-use mathlib.Core.Logic.{_⊎_}
 use lib.ListN.{length}
-use Rattle.model.specs.Lists.{In, Rising}
+use Rattle.model.specs.Lists.{In, Rising, Lex}
 use Rattle.model.specs.Job.{Job, Call, horizon}
 use Rattle.model.specs.Walk.{At, Walk, Serves}
 
@@ -36,7 +34,7 @@ pub record TrueChokes (j : Job) (xs : List Point) : Type 0 where
 
 -- The order of the lines: by step, then cell, none twice.
 abbrev pub Rises : Point → Point → Type 0
-Rises x y = (x .step < y .step) ⊎ ((x .step ≡ y .step) × (x .cell < y .cell))
+Rises x y = Lex (x .step) (x .cell) (y .step) (y .cell)
 
 abbrev pub ChokesInOrder : List Point → Type 0
 ChokesInOrder xs = Rising Rises xs

@@ -2,9 +2,8 @@
 use Prim.Native.Nat.{ℕ, suc, _<_}
 use mathlib.Core.Path.{_≡_}
 use mathlib.Core.List.{List, map}
-use mathlib.Core.Logic.{_⊎_}
 use lib.ListN.{length}
-use Rattle.model.specs.Lists.{In, NoDup, Rising}
+use Rattle.model.specs.Lists.{In, NoDup, Rising, Lex}
 use Rattle.model.specs.Job.{Job, Call, cartCell, callOf}
 use Rattle.model.specs.Walk.{At, Walk, Serves}
 
@@ -50,7 +49,7 @@ pub record Plan (j : Job) (ps : List Path) : Type 0 where
 
 -- The order of calls and of the lines of a plan: by deadline, equal deadlines by cell.
 abbrev pub Sooner : Call → Call → Type 0
-Sooner p q = (p .deadline < q .deadline) ⊎ ((p .deadline ≡ q .deadline) × (p .cell < q .cell))
+Sooner p q = Lex (p .deadline) (p .cell) (q .deadline) (q .cell)
 
 abbrev pub Before : Job → Path → Path → Type 0
 Before j p q = Sooner (callOf j (p .call)) (callOf j (q .call))

@@ -11,6 +11,7 @@ use lib.Seq.{getD-set-same, getD-set-other}
 use borrow.Author.Count.{below-more}
 use Rattle.model.specs.Limits.{maxCells, maxCalls}
 use Rattle.model.proofs.Decide.{dec-eq}
+use Rattle.model.proofs.Lex.{lex-on, lex-apart}
 use Rattle.floor.specs.Order.{SoonerIn}
 use Rattle.job.specs.Bits.{bitAt, withBit, pairsBelow, pairAt}
 use Rattle.job.proofs.BitLaws.{bit-set, bit-other, bits-length}
@@ -26,12 +27,6 @@ module _ (targets deadlines calls : List ℕ) where
   abbrev PathBefore : ℕ → ℕ → Type 0
   PathBefore k m = SoonerIn targets deadlines (getD calls k 0) (getD calls m 0)
 
-  path-before-next : (k m l : ℕ) → PathBefore k m → PathBefore m l → PathBefore k l
-  path-before-next k m l (inl a) (inl b) = inl (omega arith)
-  path-before-next k m l (inl a) (inr b) = inl (omega arith)
-  path-before-next k m l (inr a) (inl b) = inl (omega arith)
-  path-before-next k m l (inr a) (inr b) = inr (omega arith, omega arith)
-
   path-before-all : (n : ℕ) → Ordered targets deadlines calls n → (m k : ℕ) → k < m → m < n → PathBefore k m
   path-before-all n o zero k h l = absurd (omega arith)
   path-before-all n o (suc m) k h l = go (dec-eq k m) (λ h′. path-before-all n o m k h′ (omega arith))
@@ -41,15 +36,11 @@ module _ (targets deadlines calls : List ℕ) where
 
       go : Dec (k ≡ m) → (k < m → PathBefore k m) → PathBefore k (suc m)
       go (yes e) f = rw e next
-      go (no n) f = path-before-next k m (suc m) (f (omega arith)) next
+      go (no n) f = lex-on (f (omega arith)) next
 
   -- no call is twice
   pub other-call : (n : ℕ) → Ordered targets deadlines calls n → (i k : ℕ) → i < k → k < n → getD calls i 0 ≡ getD calls k 0 → ⊥
-  other-call n o i k a b e = go (path-before-all n o k i a b)
-    where
-      go : PathBefore i k → ⊥
-      go (inl l) = omega (arith, ap (λ q. getD deadlines q 0) e)
-      go (inr l) = omega (arith, ap (λ q. getD targets q 0) e)
+  other-call n o i k a b e = lex-apart (path-before-all n o k i a b) (ap (λ q. getD deadlines q 0) e) (ap (λ q. getD targets q 0) e)
 
 -- Tracks.
 module _ (from to : List ℕ) where

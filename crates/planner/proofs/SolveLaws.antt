@@ -16,6 +16,7 @@ use Rattle.model.specs.Choke.{Point, point, Known}
 use Rattle.model.proofs.Basics.{nope}
 use Rattle.model.proofs.Decide.{dec-lt}
 use Rattle.model.proofs.Lists.{in-getD, in-place, place-of, rising-of}
+use Rattle.model.proofs.Lex.{lex-on}
 use Rattle.model.proofs.Sharing.{every}
 use Rattle.job.specs.Arrays.{upTo}
 use Rattle.job.proofs.UpTo.{up-count, up-at, in-up}
@@ -32,7 +33,7 @@ use Rattle.network.proofs.NodeBytes.{link-off, link-end, used-byte, used-known}
 use Rattle.network.proofs.Points.{point-cell}
 use Rattle.network.proofs.StoreBytes.{idx-below}
 use Rattle.answer.proofs.Calls.{node-read}
-use Rattle.answer.proofs.Rising.{Precedes, precedes-on, precedes-apart, rising-once}
+use Rattle.answer.proofs.Rising.{Precedes, precedes-apart, rising-once}
 use Rattle.route.specs.declared.serve.Served.{Served}
 use Rattle.route.specs.declared.serve.Served.the-variants.{Yes, No}
 use Rattle.route.specs.Search.{Fresh}
@@ -92,7 +93,7 @@ module _ {j : Job} {targets deadlines : List ℕ} {calls : ℕ} {near begin due 
 
   once : NoDup (map (λ q. q) (upTo number n))
   once =
-      rising-once (λ q. q) (Precedes j) (precedes-on j) (precedes-apart j) (upTo number n)
+      rising-once (λ q. q) (Precedes j) (λ p q r. lex-on) (precedes-apart j) (upTo number n)
       (rising-of 0 (Precedes j) (upTo number n) (λ k l.
       let h : suc k < n = omega (arith, up-count number n) in
       rw (up-at number n k 0 (omega arith), up-at number n (suc k) 0 h) (b .ordered .rises k h)))
