@@ -124,7 +124,7 @@ impl Faulty {
     fn is_plan(&self, job: &Job, paths: &[Path]) -> bool {
         let mut paths = paths.to_vec();
         if self.0 == Fault::PassesLinesOutOfOrder {
-            paths.sort_by_key(|p| (job.calls[p.call].deadline, p.call));
+            paths.sort_by_key(|p| (job.calls[p.call].deadline, job.calls[p.call].cell));
         }
         conflicts::in_order(job, &paths, self.0) && conflicts::none(job, &paths, self.0)
     }

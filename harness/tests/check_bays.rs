@@ -49,7 +49,7 @@ fn a_path_to_a_bay_has_its_step_and_one_cells() {
 
 #[test]
 fn a_path_to_a_bay_stands_by_its_step() {
-    // Equal ones in the order of the lines, a bay before a call or behind it.
+    // Equal ones by cell, a bay before a call or behind it.
     assert_rows(
         "FLOOR 3\nCART 2\nCART 1\nCART 0\nBAY 0 1\nCALL 1 0\nCALL 2 1\n",
         &[

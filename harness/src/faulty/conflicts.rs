@@ -5,10 +5,10 @@ use super::Fault;
 use crate::model::job::Job;
 use crate::model::sheet::Path;
 
-/// Each call once, by deadline, then number.
+/// Each call once, by deadline, then cell.
 pub fn in_order(job: &Job, paths: &[Path], fault: Fault) -> bool {
     let is_behind = |p: &Path| fault == Fault::PutsBaysBehindCalls && job.calls[p.call].is_bay();
-    let key = |p: &Path| (job.calls[p.call].deadline, is_behind(p), p.call);
+    let key = |p: &Path| (job.calls[p.call].deadline, is_behind(p), job.calls[p.call].cell);
     (1..paths.len()).all(|i| key(&paths[i - 1]) < key(&paths[i]))
 }
 

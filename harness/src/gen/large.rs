@@ -92,7 +92,7 @@ fn called(floor: Job, walks: Vec<Ended>, rng: &mut Rng) -> (Job, Vec<Path>) {
         job.calls[call] = Call { cell: cells[deadline], deadline, end };
         paths.push(Path { cart, call, cells });
     }
-    paths.sort_by_key(|p| (p.cells.len(), p.call));
+    paths.sort_by_key(|p| (p.cells.len(), job.calls[p.call].cell));
     (job, paths)
 }
 
