@@ -46,6 +46,21 @@ pub fn exchanged_at_one_step(job: &Job, paths: &[Path]) -> Vec<Vec<Path>> {
     (1..paths.len()).filter(|&i| deadline(i - 1) == deadline(i)).map(exchanged).collect()
 }
 
+/// Every order of some lines, of which there are few; first as they are.
+pub fn every_order<T: Clone>(lines: &[T]) -> Vec<Vec<T>> {
+    let mut all = vec![Vec::new()];
+    for line in lines.iter().rev() {
+        all = (0..=all[0].len()).flat_map(|at| all.iter().map(move |others| with_line_at(at, line, others))).collect();
+    }
+    all
+}
+
+fn with_line_at<T: Clone>(at: usize, line: &T, others: &[T]) -> Vec<T> {
+    let mut lines = others.to_vec();
+    lines.insert(at, line.clone());
+    lines
+}
+
 /// Whether calls of one step stand in the job in another order than their cells: then no plan can have its lines both as
 /// they are written and as they were asked for at first.
 pub fn differ(job: &Job) -> bool {
