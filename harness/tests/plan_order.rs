@@ -14,7 +14,7 @@ use harness::gen::Rng;
 use harness::model::answer::*;
 use harness::model::job::{Call, Job};
 use harness::model::limits::{self, sheet_least, store_least};
-use harness::model::sheet::{self, Sheet};
+use harness::model::sheet::{self, Path, Sheet};
 use harness::tally::Tally;
 
 fn planned(job: &Job, rng: &mut Rng) -> (u8, Vec<u8>) {
@@ -71,6 +71,17 @@ fn the_calls_of_one_step_in_every_order() {
         let sheet = format!("PLAN\t4\n{}", lines.concat());
         assert_eq!(planned(&job, &mut rng), (PLAN, sheet.into_bytes()), "{job:?}");
     }
+}
+
+/// By number and not by digits: one, two and three of them, the highest cell first in the job.
+#[test]
+fn cells_of_any_number_of_digits() {
+    let cells: Vec<usize> = (0..limits::CARTS).map(|i| 4 * i).collect();
+    let calls = cells.iter().rev().map(|&cell| Call::lift(cell, 0)).collect();
+    let path = |(i, &cell): (usize, &usize)| Path { cart: i, call: limits::CARTS - 1 - i, cells: vec![cell] };
+    let sheet = Sheet::Plan(cells.iter().enumerate().map(path).collect()).text();
+    let job = Job { carts: cells, calls, ..loose(limits::CELLS) };
+    assert_eq!(planned(&job, &mut Rng::new(6)), (PLAN, sheet));
 }
 
 #[test]
