@@ -24,9 +24,12 @@ pub const EXAMPLES: &[Example] = &[A, B, C, D, F, G, BAY, CLOSED];
 pub const A: Example = Example {
     name: "A",
     job: "FLOOR 3\nTRACK 0 1\nTRACK 1 2\nCART 0\nCART 1\nCALL 2 1\nCALL 1 1\n",
-    sheet: "PLAN 2\nPATH 1 0 1 2\nPATH 0 1 0 1\n",
+    sheet: "PLAN 2\nPATH 0 1 0 1\nPATH 1 0 1 2\n",
     answer: PLAN,
 };
+
+/// A's paths in the order of its calls, as they were filed at first.
+pub const A_BY_CALL: &str = "PLAN 2\nPATH 1 0 1 2\nPATH 0 1 0 1\n";
 
 pub const B: Example = Example {
     name: "B",

@@ -2,12 +2,13 @@
 //!
 //! It reads jobs as the model does, since the faults are about sheets. The rest goes other ways than the model: the
 //! sheet in one pass of bytes, conflicts by a table of who stands where, choke lists backwards from the calls, closed cells
-//! by a table of steps.
+//! by a table of steps, the order of paths by looking at each two.
 
 mod backwards;
 mod bays;
 mod conflicts;
 mod form;
+mod order;
 
 use crate::ffi::Checker;
 use crate::model::answer::*;
@@ -44,6 +45,13 @@ pub enum Fault {
     CountsNoBays,
     TakesLastLiftForLargestDeadline,
     PutsBaysBehindCalls,
+    PutsOneStepAsInJob,
+    PassesOrderOfJobToo,
+    PassesOneStepInAnyOrder,
+    PutsOneStepByCart,
+    PutsHigherCellFirst,
+    PutsCellBeforeDeadline,
+    PutsBaysAsInJob,
 }
 
 /// The faults, without `None`.
@@ -72,6 +80,13 @@ pub const FAULTS: &[Fault] = &[
     Fault::CountsNoBays,
     Fault::TakesLastLiftForLargestDeadline,
     Fault::PutsBaysBehindCalls,
+    Fault::PutsOneStepAsInJob,
+    Fault::PassesOrderOfJobToo,
+    Fault::PassesOneStepInAnyOrder,
+    Fault::PutsOneStepByCart,
+    Fault::PutsHigherCellFirst,
+    Fault::PutsCellBeforeDeadline,
+    Fault::PutsBaysAsInJob,
 ];
 
 /// The second check with a fault.
@@ -124,9 +139,9 @@ impl Faulty {
     fn is_plan(&self, job: &Job, paths: &[Path]) -> bool {
         let mut paths = paths.to_vec();
         if self.0 == Fault::PassesLinesOutOfOrder {
-            paths.sort_by_key(|p| (job.calls[p.call].deadline, p.call));
+            paths.sort_by_key(|p| (job.calls[p.call].deadline, job.calls[p.call].cell));
         }
-        conflicts::in_order(job, &paths, self.0) && conflicts::none(job, &paths, self.0)
+        order::is_kept(job, &paths, self.0) && conflicts::none(job, &paths, self.0)
     }
 
     fn is_true_list(&self, job: &Job, chokes: &[Choke]) -> bool {

@@ -7,6 +7,7 @@ pub mod damage;
 pub mod floors;
 pub mod large;
 pub mod lists;
+pub mod orders;
 pub mod plans;
 mod rng;
 pub mod sizes;

@@ -1,10 +1,13 @@
-//! Shortcuts that lose a lane: nine planners that are wrong, each on some job, four of them about bays.
+//! Shortcuts that lose a lane: eleven planners that are wrong, each on some job, four of them about bays and two about the
+//! order of the lines.
 //!
 //! They search small jobs exhaustively but for the shortcut, so that nothing else can be the reason.
 
 mod bays;
+mod orders;
 
 pub use bays::*;
+pub use orders::*;
 
 use std::slice::from_ref;
 

@@ -4,7 +4,7 @@
 use harness::baseline::{plan, plan_by, Mode};
 use harness::gen::plans::has_plan;
 use harness::gen::sizes::{at_the_limits, medium};
-use harness::gen::small::{small_with_bays, small_without_bays};
+use harness::gen::small::{small_at_one_step, small_with_bays, small_without_bays};
 use harness::gen::Rng;
 use harness::model::answer::*;
 use harness::model::check::check;
@@ -56,6 +56,11 @@ fn small_jobs_without_bays() {
 #[test]
 fn small_jobs_with_bays() {
     try_small(small_with_bays, 2);
+}
+
+#[test]
+fn small_jobs_with_several_calls_at_one_step() {
+    try_small(small_at_one_step, 4);
 }
 
 #[test]

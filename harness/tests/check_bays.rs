@@ -49,20 +49,20 @@ fn a_path_to_a_bay_has_its_step_and_one_cells() {
 
 #[test]
 fn a_path_to_a_bay_stands_by_its_step() {
-    // Equal ones in the order of the lines, a bay before a call or behind it.
+    // Equal ones by cell, a bay behind a call or before it.
     assert_rows(
-        "FLOOR 3\nCART 2\nCART 1\nCART 0\nBAY 0 1\nCALL 1 0\nCALL 2 1\n",
+        "FLOOR 3\nCART 2\nCART 1\nCART 0\nBAY 2 1\nCALL 1 0\nCALL 0 1\n",
         &[
-            ("PLAN 3\nPATH 1 1 1\nPATH 2 0 0 0\nPATH 0 2 2 2\n", PLAN, 0),
-            ("PLAN 3\nPATH 1 1 1\nPATH 0 2 2 2\nPATH 2 0 0 0\n", WRONG_SHEET, 0),
-            ("PLAN 3\nPATH 2 0 0 0\nPATH 1 1 1\nPATH 0 2 2 2\n", WRONG_SHEET, 0),
+            ("PLAN 3\nPATH 1 1 1\nPATH 2 2 0 0\nPATH 0 0 2 2\n", PLAN, 0),
+            ("PLAN 3\nPATH 1 1 1\nPATH 0 0 2 2\nPATH 2 2 0 0\n", WRONG_SHEET, 0),
+            ("PLAN 3\nPATH 2 2 0 0\nPATH 1 1 1\nPATH 0 0 2 2\n", WRONG_SHEET, 0),
         ],
     );
     assert_rows(
-        "FLOOR 3\nCART 2\nCART 1\nCART 0\nCALL 0 1\nBAY 1 0\nBAY 2 1\n",
+        "FLOOR 3\nCART 2\nCART 1\nCART 0\nCALL 2 1\nBAY 1 0\nBAY 0 1\n",
         &[
-            ("PLAN 3\nPATH 1 1 1\nPATH 2 0 0 0\nPATH 0 2 2 2\n", PLAN, 0),
-            ("PLAN 3\nPATH 1 1 1\nPATH 0 2 2 2\nPATH 2 0 0 0\n", WRONG_SHEET, 0),
+            ("PLAN 3\nPATH 1 1 1\nPATH 2 2 0 0\nPATH 0 0 2 2\n", PLAN, 0),
+            ("PLAN 3\nPATH 1 1 1\nPATH 0 0 2 2\nPATH 2 2 0 0\n", WRONG_SHEET, 0),
         ],
     );
 }

@@ -1,7 +1,7 @@
 //! The filed examples, as far as the check answers them.
 
 use harness::compare::library;
-use harness::examples::{e, tabs, BUFFER, D, EXAMPLES, F, F_TRADED, REFUSED};
+use harness::examples::{e, tabs, A, A_BY_CALL, BUFFER, D, EXAMPLES, F, F_TRADED, REFUSED};
 use harness::model::answer::*;
 
 #[test]
@@ -10,6 +10,11 @@ fn the_filed_sheets_pass() {
         let found = library(&tabs(example.job), BUFFER, &tabs(example.sheet));
         assert_eq!(found, (example.answer, 0), "job {}", example.name);
     }
+}
+
+#[test]
+fn job_a_with_its_paths_in_the_order_of_its_calls_is_refused() {
+    assert_eq!(library(&tabs(A.job), BUFFER, &tabs(A_BY_CALL)), (WRONG_SHEET, 0));
 }
 
 #[test]

@@ -6,6 +6,7 @@ use harness::gen::cases::Case;
 use harness::gen::damage::damaged;
 use harness::gen::floors::*;
 use harness::gen::large::*;
+use harness::gen::orders::{as_in_the_job, differ};
 use harness::gen::wrong::{bay_in_the_way, tampered_list, tampered_plan};
 use harness::gen::Rng;
 use harness::model::answer::*;
@@ -28,10 +29,13 @@ fn try_out(job: &Job, sheet: &Sheet, tally: &mut Tally, rng: &mut Rng) {
     }
 }
 
-/// Checks a plan, changed plans, and the choke list that a lost call makes true, changed as well.
+/// Checks a plan, changed plans, the plan in the order of the job, and the choke list that a lost call makes true, changed
+/// as well.
 fn try_plan(job: &Job, paths: &[Path], tally: &mut Tally, rng: &mut Rng) {
     try_out(job, &Sheet::Plan(paths.to_vec()), tally, rng);
     try_out(job, &Sheet::Plan(tampered_plan(job, paths, rng)), tally, rng);
+    let in_order_of_job = if differ(job) { WRONG_SHEET } else { PLAN };
+    assert_eq!(answer(job, &Sheet::Plan(as_in_the_job(job, paths))), (in_order_of_job, 0));
     if let Some(job) = bay_in_the_way(job, paths, rng) {
         assert_eq!(answer(&job, &Sheet::Plan(paths.to_vec())), (WRONG_SHEET, 0));
     }

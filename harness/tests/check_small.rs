@@ -2,7 +2,7 @@
 
 use harness::compare::library_on;
 use harness::gen::cases::{self, Kind, Known};
-use harness::gen::small::{small, small_with_bays};
+use harness::gen::small::{small, small_at_one_step, small_with_bays};
 use harness::gen::Rng;
 use harness::model::answer::*;
 use harness::model::job::Job;
@@ -39,6 +39,14 @@ fn wrong_plans() {
     tally.assert_only(&[PLAN, WRONG_SHEET]);
     tally.assert_each(&[PLAN, WRONG_SHEET], 2000);
     assert!(tally.total() >= 20_000);
+}
+
+#[test]
+fn other_orders() {
+    let tally = try_on(small_at_one_step, cases::other_orders, 11, 3000);
+    tally.assert_only(&[PLAN, WRONG_SHEET]);
+    tally.assert_each(&[PLAN, WRONG_SHEET], 500);
+    assert!(tally.total() >= 5_000);
 }
 
 /// The sheets that the search of all plans and lists finds, those that lead over closed cells, and many beside them.

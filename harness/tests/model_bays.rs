@@ -26,7 +26,7 @@ fn job(text: &str) -> Job {
 fn calls_and_bays_are_numbered_as_they_stand() {
     let job = job("FLOOR 4\nCART 0\nCART 1\nCART 2\nCART 3\nBAY 3 2\nCALL 0 9\nCALL 2 1\nBAY 1 2\n");
     assert_eq!(job.calls, [Call::bay(3, 2), Call::lift(0, 9), Call::lift(2, 1), Call::bay(1, 2)]);
-    assert_eq!(job.written_order(), [2, 0, 3, 1]);
+    assert_eq!(job.written_order(), [2, 3, 0, 1]);
     assert_eq!(job.last(), 9);
 }
 

@@ -1,7 +1,7 @@
 //! The shortcuts that lose a lane: for each a job on which it is wrong, and the planner is right.
 
 use harness::compare::{library, plan};
-use harness::examples::{tabs, A, BAY, BUFFER, CLOSED};
+use harness::examples::{tabs, A, A_BY_CALL, BAY, BUFFER, CLOSED};
 use harness::gen::plans::has_plan;
 use harness::gen::Rng;
 use harness::model::answer::*;
@@ -95,4 +95,24 @@ fn chokes_for_walks_over_closed_cells() {
     let job = job(CLOSED.job);
     assert_eq!(stopping_walks_over_bays(&job), None);
     assert_eq!(right_answer(&job), CANNOT);
+}
+
+#[test]
+fn leaving_calls_of_one_step_as_in_the_job() {
+    // Call 0 is on the higher cell.
+    let job = job(A.job);
+    let sheet = leaving_one_step_as_in_the_job(&job).expect("a plan").text();
+    assert_eq!(sheet, tabs(A_BY_CALL));
+    assert_eq!(library(&job.text(), BUFFER, &sheet), (WRONG_SHEET, 0));
+    assert_eq!(right_answer(&job), PLAN);
+}
+
+#[test]
+fn going_by_cell_with_no_thought_of_the_deadlines() {
+    // The call on the lower cell is due later.
+    let job = job("FLOOR 2\nCART 0\nCART 1\nCALL 0 1\nCALL 1 0\n");
+    let sheet = going_by_cell_alone(&job).expect("a plan").text();
+    assert_eq!(sheet, tabs("PLAN 2\nPATH 0 0 0 0\nPATH 1 1 1\n"));
+    assert_eq!(library(&job.text(), BUFFER, &sheet), (WRONG_SHEET, 0));
+    assert_eq!(right_answer(&job), PLAN);
 }

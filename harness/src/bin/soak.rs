@@ -7,10 +7,12 @@ use std::time::{Duration, Instant, SystemTime};
 use harness::compare;
 use harness::ffi::Library;
 use harness::gen::cases::{
-    changed_jobs, changed_sheets, choke_lists, doubled_points, right_sheets, stores, wrong_plans, Case, Kind, Known,
+    changed_jobs, changed_sheets, choke_lists, doubled_points, other_orders, right_sheets, stores, wrong_plans, Case,
+    Kind, Known,
 };
+use harness::gen::orders;
 use harness::gen::sizes::{at_the_limits, medium};
-use harness::gen::small::small;
+use harness::gen::small::{small, small_at_one_step};
 use harness::gen::Rng;
 use harness::model::job::Job;
 use harness::model::limits::{sheet_least, store_least};
@@ -26,11 +28,12 @@ soak [--seconds N] [--texts M] [--seed S] [--first T]
   --first T    from turn T on: with the seed of a run that found a difference, the turn it was found in";
 
 /// Damaged texts come from the first two.
-const KINDS: [(&str, Kind); 7] = [
+const KINDS: [(&str, Kind); 8] = [
     ("damaged jobs", changed_jobs),
     ("damaged sheets", changed_sheets),
     ("right sheets", right_sheets),
     ("wrong plans", wrong_plans),
+    ("plans in other orders", other_orders),
     ("choke lists", choke_lists),
     ("doubled choke points", doubled_points),
     ("stores of any length", stores),
@@ -39,16 +42,20 @@ const KINDS: [(&str, Kind); 7] = [
 /// Makes a job.
 type Make = fn(&mut Rng) -> Job;
 
-const SIZES: [(&str, Make); 3] = [("small", small), ("medium", medium), ("at the limits", at_the_limits)];
+const SIZES: [(&str, Make); 4] =
+    [("small", small), ("small at one step", small_at_one_step), ("medium", medium), ("at the limits", at_the_limits)];
 const SMALL: usize = 0;
-const MEDIUM: usize = 1;
-const AT_THE_LIMITS: usize = 2;
+const SMALL_AT_ONE_STEP: usize = 1;
+const MEDIUM: usize = 2;
+const AT_THE_LIMITS: usize = 3;
 
 /// What was tried, and what was answered.
 #[derive(Default)]
 struct Tried {
     sizes: [usize; SIZES.len()],
     with_bays: usize,
+    /// Jobs with calls of one step in another order than their cells.
+    with_other_order: usize,
     kinds: [usize; KINDS.len()],
     plans: Tally,
     checks: Tally,
@@ -116,14 +123,16 @@ impl Tried {
         let size = match (turn % 100, turn % 10) {
             (9, _) => AT_THE_LIMITS,
             (_, 4) => MEDIUM,
+            (_, 1 | 6) => SMALL_AT_ONE_STEP,
             _ => SMALL,
         };
         self.sizes[size] += 1;
         let job = SIZES[size].1(&mut rng);
         self.with_bays += usize::from(job.has_bays());
+        self.with_other_order += usize::from(orders::differ(&job));
         let right = self.plan(&job.text(), store_least(&job), sheet_least(&job), &mut rng)?;
         let known = match size {
-            SMALL => Known::of(job),
+            SMALL | SMALL_AT_ONE_STEP => Known::of(job),
             _ => known_by(job, &right),
         };
         match size {
@@ -169,7 +178,10 @@ impl Tried {
             each.join(", ")
         };
         let sizes = counted(&SIZES.map(|size| size.0), &self.sizes);
-        println!("turns: {sizes}; {} with bays", self.with_bays);
+        let (bays, other_order) = (self.with_bays, self.with_other_order);
+        println!(
+            "turns: {sizes}; {bays} with bays, {other_order} with calls of one step in another order than their cells"
+        );
         println!("cases: {}", counted(&KINDS.map(|kind| kind.0), &self.kinds));
         println!("answers of the planner: {}", self.plans);
         println!("answers of the check: {}", self.checks);

@@ -1,16 +1,9 @@
-//! Whether paths are a plan, by a table of who stands where at each step.
+//! Whether paths are a plan but for their order, by a table of who stands where at each step.
 
 use super::bays::Closed;
 use super::Fault;
 use crate::model::job::Job;
 use crate::model::sheet::Path;
-
-/// Each call once, by deadline, then number.
-pub fn in_order(job: &Job, paths: &[Path], fault: Fault) -> bool {
-    let is_behind = |p: &Path| fault == Fault::PutsBaysBehindCalls && job.calls[p.call].is_bay();
-    let key = |p: &Path| (job.calls[p.call].deadline, is_behind(p), p.call);
-    (1..paths.len()).all(|i| key(&paths[i - 1]) < key(&paths[i]))
-}
 
 /// Enters the walks into the table, one after the other, until one does not fit.
 pub fn none(job: &Job, paths: &[Path], fault: Fault) -> bool {

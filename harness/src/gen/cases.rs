@@ -1,8 +1,9 @@
-//! What is tried on a job, mostly a small one: right plans, wrong ones, choke lists, damaged sheets, damaged jobs,
-//! short stores.
+//! What is tried on a job, mostly a small one: right plans, wrong ones, plans in other orders, choke lists, damaged
+//! sheets, damaged jobs, short stores.
 
 use super::bays::no_bays;
 use super::damage::{changed, damaged, Damage};
+use super::orders::{exchanged_at_one_step, ORDERS};
 use super::plans::plans;
 use super::{lists, wrong, Rng};
 use crate::model::job::{Call, Job};
@@ -70,7 +71,7 @@ fn over_bays(job: &Job) -> Vec<Vec<Path>> {
 pub type Kind = fn(&Known, &mut Rng) -> Vec<Case>;
 
 pub const KINDS: &[Kind] =
-    &[right_sheets, wrong_plans, choke_lists, doubled_points, damaged_sheets, damaged_jobs, stores];
+    &[right_sheets, wrong_plans, other_orders, choke_lists, doubled_points, damaged_sheets, damaged_jobs, stores];
 
 pub fn right_sheets(known: &Known, rng: &mut Rng) -> Vec<Case> {
     (0..8).map(|_| known.case(known.right_sheet(rng).text(), rng)).collect()
@@ -88,6 +89,20 @@ pub fn wrong_plans(known: &Known, rng: &mut Rng) -> Vec<Case> {
         if !known.over_bays.is_empty() {
             all.push(rng.pick(&known.over_bays).clone());
         }
+    }
+    all.into_iter().map(|paths| known.case(Sheet::Plan(paths).text(), rng)).collect()
+}
+
+/// A right plan, if there is one, with its lines in other orders. One of these can be the written order by chance.
+pub fn other_orders(known: &Known, rng: &mut Rng) -> Vec<Case> {
+    if known.plans.is_empty() {
+        return Vec::new();
+    }
+    let right = rng.pick(&known.plans);
+    let mut all: Vec<Vec<Path>> = ORDERS.iter().map(|order| order(&known.job, right)).collect();
+    let exchanged = exchanged_at_one_step(&known.job, right);
+    if !exchanged.is_empty() {
+        all.push(rng.pick(&exchanged).clone());
     }
     all.into_iter().map(|paths| known.case(Sheet::Plan(paths).text(), rng)).collect()
 }

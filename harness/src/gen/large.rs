@@ -17,6 +17,15 @@ pub fn standing(floor: Job, carts: usize, deadline: usize) -> (Job, Vec<Path>) {
     (Job { carts: on, calls, ..floor }, paths)
 }
 
+/// The job with its calls the other way round, and its plan, whose lines stay where they are.
+pub fn backwards((mut job, mut paths): (Job, Vec<Path>)) -> (Job, Vec<Path>) {
+    job.calls.reverse();
+    for path in &mut paths {
+        path.call = job.calls.len() - 1 - path.call;
+    }
+    (job, paths)
+}
+
 /// Carts that move as chance has it, each up to some deadline, where a call is put under it. Carts that find no cell
 /// without a call up to the last step are left out, so there may be fewer than asked for.
 pub fn moving(floor: Job, carts: usize, least: usize, most: usize, rng: &mut Rng) -> (Job, Vec<Path>) {
@@ -92,7 +101,7 @@ fn called(floor: Job, walks: Vec<Ended>, rng: &mut Rng) -> (Job, Vec<Path>) {
         job.calls[call] = Call { cell: cells[deadline], deadline, end };
         paths.push(Path { cart, call, cells });
     }
-    paths.sort_by_key(|p| (p.cells.len(), p.call));
+    paths.sort_by_key(|p| (p.cells.len(), job.calls[p.call].cell));
     (job, paths)
 }
 

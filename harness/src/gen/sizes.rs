@@ -30,13 +30,19 @@ pub fn at_the_limits(rng: &mut Rng) -> Job {
         0 => moving(with_most_tracks(grid(16, 16), rng), CARTS, 200, DEADLINE, rng).0,
         1 => with_lost_call(moving(grid(15, 17), CARTS - 1, 100, DEADLINE, rng).0).0,
         2 => scattered(with_most_tracks(grid(16, 16), rng), CARTS, DEADLINE, rng),
-        3 => standing(ring(), CARTS, DEADLINE).0,
+        3 => in_any_order(standing(ring(), CARTS, DEADLINE).0, rng),
         4 => crowded_star(255, CARTS, CARTS).0,
         5 => moving_to_bays(with_most_tracks(grid(16, 16), rng), CARTS, 200, DEADLINE, rng).0,
         6 => with_lost_call(moving_to_bays(grid(15, 17), CARTS - 1, 100, DEADLINE, rng).0).0,
         7 => scattered_with_bays(with_most_tracks(grid(16, 16), rng), CARTS, DEADLINE, rng),
-        8 => all_bays(standing(ring(), CARTS, DEADLINE).0),
+        8 => in_any_order(all_bays(standing(ring(), CARTS, DEADLINE).0), rng),
         9 => some_bays(crowded_star(255, CARTS, CARTS).0, rng),
         _ => shut_line(CARTS, CARTS - 1, DEADLINE).0,
     }
+}
+
+/// The job with its calls in any order.
+fn in_any_order(mut job: Job, rng: &mut Rng) -> Job {
+    rng.shuffle(&mut job.calls);
+    job
 }

@@ -1,7 +1,7 @@
 //! Small jobs: 1 to 5 cells, 0 to 4 carts, deadlines 0 to 4.
 
 use super::bays::some_bays;
-use super::Rng;
+use super::{orders, Rng};
 use crate::model::job::{Call, End, Job};
 
 /// Half of the jobs have bays.
@@ -35,6 +35,43 @@ pub fn small_with_bays(rng: &mut Rng) -> Job {
         true => job,
         false => small_with_bays(rng),
     }
+}
+
+/// A job with several calls at one step, in another order than their cells. Half of the jobs have bays.
+pub fn small_at_one_step(rng: &mut Rng) -> Job {
+    at_one_step(small, rng)
+}
+
+pub fn small_at_one_step_without_bays(rng: &mut Rng) -> Job {
+    at_one_step(small_without_bays, rng)
+}
+
+pub fn small_at_one_step_with_bays(rng: &mut Rng) -> Job {
+    at_one_step(small_with_bays, rng)
+}
+
+/// Jobs are made until the order of one's calls is another than that of their cells.
+fn at_one_step(make: fn(&mut Rng) -> Job, rng: &mut Rng) -> Job {
+    let job = with_common_step(make(rng), rng);
+    match orders::differ(&job) {
+        true => job,
+        false => at_one_step(make, rng),
+    }
+}
+
+/// The job with two or more of its calls, if it has so many, at the step of one of them.
+fn with_common_step(mut job: Job, rng: &mut Rng) -> Job {
+    let calls = job.calls.len();
+    if calls < 2 {
+        return job;
+    }
+    let count = 2 + rng.below(calls - 1);
+    let together = rng.sample(calls, count);
+    let step = job.calls[together[0]].deadline;
+    for call in together {
+        job.calls[call].deadline = step;
+    }
+    job
 }
 
 /// Cells one behind the other, an early bay between the ends, carts on one side, and the other calls mostly on the other

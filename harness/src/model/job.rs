@@ -67,10 +67,11 @@ impl Job {
         self.calls.iter().map(|c| c.deadline).max().unwrap_or(0)
     }
 
-    /// The numbers of the calls as PATH lines go: by deadline, equal deadlines in the order of the job.
+    /// The numbers of the calls as PATH lines go: by deadline, equal deadlines by cell. No two calls are on one cell, so
+    /// this is one order alone.
     pub fn written_order(&self) -> Vec<usize> {
         let mut order: Vec<usize> = (0..self.calls.len()).collect();
-        order.sort_by_key(|&call| self.calls[call].deadline);
+        order.sort_by_key(|&call| (self.calls[call].deadline, self.calls[call].cell));
         order
     }
 

@@ -39,7 +39,7 @@ const WORDS: &str = "\
 - Peers: max flow on the network of cells and steps without closed cells, from numbers instead of a text, building included, in the
   better direction: LEMON Preflow, igraph_maxflow_value, Boost push_relabel_max_flow, as their manuals have it. The best peer is that of each job.
   `lemon_static` is LEMON tuned by hand: a static graph, capacities that take no memory, only the cut where there is no plan.
-- before: a former library's calls, where `./bench --before ARCHIVE` names one, on the jobs that it does not turn back.
+- before: a former library's calls, where `./bench --before ARCHIVE` names one, on the jobs that it does not turn back; its check gets its own sheet.
 - Times are processor time of the thread, by turns in one process; the best of many runs counts.
 - floors: a collection (`harness/src/gen/collection.rs`) planned, checked and filed by one run of `floors plan`, beside both calls of the library and
   the file system's own (write, flush, rename) for the same sheets, by as many threads. Time on the clock; the best of three runs each.

@@ -49,10 +49,13 @@ pub fn measure(job: &Job, peers: &[Peer], before: Option<Before>, effort: Effort
     let planned = cartfloor::plan(&text, &mut store, &mut sheet);
     let (answer, len) = unpack(planned);
     let passed = pack(answer, 0);
-    let mut written = sheet[..len].to_vec();
+    let written = sheet[..len].to_vec();
     let (library, keeping) = counts(&text, &mut store, &mut sheet, &written);
-    // A former library turns back what it did not know yet.
-    let before = before.filter(|b| unpack(b.plan(&text, &mut store, &mut sheet)).0 <= CANNOT);
+    // A former library turns back what it did not know yet. Its lines may go in another order: it checks its own sheet.
+    let mut before = before.and_then(|b| {
+        let (answer, len) = unpack(b.plan(&text, &mut store, &mut sheet));
+        (answer <= CANNOT).then(|| (b, sheet[..len].to_vec()))
+    });
 
     let mut best = [f64::NAN; 6];
     let mut times = 1;
@@ -62,10 +65,12 @@ pub fn measure(job: &Job, peers: &[Peer], before: Option<Before>, effort: Effort
             timed(times, || assert_eq!(unpack(baseline::plan(&text, &mut store, &mut sheet)).0, answer)),
             timed(times, || black_box(&mut store).fill(0)),
             timed(times, || assert_eq!(cartfloor::check(&text, &mut store, &written), passed)),
-            before.map_or(f64::NAN, |b| {
+            before.as_ref().map_or(f64::NAN, |(b, _)| {
                 timed(times, || assert_eq!(unpack(b.plan(&text, &mut store, &mut sheet)).0, answer))
             }),
-            before.map_or(f64::NAN, |b| timed(times, || assert_eq!(b.check(&text, &mut store, &mut written), passed))),
+            before.as_mut().map_or(f64::NAN, |(b, its_own)| {
+                timed(times, || assert_eq!(b.check(&text, &mut store, its_own), passed))
+            }),
         ];
         for (best, time) in best.iter_mut().zip(round) {
             *best = best.min(time);
