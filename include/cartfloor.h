@@ -75,14 +75,20 @@
  *
  * Lines, tabs and numbers are as in a job. A plan is a line PLAN with the number of calls and bays, and one PATH for each: its
  * cart, the call or bay, and the cart's cells from step 0 to the deadline, deadline + 1 of them. PATH lines go by deadline, equal
- * deadlines in the order of the job.
+ * deadlines by the number of the lift or bay cell.
  *
  *     PLAN 2                a plan for a bay and a call
  *     PATH 1 0 4 3 1        cart 1 parks in bay 0: on cell 4 at step 0, on cell 3 at step 1, on cell 1 at step 2
  *     PATH 0 1 0 1 2        cart 0 serves call 1: on the bay's cell at step 1, while it is open
  *
+ * With the cells 0, 1 and 2 in a row, CART 0, CART 1, CALL 2 1 and CALL 1 1, where the lower cell is called second:
+ *
+ *     PLAN 2                a plan for two calls with one deadline
+ *     PATH 0 1 0 1          call 1, on cell 1, comes first
+ *     PATH 1 0 1 2          call 0, on cell 2, behind it
+ *
  * Where there is no plan, CANNOT has the number of choke points, fewer than calls and bays, and then follows one CHOKE for each:
- * cell and step. CHOKE lines go by step, then cell, none twice. With the cells 0, 1 and 2 in a row, CART 0, CART 1, BAY 1 0 and
+ * cell and step. CHOKE lines go by step, then cell, none twice. On the same floor with the same carts, with BAY 1 0 and
  * CALL 2 2, where cart 1 parks on cell 1 at step 0 and cart 0 cannot pass:
  *
  *     CANNOT 1              no plan; one choke point for a bay and a call
@@ -106,8 +112,8 @@ extern "C" {
 /* The version of this header and its library. The minor number moves where jobs or sheets are read or written otherwise than
  * before, or where calls are added: programs compile as they are. The major number moves where a program has to change. */
 #define CARTFLOOR_VERSION_MAJOR 1
-#define CARTFLOOR_VERSION_MINOR 1
-#define CARTFLOOR_VERSION "1.1"
+#define CARTFLOOR_VERSION_MINOR 2
+#define CARTFLOOR_VERSION "1.2"
 
 /* C++ compilers can be asked to warn of C's casts. */
 #ifdef __cplusplus

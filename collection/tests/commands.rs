@@ -5,7 +5,7 @@ mod kit;
 use std::fs;
 use std::os::unix::fs::MetadataExt;
 
-use harness::examples::{e, A, B, C, D, F, G};
+use harness::examples::{e, A, A_BY_CALL, B, C, D, F, G};
 use kit::mixed::mixed;
 use kit::{is_right, tabs, Folder};
 
@@ -76,6 +76,20 @@ fn plan_again_writes_wrong_sheets_too() {
     }
     assert_eq!(folder.files(), files);
     folder.floors(&["plan", "--again", "-q", "floor 1", "floor 2"]).expect(0, "", "");
+}
+
+/// Equal deadlines in the order of the job, as sheets were filed once.
+#[test]
+fn plan_again_writes_sheets_in_the_former_order_anew() {
+    let folder = Folder::new();
+    folder.put("a.job", tabs(A.job));
+    folder.put("a.sheet", tabs(A_BY_CALL));
+    let wrong = "a.sheet: error[12]: the sheet is in the form, yet no plan, no true choke list, or out of order\n";
+    folder.floors(&["check", "-q"]).expect(1, wrong, "");
+    folder.floors(&["plan", "-q"]).expect(1, wrong, "");
+    assert_eq!(folder.get("a.sheet"), tabs(A_BY_CALL));
+    folder.floors(&["plan", "-q", "--again"]).expect(0, "", "");
+    assert_eq!(folder.get("a.sheet"), tabs(A.sheet));
 }
 
 #[test]

@@ -41,14 +41,15 @@ fn lines(shown: &[String]) -> Vec<u8> {
     shown.iter().map(line).collect::<String>().into_bytes()
 }
 
-/// The job, its plan, and a job that has none.
+/// The job and its plan, that of a job whose calls are in another order than their cells, and a job that has none.
 #[test]
-fn the_examples_with_a_bay() {
+fn the_examples() {
     let example = |name: &str| fs::read(format!("{ROOT}/examples/{name}.job")).expect("an example");
-    let (job, plan) = (lines(&shown_behind("## A job")), lines(&shown_behind("## Its sheet")));
-    let cannot = lines(&shown_behind("PLAN has the number of"));
+    let sheet = |words: &str| lines(&shown_behind(words));
+    let job = lines(&shown_behind("## A job"));
     assert_eq!(job, example("bay"));
-    for (job, sheet) in [(job, plan), (example("closed"), cannot)] {
+    let sheets = [sheet("## Its sheet"), sheet("In `examples/a.job`"), sheet("In `examples/closed.job`")];
+    for (job, sheet) in [job, example("a"), example("closed")].into_iter().zip(sheets) {
         Folder::new().floors_with(&["plan", "-"], &job).expect(0, std::str::from_utf8(&sheet).expect("text"), "");
     }
 }

@@ -50,15 +50,30 @@ pub fn macros() -> BTreeSet<String> {
     all.windows(2).filter(|pair| pair[0] == "define").map(|pair| pair[1].to_string()).collect()
 }
 
-/// The passage of the manual that shows how to plan a job: of those that are set in, the one with the call.
-pub fn example() -> String {
+/// The passages of the manual that are set in.
+fn passages() -> Vec<Vec<String>> {
     let manual = manual();
     let set_in = |line: &str| line.strip_prefix(" *     ").map(str::to_string);
     let lines: Vec<Option<String>> = manual.lines().map(set_in).collect();
-    let mut passages =
-        lines.split(Option::is_none).map(|passage| passage.iter().flatten().cloned().collect::<Vec<_>>());
+    lines.split(Option::is_none).map(|passage| passage.iter().flatten().cloned().collect()).collect()
+}
+
+/// The passage that shows how to plan a job: the one with the call.
+pub fn example() -> String {
     let shows_the_call = |passage: &Vec<String>| passage.iter().any(|line| line.contains("cartfloor_plan("));
-    passages.find(shows_the_call).expect("an example in the header").join("\n")
+    passages().into_iter().find(shows_the_call).expect("an example in the header").join("\n")
+}
+
+/// The jobs and sheets that the manual shows, without what is said of their lines: the passages that open with a word and
+/// its number.
+pub fn shown() -> Vec<String> {
+    let is_text = |passage: &Vec<String>| {
+        let mut opens = passage.first().map_or("", String::as_str).split(' ');
+        opens.next().is_some_and(|word| ["FLOOR", "PLAN", "CANNOT"].contains(&word))
+            && opens.next().is_some_and(|number| number.parse::<usize>().is_ok())
+    };
+    let line = |line: &String| line.split("  ").next().unwrap_or_default().to_string() + "\n";
+    passages().iter().filter(|passage| is_text(passage)).map(|passage| passage.iter().map(line).collect()).collect()
 }
 
 /// The names of the enum constants, without their numbers.

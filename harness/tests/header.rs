@@ -3,14 +3,15 @@
 use std::collections::BTreeSet;
 use std::fs;
 
-use harness::header::{assert_rows, is_ours, names, row, words};
+use harness::examples::{A, BAY, CLOSED};
+use harness::header::{assert_rows, is_ours, names, row, shown, words};
 
 const SPECS: &str = concat!(env!("CARGO_MANIFEST_DIR"), "/../crates/model/specs");
 
 /// What the header has for a C program to write down, and its number.
 const NUMBERS: &[(&str, u64)] = &[
     ("CARTFLOOR_VERSION_MAJOR", 1),
-    ("CARTFLOOR_VERSION_MINOR", 1),
+    ("CARTFLOOR_VERSION_MINOR", 2),
     ("CARTFLOOR_PLAN", 0),
     ("CARTFLOOR_CANNOT", 1),
     ("CARTFLOOR_TEXT_TOO_LONG", 2),
@@ -71,7 +72,7 @@ const NUMBERS: &[(&str, u64)] = &[
 ];
 
 /// What it has that is no number.
-const TEXTS: &[(&str, &str)] = &[("CARTFLOOR_VERSION", "1.1")];
+const TEXTS: &[(&str, &str)] = &[("CARTFLOOR_VERSION", "1.2")];
 
 /// The guard of the header, and the calls, which `header_calls.rs` holds.
 const NO_NUMBERS: &[&str] = &["CARTFLOOR_H", "cartfloor_plan", "cartfloor_check"];
@@ -163,4 +164,10 @@ fn the_definitions_have_these_numbers() {
         let text = fs::read_to_string(&file).expect("a file of definitions");
         assert!(text.lines().any(|found| found.trim() == line), "no line {line:?} in {file}");
     }
+}
+
+/// The job and the sheets that its manual shows are filed ones.
+#[test]
+fn the_examples_it_shows() {
+    assert_eq!(shown(), [BAY.job, BAY.sheet, A.sheet, CLOSED.sheet]);
 }
