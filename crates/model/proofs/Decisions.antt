@@ -164,7 +164,7 @@ module _ (j : Job) (ps : List Path) where
       (dec-and (all-in (dec-leads j) ps) (dec-and (dec-no-share ps) (dec-no-trade ps))))))
 
 abbrev pub dec-sooner : (p q : Call) → Dec (Sooner p q)
-dec-sooner p q = dec-lex (p .deadline) (p .cell) (q .deadline) (q .cell)
+dec-sooner p q = dec-lex _ _ _ _
 
 abbrev pub dec-before : (j : Job) (p q : Path) → Dec (Before j p q)
 dec-before j p q = dec-sooner (callOf j (p .call)) (callOf j (q .call))

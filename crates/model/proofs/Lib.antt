@@ -12,6 +12,7 @@ pub mod Read
 pub mod Ready
 pub mod Agree
 pub mod Decisions
+pub mod OneOrder
 pub mod OnFloor
 pub mod Every
 pub mod Filed

@@ -47,7 +47,7 @@ pub record Plan (j : Job) (ps : List Path) : Type 0 where
   pub no-share : NoShare ps
   pub no-trade : NoTrade ps
 
--- The order of calls and of the lines of a plan: by deadline, equal deadlines by cell.
+-- The order of calls and of the lines of a plan: by deadline, equal deadlines by cell. A cell has one call at most.
 abbrev pub Sooner : Call → Call → Type 0
 Sooner p q = Lex (p .deadline) (p .cell) (q .deadline) (q .cell)
 
