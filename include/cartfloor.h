@@ -88,8 +88,8 @@
  *     PATH 1 0 1 2          call 0, on cell 2, behind it
  *
  * Where there is no plan, CANNOT has the number of choke points, fewer than calls and bays, and then follows one CHOKE for each:
- * cell and step. CHOKE lines go by step, then cell, none twice. On the same floor with the same carts, with BAY 1 0 and
- * CALL 2 2, where cart 1 parks on cell 1 at step 0 and cart 0 cannot pass:
+ * cell and step. CHOKE lines go by step, then cell, none twice. On the same floor with the same carts, with BAY 1 0 and CALL 2 2,
+ * where cart 1 parks on cell 1 at step 0 and cart 0 cannot pass:
  *
  *     CANNOT 1              no plan; one choke point for a bay and a call
  *     CHOKE 1 0             every walk from any cart to the bay or the call stands on cell 1 at step 0
@@ -110,7 +110,8 @@ extern "C" {
 #endif
 
 /* The version of this header and its library. The minor number moves where jobs or sheets are read or written otherwise than
- * before, or where calls are added: programs compile as they are. The major number moves where a program has to change. */
+ * before, or where calls are added: programs compile as they are. The major number moves where a program has to change. Since
+ * 1.2 equal deadlines go by cell: sheets of 1.1 and before are out of order (12) where they have them in another order. */
 #define CARTFLOOR_VERSION_MAJOR 1
 #define CARTFLOOR_VERSION_MINOR 2
 #define CARTFLOOR_VERSION "1.2"
@@ -172,9 +173,10 @@ enum {
     /* the sheet buffer is too short. To do: lend twice as much and call again. */
     CARTFLOOR_SHEET_TOO_SHORT = 10,
     /* the sheet is not in the form. To do: do not run it: see that line's word, numbers and count of fields, or plan the job
-     * again. */
+     * again (floors plan --again). */
     CARTFLOOR_BAD_SHEET = 11,
-    /* the sheet is in the form, yet no plan, no true choke list, or out of order. To do: do not run it: plan the job again. */
+    /* the sheet is in the form, yet no plan, no true choke list, or out of order. To do: do not run it: plan the job again
+     * (floors plan --again). */
     CARTFLOOR_WRONG_SHEET = 12
 };
 

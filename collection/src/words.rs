@@ -114,14 +114,14 @@ pub const NUMBERS: [Words; 13] = [
         number: BAD_SHEET,
         name: "BAD_SHEET",
         says: "the sheet is not in the form",
-        advice: "do not run it: see that line's word, numbers and count of fields, or plan the job again",
+        advice: "do not run it: see that line's word, numbers and count of fields, or plan the job again (floors plan --again)",
         of_lines: &[],
     },
     Words {
         number: WRONG_SHEET,
         name: "WRONG_SHEET",
         says: "the sheet is in the form, yet no plan, no true choke list, or out of order",
-        advice: "do not run it: plan the job again",
+        advice: "do not run it: plan the job again (floors plan --again)",
         of_lines: &[],
     },
 ];

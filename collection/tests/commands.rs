@@ -13,10 +13,10 @@ const DOUBLED: &str = "r.job:3: error[7]: a second cart on a cell\n    to do: st
 const UNEVEN: &str = "u.job: error[8]: there are not as many carts as calls and bays together\n    \
     to do: give each cart a call or bay, or leave it out\n";
 const BAD: &str = "floor 2/d.sheet:2: error[11]: the sheet is not in the form\n    \
-    to do: do not run it: see that line's word, numbers and count of fields, or plan the job again\n";
+    to do: do not run it: see that line's word, numbers and count of fields, or plan the job again (floors plan --again)\n";
 const WRONG: &str =
     "floor 2/f.sheet: error[12]: the sheet is in the form, yet no plan, no true choke list, or out of order\n    \
-    to do: do not run it: plan the job again\n";
+    to do: do not run it: plan the job again (floors plan --again)\n";
 const NONE_OF_C: &str = "floor 1/c.job: error: no sheet; the answer is PLAN\n    to do: floors plan writes it\n";
 const NONE_OF_G: &str = "g.job: error: no sheet; the answer is CANNOT\n    to do: floors plan writes it\n";
 

@@ -97,6 +97,17 @@ fn the_deadline_before_the_cell() {
     );
 }
 
+/// The lower cell is due a step later.
+#[test]
+fn deadlines_go_by_number_up_to_the_highest() {
+    for late in [1, 10, 100, 128, limits::DEADLINE] {
+        let path =
+            |cell: usize, call: usize, steps: usize| format!("PATH {cell} {call}{}", format!(" {cell}").repeat(steps));
+        let job = format!("FLOOR 2\nCART 0\nCART 1\nCALL 0 {late}\nCALL 1 {}\n", late - 1);
+        assert_only_so(&job, &[&path(1, 1, late), &path(0, 0, late + 1)]);
+    }
+}
+
 /// The call's cell: neither the cell on which the cart starts nor the number of cart or call goes that way.
 #[test]
 fn the_cell_where_a_path_ends() {

@@ -1,3 +1,3 @@
-// Tables of the floor, and the order of the calls.
+// Tables of the floor, and the order of a sheet's lines.
 pub mod order;
 pub mod tables;

@@ -1,4 +1,4 @@
--- The order by two numbers goes on from one pair to the next, none stands before itself, and of two that differ one stands before the other. Assumes nothing.
+-- The order by two numbers goes on from one pair to the next, none stands before itself, and of two with different second numbers one stands before the other. Assumes nothing.
 use Prim.Native.Nat.{ℕ, _<_}
 use mathlib.Core.Path.{_≡_}
 use mathlib.Core.Logic.{inl, inr}

@@ -1,5 +1,5 @@
--- The lines of a sheet have one right order. Of two calls of a job that was read one stands before the other, since a cell has one call at most; and a plan or a choke list that
--- is in order is told by its members: in another order it is out of order. Assumes nothing.
+-- No plan and no choke list has two right orders: one that is in order is told by its members. And of two calls of a job that was read one stands before the other, since a
+-- cell has one call at most. Assumes nothing.
 use Prim.Native.Nat.{ℕ, _<_}
 use mathlib.Core.Path.{_≡_, refl, sym, _∙_}
 use mathlib.Core.List.{List, [], _∷_}

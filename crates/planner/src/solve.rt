@@ -1,4 +1,4 @@
-// The calls one after the other in the order of their lines, each served by a search; then the paths, or the choke list.
+// The calls one after the other in the order of the sheet, each served by a search; then the paths, or the choke list.
 use job::state::Job;
 use model::Limits;
 use model::bytes::wide;
