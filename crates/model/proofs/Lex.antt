@@ -1,7 +1,7 @@
--- The order by two numbers goes on from one pair to the next, none stands before itself, and of two with different second numbers one stands before the other. Assumes nothing.
+-- The order by two numbers goes on from one pair to the next, none stands before itself, and of two that differ one stands before the other. Assumes nothing.
 use Prim.Native.Nat.{ℕ, _<_}
 use mathlib.Core.Path.{_≡_}
-use mathlib.Core.Logic.{inl, inr}
+use mathlib.Core.Logic.{_⊎_, inl, inr}
 use native.Mathlib.Omega.{arith}
 use Rattle.model.specs.Lists.{Lex}
 use Rattle.model.proofs.Decide.{dec-and, dec-or, dec-eq, dec-lt}
@@ -19,14 +19,14 @@ pub lex-apart : {a b c d : ℕ} → Lex a b c d → a ≡ c → b ≡ d → ⊥
 lex-apart (inl h) e f = omega arith
 lex-apart (inr h) e f = omega arith
 
-pub lex-else : (a b c d : ℕ) → (b ≡ d → ⊥) → (Lex a b c d → ⊥) → Lex c d a b
-lex-else a b c d apart not = go (dec-lt c a) (dec-lt d b)
+pub lex-else : (a b c d : ℕ) → (Lex a b c d → ⊥) → Lex c d a b ⊎ ((a ≡ c) × (b ≡ d))
+lex-else a b c d not = go (dec-lt c a) (dec-lt d b)
   where
-    go : Dec (c < a) → Dec (d < b) → Lex c d a b
-    go (yes h) _ = inl h
-    go (no h) (yes l) = let k : a < c → ⊥ = λ m. not (inl m) in inr (omega arith, l)
+    go : Dec (c < a) → Dec (d < b) → Lex c d a b ⊎ ((a ≡ c) × (b ≡ d))
+    go (yes h) _ = inl (inl h)
+    go (no h) (yes l) = let k : a < c → ⊥ = λ m. not (inl m) in inl (inr (omega arith, l))
     go (no h) (no l) =
         let k : a < c → ⊥ = λ m. not (inl m) in
         let e : a ≡ c = omega arith in
         let n : b < d → ⊥ = λ m. not (inr (e, m)) in
-        absurd (apart (omega arith))
+        inr (e, omega arith)

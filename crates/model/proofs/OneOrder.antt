@@ -3,7 +3,7 @@
 use Prim.Native.Nat.{ℕ, _<_}
 use mathlib.Core.Path.{_≡_, refl, sym, _∙_}
 use mathlib.Core.List.{List, [], _∷_}
-use mathlib.Core.Logic.{_⊎_, _↔_, inl, inr}
+use mathlib.Core.Logic.{_⊎_, _↔_, inl, inr, ⊎-elim}
 use lib.ListN.{length}
 use Rattle.model.specs.Lists.{In, Rising}
 use Rattle.model.specs.Job.{Job, lift, call, callOf}
@@ -20,7 +20,7 @@ one-sooner j r p q h g apart = go (dec-sooner (callOf j p) (callOf j q))
   where
     go : Dec (Sooner (callOf j p) (callOf j q)) → Sooner (callOf j p) (callOf j q) ⊎ Sooner (callOf j q) (callOf j p)
     go (yes s) = inl s
-    go (no s) = inr (lex-else _ _ _ _ (λ e. apart (place-of (λ c. c .cell) (j .calls) (r .fit .own-targets) p q (call lift 0 0) h g e)) s)
+    go (no s) = ⊎-elim inr (λ e. absurd (apart (place-of (λ c. c .cell) (j .calls) (r .fit .own-targets) p q (call lift 0 0) h g (e .1)))) (lex-else _ _ _ _ s)
 
 module _ {A : Type 0} (R : A → A → Type 0) (on : (x y z : A) → R x y → R y z → R x z) (not-itself : (x : A) → R x x → ⊥) where
   behind : (x : A) (xs : List A) → Rising R (x ∷ xs) → Rising R xs
