@@ -46,7 +46,9 @@ fn in_order<'a>(
 {
     let mut k = 0;
     while k + 1 < n {
-        if !sooner(targets, deadlines, wide(calls[k]), wide(calls[k + 1])) {
+        let p = wide(calls[k]);
+        let q = wide(calls[k + 1]);
+        if !sooner(targets, deadlines, p, q) {
             return false;
         }
         k += 1;
