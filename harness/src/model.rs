@@ -1,4 +1,5 @@
-//! The description in the README in plain Rust: what a job is, what a sheet is, and what the calls must answer.
+//! The description in the README in plain Rust: what a job is, what a sheet is, what a map is, and what the calls
+//! must answer.
 //!
 //! It shares nothing with the library. Where it can be clear or fast, it is clear.
 
@@ -8,6 +9,7 @@ pub mod choke;
 pub mod job;
 pub mod limits;
 pub mod lines;
+pub mod map;
 pub mod plan;
 pub mod planner;
 pub mod reader;

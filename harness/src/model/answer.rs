@@ -4,6 +4,8 @@
 //! numbers, have them once more.
 
 pub const PLAN: u8 = 0;
+/// A map's floor is written.
+pub const FLOOR: u8 = 0;
 pub const CANNOT: u8 = 1;
 pub const TEXT_TOO_LONG: u8 = 2;
 pub const BAD_LINE: u8 = 3;
@@ -13,11 +15,14 @@ pub const TOO_MANY: u8 = 6;
 pub const DOUBLED: u8 = 7;
 pub const UNEVEN: u8 = 8;
 pub const STORE_TOO_SHORT: u8 = 9;
+/// The buffer that is written to: the sheet's, or the text's of a map.
 pub const SHEET_TOO_SHORT: u8 = 10;
 pub const BAD_SHEET: u8 = 11;
 pub const WRONG_SHEET: u8 = 12;
+pub const BAD_MAP: u8 = 13;
+pub const NO_FLOOR: u8 = 14;
 
-/// Every answer but PLAN and CANNOT, which come with a sheet, written or passed.
+/// Every answer but PLAN and CANNOT, which come with a sheet, written or passed, and FLOOR, the same number as PLAN.
 pub fn is_refusal(answer: u8) -> bool {
     answer != PLAN && answer != CANNOT
 }

@@ -9,6 +9,8 @@ pub const CARTS: usize = 64;
 pub const CALLS: usize = 64;
 pub const DEADLINE: usize = 255;
 pub const TEXT: usize = 16_384;
+/// The most rows of a map, and the most letters of a row.
+pub const SIDE: usize = 64;
 
 /// The least work store.
 pub fn store_least(job: &Job) -> usize {

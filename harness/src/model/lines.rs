@@ -1,4 +1,4 @@
-//! Lines, fields and numbers, the same in jobs and in sheets.
+//! Lines, fields and numbers, the same in jobs and in sheets. Maps have such numbers too.
 
 pub const LF: u8 = 10;
 pub const TAB: u8 = 9;
@@ -22,7 +22,7 @@ fn line(bytes: &[u8]) -> Line<'_> {
 }
 
 /// A number is 1 to 3 decimal digits without a leading zero; "0" is right.
-fn number(field: &[u8]) -> Option<usize> {
+pub fn number(field: &[u8]) -> Option<usize> {
     let right = match field {
         [only] => only.is_ascii_digit(),
         [first, rest @ ..] => {
