@@ -1,7 +1,9 @@
 //! One call held against the model: the answer, and every byte of every buffer.
 
+mod map;
 mod planner;
 
+pub use map::{answer_to_map, library_on_map, map};
 pub use planner::{plan, planned};
 
 use crate::examples::tabs;

@@ -1,8 +1,10 @@
 //! The library's calls, made with buffers that stand between guard bytes.
 
 mod lent;
+mod map;
 mod planner;
 
+pub use map::{map, Converter, Mapped};
 pub use planner::{plan, Planned};
 
 use cartfloor::cartfloor_check;
