@@ -1,4 +1,4 @@
-//! Jobs and sheets to try, all from seeds, so that a failing case comes again.
+//! Jobs, sheets and maps to try, all from seeds, so that a failing case comes again.
 
 pub mod bays;
 pub mod cases;
@@ -7,6 +7,9 @@ pub mod damage;
 pub mod floors;
 pub mod large;
 pub mod lists;
+pub mod map_cases;
+pub mod map_damage;
+pub mod maps;
 pub mod orders;
 pub mod plans;
 mod rng;

@@ -46,7 +46,7 @@ fn changed_byte(text: &[u8], rng: &mut Rng) -> Vec<u8> {
     text
 }
 
-fn lost_byte(text: &[u8], rng: &mut Rng) -> Vec<u8> {
+pub(super) fn lost_byte(text: &[u8], rng: &mut Rng) -> Vec<u8> {
     let mut text = text.to_vec();
     if !text.is_empty() {
         text.remove(rng.below(text.len()));
@@ -61,7 +61,7 @@ fn added_byte(text: &[u8], rng: &mut Rng) -> Vec<u8> {
 }
 
 /// Often only the last LF is lost.
-fn cut_off(text: &[u8], rng: &mut Rng) -> Vec<u8> {
+pub(super) fn cut_off(text: &[u8], rng: &mut Rng) -> Vec<u8> {
     let lost = if rng.once_in(2) { 1 } else { rng.below(text.len() + 1) };
     text[..text.len().saturating_sub(lost)].to_vec()
 }
@@ -77,11 +77,11 @@ fn repeated(text: &[u8], _: &mut Rng) -> Vec<u8> {
 }
 
 /// The lines with their LF.
-fn lines(text: &[u8]) -> Vec<Vec<u8>> {
+pub(super) fn lines(text: &[u8]) -> Vec<Vec<u8>> {
     text.split_inclusive(|&b| b == LF).map(<[u8]>::to_vec).collect()
 }
 
-fn lost_line(text: &[u8], rng: &mut Rng) -> Vec<u8> {
+pub(super) fn lost_line(text: &[u8], rng: &mut Rng) -> Vec<u8> {
     let mut lines = lines(text);
     if !lines.is_empty() {
         lines.remove(rng.below(lines.len()));
@@ -105,7 +105,7 @@ fn word(line: &[u8]) -> Option<&[u8]> {
     line.split(|&b| b == TAB).next()
 }
 
-fn swapped_lines(text: &[u8], rng: &mut Rng) -> Vec<u8> {
+pub(super) fn swapped_lines(text: &[u8], rng: &mut Rng) -> Vec<u8> {
     let mut lines = lines(text);
     if !lines.is_empty() {
         let (one, other) = (rng.below(lines.len()), rng.below(lines.len()));
