@@ -2,12 +2,13 @@
 //!
 //! It reads jobs as the model does, since the faults are about sheets. The rest goes other ways than the model: the
 //! sheet in one pass of bytes, conflicts by a table of who stands where, choke lists backwards from the calls, closed cells
-//! by a table of steps, the order of paths by looking at each two.
+//! by a table of steps, the order of paths by looking at each two. `map` has a second converter of maps.
 
 mod backwards;
 mod bays;
 mod conflicts;
 mod form;
+pub mod map;
 mod order;
 
 use crate::ffi::Checker;
