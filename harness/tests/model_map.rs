@@ -2,6 +2,7 @@
 //! and that the comparison finds each fault in a converter of maps.
 
 use std::collections::{BTreeMap, BTreeSet};
+use std::fs;
 
 use harness::compare;
 use harness::examples::tabs;
@@ -57,6 +58,16 @@ fn the_buffer_after_a_call() {
     assert_eq!(buffer_after(&Ok(b"ab".to_vec()), b"12345"), b"ab345");
     assert_eq!(buffer_after(&Ok(b"ab".to_vec()), b"12"), b"ab");
     assert_eq!(buffer_after(&Err(refusal(NO_FLOOR)), b"12345"), b"12345");
+}
+
+/// What is written down beside the maps of `examples/` by hand.
+#[test]
+fn the_example_files() {
+    for name in ["packing", "aisles"] {
+        let file = format!("{}/../examples/{name}", env!("CARGO_MANIFEST_DIR"));
+        let [map, floor] = ["map", "floor"].map(|end| fs::read(format!("{file}.{end}")).expect("an example"));
+        assert_eq!(text_of(&map, floor.len()), Ok(floor), "{name}");
+    }
 }
 
 /// Two cells are joined exactly if they are next to each other in a row or a column: said of every two cells.
