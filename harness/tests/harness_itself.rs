@@ -1,7 +1,14 @@
-//! The comparison itself: it finds each fault in a check, and blames no check that has none. And the measure of stacks.
+//! The comparison itself: it finds each fault in a check, and blames no check that has none. And the measure of stacks,
+//! and the fences.
+
+use std::ffi::c_void;
+use std::fs::File;
+use std::io::pipe;
+use std::os::fd::AsRawFd;
 
 use harness::compare;
 use harness::faulty::{Fault, Faulty, FAULTS};
+use harness::fenced::{Fence, Fenced, FENCES};
 use harness::gen::cases::{Known, KINDS};
 use harness::gen::small::small;
 use harness::gen::Rng;
@@ -56,4 +63,44 @@ fn the_depth_of_a_call_is_seen() {
     let (little, much) = (depth(with_table::<1>), depth(with_table::<100_000>));
     assert!(little < 4096, "{little}");
     assert!((100_000..104_096).contains(&much), "{much}");
+}
+
+extern "C" {
+    fn read(file: i32, to: *mut c_void, len: usize) -> isize;
+    fn write(file: i32, from: *const c_void, len: usize) -> isize;
+}
+
+/// Whether a byte may be read, and whether it may be written: the system itself reads and writes it, and says so.
+fn access(byte: *mut u8) -> (bool, bool) {
+    let (_reader, writer) = pipe().expect("a pipe");
+    let zeros = File::open("/dev/zero").expect("zeros");
+    // Safety: the system looks whether it may touch the byte, and does nothing else where it may not.
+    unsafe {
+        let (read, written) = (read(zeros.as_raw_fd(), byte.cast(), 1), write(writer.as_raw_fd(), byte.cast(), 1));
+        (written == 1, read == 1)
+    }
+}
+
+#[test]
+fn fences_stand_where_they_should() {
+    for len in [1, 2, 4095, 4096, 4097, 10_000] {
+        for fence in FENCES {
+            for said in [len, 1 << 40] {
+                let mut fenced = Fenced::said_to_be(said, &vec![1; len], fence);
+                let (start, claimed) = fenced.parts();
+                assert_eq!(claimed, said);
+                let outside = match fence {
+                    Fence::Before => start.wrapping_sub(1),
+                    Fence::Behind => start.wrapping_add(len),
+                };
+                let last = start.wrapping_add(len - 1);
+                assert_eq!([start, last, outside].map(access), [(true, true), (true, true), (false, false)]);
+                fenced = fenced.read_only();
+                assert_eq!([start, last, outside].map(access), [(true, false), (true, false), (false, false)]);
+                fenced = fenced.untouchable();
+                assert_eq!([start, last, outside].map(access), [(false, false); 3]);
+                drop(fenced);
+            }
+        }
+    }
 }
