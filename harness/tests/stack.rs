@@ -2,9 +2,10 @@
 
 use std::thread;
 
-use harness::ffi::{check, plan, Library};
+use harness::ffi::{check, map, plan, Library};
 use harness::gen::floors::*;
 use harness::gen::large::*;
+use harness::gen::maps::{corridor, scattered, Drawing};
 use harness::gen::Rng;
 use harness::model::answer::*;
 use harness::model::job::Job;
@@ -121,4 +122,49 @@ fn high_water_mark_of_the_planner() {
         }
     }
     assert_high_water_mark("cartfloor_plan", &depths);
+}
+
+/// Maps at the limits with their answers: as many cells and tracks as can be, and what is refused last.
+fn maps() -> Vec<(Vec<u8>, u8)> {
+    let open = Drawing::of(b'.', limits::SIDE, limits::SIDE).text();
+    let bad_end = open[..open.len() - 1].to_vec();
+    vec![
+        (Drawing::of(b'.', 16, 16).text(), FLOOR),
+        (scattered(limits::SIDE, limits::SIDE, limits::CELLS, &mut Rng::new(7)).text(), FLOOR),
+        (corridor(limits::SIDE, limits::SIDE, limits::CELLS).text(), FLOOR),
+        (Drawing::of(b'@', limits::SIDE, limits::SIDE).text(), NO_FLOOR),
+        (open, NO_FLOOR),
+        (bad_end, BAD_MAP),
+    ]
+}
+
+#[test]
+fn maps_at_every_limit() {
+    for (text, answer) in maps() {
+        let call = move || map(&Library, &text, cartfloor::FLOOR_MOST, &mut Rng::new(1));
+        let mapped = with_little_stack(call).expect("no byte changed");
+        assert_eq!(unpack(mapped.packed).0, answer);
+    }
+}
+
+/// How deep the call for a map goes, and its answer.
+fn depth_of_map(map: &[u8], text_len: usize) -> (usize, u8) {
+    let mut text = vec![1; text_len];
+    let mut packed = 0;
+    let depth = depth_of(|| packed = cartfloor::map(map, &mut text));
+    (depth, unpack(packed).0)
+}
+
+#[test]
+fn high_water_mark_of_the_map() {
+    let mut depths = Vec::new();
+    for (map, answer) in maps() {
+        let short = if answer == FLOOR { SHEET_TOO_SHORT } else { answer };
+        for (text_len, expected) in [(cartfloor::FLOOR_MOST, answer), (0, short)] {
+            let (depth, found) = depth_of_map(&map, text_len);
+            assert_eq!(found, expected);
+            depths.push(depth);
+        }
+    }
+    assert_high_water_mark("cartfloor_map", &depths);
 }

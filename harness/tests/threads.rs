@@ -1,10 +1,11 @@
-//! Two threads plan and check different jobs at the same time: each gets what it gets alone.
+//! Two threads plan and check different jobs, and turn maps into floors, at the same time: each gets what it gets alone.
 
 use std::sync::Barrier;
 use std::thread;
 
-use harness::ffi::{check, plan, Library};
+use harness::ffi::{check, map, plan, Library};
 use harness::gen::damage::changed;
+use harness::gen::map_cases::{damaged_maps, large_maps, MapCase};
 use harness::gen::sizes::{at_the_limits, medium};
 use harness::gen::Rng;
 use harness::model::answer::unpack;
@@ -35,38 +36,50 @@ fn given(job: &Job, seed: u64) -> Given {
     }
 }
 
-/// Both threads go through their jobs so many times, from the same moment on.
-fn assert_same_at_once(jobs: [Vec<Job>; 2], times: usize) {
-    let alone = jobs.each_ref().map(|jobs| jobs.iter().map(|job| given(job, 1)).collect::<Vec<Given>>());
+/// What the call gives for a map: its answer, and the text buffer.
+fn given_for_map(case: &MapCase, seed: u64) -> (u64, Vec<u8>) {
+    let mapped = map(&Library, &case.map, case.text_len, &mut Rng::new(seed)).expect("guards as lent");
+    (mapped.packed, mapped.text)
+}
+
+/// Both threads go through what is theirs so many times, from the same moment on.
+fn assert_same_at_once<T: Sync, G: PartialEq + Sync>(theirs: [Vec<T>; 2], given: fn(&T, u64) -> G, times: usize) {
+    let alone = theirs.each_ref().map(|all| all.iter().map(|one| given(one, 1)).collect::<Vec<G>>());
     let begin = Barrier::new(2);
-    let all_again = |jobs: &[Job], alone: &[Given]| {
+    let all_again = |all: &[T], alone: &[G]| {
         begin.wait();
         for _ in 0..times {
-            for (i, job) in jobs.iter().enumerate() {
-                assert!(given(job, 1) == alone[i], "another result than alone for job {i}:\n{job:?}");
+            for (i, one) in all.iter().enumerate() {
+                assert!(given(one, 1) == alone[i], "another result than alone for the {i}th");
             }
         }
     };
     thread::scope(|scope| {
-        for (jobs, alone) in jobs.iter().zip(&alone) {
-            scope.spawn(|| all_again(jobs, alone));
+        for (all, alone) in theirs.iter().zip(&alone) {
+            scope.spawn(|| all_again(all, alone));
         }
     });
 }
 
-fn two_of(count: usize, job: fn(&mut Rng) -> Job) -> [Vec<Job>; 2] {
+fn two_of<T>(count: usize, make: fn(&mut Rng) -> T) -> [Vec<T>; 2] {
     [1, 2].map(|seed| {
         let mut rng = Rng::new(seed);
-        (0..count).map(|_| job(&mut rng)).collect()
+        (0..count).map(|_| make(&mut rng)).collect()
     })
 }
 
 #[test]
 fn medium_jobs_at_once() {
-    assert_same_at_once(two_of(50, medium), 20);
+    assert_same_at_once(two_of(50, medium), given, 20);
 }
 
 #[test]
 fn jobs_at_the_limits_at_once() {
-    assert_same_at_once(two_of(3, at_the_limits), 4);
+    assert_same_at_once(two_of(3, at_the_limits), given, 4);
+}
+
+#[test]
+fn maps_at_once() {
+    assert_same_at_once(two_of(100, large_maps), given_for_map, 50);
+    assert_same_at_once(two_of(100, damaged_maps), given_for_map, 50);
 }

@@ -1,10 +1,11 @@
-//! The same call again gives the same number and the same bytes, whatever is in store and sheet buffer.
+//! The same call again gives the same number and the same bytes, whatever is in store, sheet and text buffer.
 
 use harness::compare::{plan, show};
 use harness::examples::{tabs, BUFFER, EXAMPLES};
 use harness::gen::damage::changed;
 use harness::gen::floors::grid;
 use harness::gen::large::scattered;
+use harness::gen::map_cases::{damaged_maps, large_maps, small_maps, MapCase};
 use harness::gen::sizes::{at_the_limits, medium};
 use harness::gen::small::small;
 use harness::gen::Rng;
@@ -48,6 +49,19 @@ fn checked(job: &[u8], store_len: usize, sheet: &[u8]) -> u64 {
     all[0]
 }
 
+/// A map's answer, packed, and what is written for it, the same for every fill.
+fn mapped(case: &MapCase) {
+    let mut text = vec![0; case.text_len];
+    let all = FILLS.map(|with| {
+        fill(&mut text, with);
+        let packed = cartfloor::map(&case.map, &mut text);
+        let (answer, value) = unpack(packed);
+        let written = if is_refusal(answer) { 0 } else { value };
+        (packed, text[..written].to_vec())
+    });
+    assert!(all.windows(2).all(|pair| pair[0] == pair[1]), "not the same twice: {}", show(&case.map));
+}
+
 /// A job and its sheet, and both damaged.
 fn try_out(job: &Job, rng: &mut Rng) {
     let (text, store_len) = (job.text(), store_least(job));
@@ -76,6 +90,14 @@ fn medium_jobs_twice() {
 fn jobs_at_the_limits_twice() {
     let mut rng = Rng::new(3);
     (0..10).for_each(|_| try_out(&at_the_limits(&mut rng), &mut rng));
+}
+
+#[test]
+fn maps_twice() {
+    let mut rng = Rng::new(5);
+    for kind in [small_maps, large_maps, damaged_maps] {
+        (0..2000).for_each(|_| mapped(&kind(&mut rng)));
+    }
 }
 
 /// The same job gives the same bytes, whatever is in the store and wherever the buffers stand.
