@@ -1,10 +1,11 @@
 //! A planner in plain Rust without proofs: what the library's planner is timed against.
 //!
 //! The same algorithm and the same lent buffers, the store wiped at the end. From each call in the written order it
-//! searches back to a free cart, along a guess first. It trusts the job: no line is refused.
+//! searches back to a free cart, along a guess first. It trusts the job: no line is refused. `map` turns maps into floors.
 
 mod aim;
 mod job;
+pub mod map;
 mod planes;
 mod search;
 mod sheet;

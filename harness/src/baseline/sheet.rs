@@ -10,16 +10,16 @@ pub struct Writer<'a> {
 }
 
 impl Writer<'_> {
-    fn byte(&mut self, b: u8) {
+    pub fn byte(&mut self, b: u8) {
         self.sheet[self.at] = b;
         self.at += 1;
     }
-    fn word(&mut self, w: &[u8]) {
+    pub fn word(&mut self, w: &[u8]) {
         for &b in w {
             self.byte(b);
         }
     }
-    fn number(&mut self, v: usize) {
+    pub fn number(&mut self, v: usize) {
         self.byte(b'\t');
         if v >= 100 {
             self.byte(b'0' + (v / 100) as u8);

@@ -2,7 +2,8 @@
 //!
 //! For every job of every family, by turns in one process and in processor time of the thread: the planner's call, the
 //! baseline's, the wiping of the store alone, the check of the planner's sheet, the max-flow libraries that are there, and
-//! with `--before OBJECT` both calls of a former library. With `--floors PROGRAM` also a collection planned by that program.
+//! with `--before OBJECT` the calls of a former library. Maps turned into floors, by the call and by plain Rust. With
+//! `--floors PROGRAM` also a collection planned by that program.
 
 mod before;
 mod clock;
@@ -10,6 +11,7 @@ mod collection;
 mod counts;
 mod families;
 mod floors;
+mod maps;
 mod measure;
 mod peers;
 mod report;
@@ -41,6 +43,7 @@ const WORDS: &str = "\
   `lemon_static` is LEMON tuned by hand: a static graph, capacities that take no memory, only the cut where there is no plan.
 - before: a former library's calls, where `./bench --before ARCHIVE` names one, on the jobs that it does not turn back; its check gets its own sheet.
 - Times are processor time of the thread, by turns in one process; the best of many runs counts.
+- map: the library's call for maps, for eight maps of a family in turn. Its baseline: `harness/src/baseline/map.rs`, the same in plain Rust.
 - floors: a collection (`harness/src/gen/collection.rs`) planned, checked and filed by one run of `floors plan`, beside both calls of the library and
   the file system's own (write, flush, rename) for the same sheets, by as many threads. Time on the clock; the best of three runs each.
 - A node is a cell at a step. A visit puts a position on the search's stack; a look is at one of its neighbours. Place kept: the
@@ -53,7 +56,7 @@ fn main() {
     let is_quick = words.iter().any(|w| w == "--quick");
     let effort = if is_quick { QUICK } else { FULL };
     let peers = peers::load(after("--peers").map_or("target/peers", |folder| folder));
-    let before = after("--before").map(|file| Before::load(file).expect("a shared object with the two calls"));
+    let before = after("--before").map(|file| Before::load(file).expect("a shared object with the calls"));
     let measured = |name: &str, jobs: &[Job], peers: &[Peer]| Measured {
         name: name.into(),
         jobs: jobs.iter().map(|job| measure(job, peers, before, effort)).collect(),
@@ -72,11 +75,14 @@ fn main() {
     let open_grid = measured("open grid at the limits", &at_limits, &[]);
     let sizes: Vec<(Size, Measured)> = SIDES.into_iter().map(of_side).collect();
 
+    eprintln!("maps");
+    let maps = maps::measure(before, effort.rounds);
+
     eprintln!("collection");
     let (count, rounds) = if is_quick { SMALL_COLLECTION } else { COLLECTION };
     let filed = after("--floors").map(|program| collection::measure(program, count, rounds));
 
-    report::ratios(&families, &open_grid, filed);
+    report::ratios(&families, &open_grid, &maps, filed);
     let names: Vec<&str> = peers.iter().map(|p| p.name).collect();
     let missing: Vec<&str> = peers::NAMES.into_iter().filter(|name| !names.contains(name)).collect();
     println!("Peers: {}. Missing: {}.\n", listed(&names), listed(&missing));
@@ -85,6 +91,8 @@ fn main() {
     report::family_ratios(&families);
     println!("## Microseconds, the median of a family and its longest\n");
     report::family_times(&families, &names);
+    println!("## Maps, microseconds each\n");
+    report::maps(&maps);
     println!("## Growth\n");
     report::growth(&sizes);
 }

@@ -1,7 +1,8 @@
-//! What is printed: the ratios that are asked for, then the families, then the growth.
+//! What is printed: the ratios that are asked for, then the families, the maps, and the growth.
 
 use crate::collection::Filed;
 use crate::families::Size;
+use crate::maps;
 use crate::measure::Figures;
 use crate::table::{geometric_mean, least, median, most, Table};
 
@@ -54,7 +55,7 @@ fn visits(f: &Figures) -> f64 {
 }
 
 /// Each ratio beside what is asked of it. `open_grid` has the jobs at the limits.
-pub fn ratios(families: &[Measured], open_grid: &Measured, filed: Option<Filed>) {
+pub fn ratios(families: &[Measured], open_grid: &Measured, maps: &[maps::Figures], filed: Option<Filed>) {
     let all = || families.iter().flat_map(|family| &family.jobs);
     let medians = |of: fn(&Figures) -> f64| families.iter().map(move |family| family.median(of));
     let without =
@@ -75,6 +76,10 @@ pub fn ratios(families: &[Measured], open_grid: &Measured, filed: Option<Filed>)
     row("plan / plan before, geometric mean of the families", "", geometric_mean(medians(of_before)));
     row("plan / plan before, worst family", "", most(medians(of_before)));
     row("check / check before, geometric mean of the families", "", geometric_mean(medians(of_check_before)));
+    let map_ratios = || maps.iter().map(|f| f.map / f.baseline);
+    row("map / baseline, geometric mean of the families", "", geometric_mean(map_ratios()));
+    row("map / baseline, worst family", "at most 1.5", most(map_ratios()));
+    row("map / map before, worst family", "", most(maps.iter().map(|f| f.map / f.before)));
     if let Some(Filed { jobs, one, all }) = filed {
         row(&format!("floors / calls and files, {jobs} jobs, one thread"), "at most 2", one);
         row(&format!("floors / calls and files, {jobs} jobs, all cores"), "at most 2", all);
@@ -128,6 +133,25 @@ pub fn family_times(families: &[Measured], peers: &[&str]) {
         row.extend(own.into_iter().map(pair));
         row.extend((0..peers.len()).map(|i| pair(&|f: &Figures| f.peers[i])));
         table.row(row);
+    }
+    table.print();
+}
+
+/// Maps a family, and how many bytes of them a second.
+pub fn maps(families: &[maps::Figures]) {
+    let head = ["family", "answer", "bytes", "map", "baseline", "map / baseline", "map / before", "MB of map a second"];
+    let mut table = Table::new(&head);
+    for f in families {
+        table.row([
+            f.name.into(),
+            f.answer.to_string(),
+            shown(f.bytes, 0),
+            shown(f.map, 2),
+            shown(f.baseline, 2),
+            shown(f.map / f.baseline, 2),
+            shown(f.map / f.before, 2),
+            shown(f.bytes / f.map, 0),
+        ]);
     }
     table.print();
 }
