@@ -1,4 +1,4 @@
-//! Damaged jobs and sheets in great number, each call held against the model. The same seed tries the same texts.
+//! Damaged jobs, sheets and maps in great number, each call held against the model. The same seed tries the same texts.
 
 use std::env;
 use std::process::ExitCode;
@@ -10,6 +10,7 @@ use harness::gen::cases::{
     changed_jobs, changed_sheets, choke_lists, doubled_points, other_orders, right_sheets, stores, wrong_plans, Case,
     Kind, Known,
 };
+use harness::gen::map_cases::MAP_KINDS;
 use harness::gen::orders;
 use harness::gen::sizes::{at_the_limits, medium};
 use harness::gen::small::{small, small_at_one_step};
@@ -22,7 +23,7 @@ use harness::tally::Tally;
 const USAGE: &str = "\
 soak [--seconds N] [--texts M] [--seed S] [--first T]
   --seconds N  for N seconds (10)
-  --texts M    until M damaged texts, jobs and sheets, are tried, however long that takes;
+  --texts M    until M damaged texts, jobs, sheets and maps, are tried, however long that takes;
                1000000 take some 3 minutes of processor time
   --seed S     which texts (else by the clock)
   --first T    from turn T on: with the seed of a run that found a difference, the turn it was found in";
@@ -49,6 +50,10 @@ const SMALL_AT_ONE_STEP: usize = 1;
 const MEDIUM: usize = 2;
 const AT_THE_LIMITS: usize = 3;
 
+/// How many maps of each kind a turn tries: the damaged ones come last.
+const MAPS: [usize; MAP_KINDS.len()] = [2, 2, 12];
+const DAMAGED_MAPS: usize = MAP_KINDS.len() - 1;
+
 /// What was tried, and what was answered.
 #[derive(Default)]
 struct Tried {
@@ -57,8 +62,10 @@ struct Tried {
     /// Jobs with calls of one step in another order than their cells.
     with_other_order: usize,
     kinds: [usize; KINDS.len()],
+    map_kinds: [usize; MAP_KINDS.len()],
     plans: Tally,
     checks: Tally,
+    maps: Tally,
 }
 
 fn main() -> ExitCode {
@@ -116,7 +123,8 @@ impl Run {
 }
 
 impl Tried {
-    /// A job, planned, and the kinds of cases it gives. Each turn has its own chance, so that it can be had alone.
+    /// A job, planned, and the kinds of cases it gives; then maps. Each turn has its own chance, so that it can be had
+    /// alone.
     fn turn(&mut self, seed: u64, turn: u64) -> Result<(), String> {
         let mut rng = Rng::new(seed.wrapping_add(turn << 32));
         // A call at the limits takes a thousand times as long as a small one.
@@ -138,7 +146,17 @@ impl Tried {
         match size {
             AT_THE_LIMITS => self.try_kind(rng.below(KINDS.len()), &known, &mut rng),
             _ => (0..KINDS.len()).try_for_each(|kind| self.try_kind(kind, &known, &mut rng)),
+        }?;
+        (0..MAP_KINDS.len()).try_for_each(|kind| self.try_maps(kind, &mut rng))
+    }
+
+    fn try_maps(&mut self, kind: usize, rng: &mut Rng) -> Result<(), String> {
+        for _ in 0..MAPS[kind] {
+            let case = MAP_KINDS[kind].1(rng);
+            self.map_kinds[kind] += 1;
+            self.maps.count(compare::map(&Library, &case, rng)?.0);
         }
+        Ok(())
     }
 
     fn try_kind(&mut self, kind: usize, known: &Known, rng: &mut Rng) -> Result<(), String> {
@@ -169,7 +187,7 @@ impl Tried {
 
     /// Texts that differ from the whole ones.
     fn damaged(&self) -> usize {
-        self.kinds[0] + self.kinds[1]
+        self.kinds[0] + self.kinds[1] + self.map_kinds[DAMAGED_MAPS]
     }
 
     fn print(&self, elapsed: Duration) {
@@ -183,8 +201,10 @@ impl Tried {
             "turns: {sizes}; {bays} with bays, {other_order} with calls of one step in another order than their cells"
         );
         println!("cases: {}", counted(&KINDS.map(|kind| kind.0), &self.kinds));
+        println!("maps: {}", counted(&MAP_KINDS.map(|kind| kind.0), &self.map_kinds));
         println!("answers of the planner: {}", self.plans);
         println!("answers of the check: {}", self.checks);
+        println!("answers to maps: {}", self.maps);
         let (texts, seconds) = (self.damaged(), elapsed.as_secs_f64());
         println!("{texts} damaged texts in {seconds:.1} s, {:.0} a second: no difference", texts as f64 / seconds);
     }

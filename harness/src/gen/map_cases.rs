@@ -1,6 +1,6 @@
 //! What is tried of maps: small ones, large ones, damaged ones, each with a text buffer of some length.
 
-use super::map_damage::damaged_map;
+use super::map_damage::changed_map;
 use super::maps::{some_map, Drawing, LETTERS};
 use super::Rng;
 use crate::model::map::text_of;
@@ -31,10 +31,10 @@ pub fn large_maps(rng: &mut Rng) -> MapCase {
     case(some_map(rng).text(), rng)
 }
 
-/// Half of them large.
+/// Half of them large. Some are maps still, but none is the whole one.
 pub fn damaged_maps(rng: &mut Rng) -> MapCase {
     let whole = if rng.once_in(2) { some_map(rng) } else { small_map(rng) };
-    case(damaged_map(&whole.text(), rng), rng)
+    case(changed_map(&whole.text(), rng), rng)
 }
 
 fn case(map: Vec<u8>, rng: &mut Rng) -> MapCase {

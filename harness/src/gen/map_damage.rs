@@ -11,7 +11,7 @@ const NUMBERS: [Damage; 3] = [other_number, other_number, near_number];
 const ROWS: [Damage; 5] = [other_letter, strange_letter, other_width, one_row_more, one_column_more];
 
 /// A text with one damage, now and then with more. It can be the same text, and it can still be a map.
-pub fn damaged_map(text: &[u8], rng: &mut Rng) -> Vec<u8> {
+fn damaged_map(text: &[u8], rng: &mut Rng) -> Vec<u8> {
     let kinds: [&[Damage]; 4] = [&BYTES, &LINES, &NUMBERS, &ROWS];
     let kind = rng.pick(&kinds);
     let once = rng.pick(kind)(text, rng);
@@ -19,6 +19,16 @@ pub fn damaged_map(text: &[u8], rng: &mut Rng) -> Vec<u8> {
         return damaged_map(&once, rng);
     }
     once
+}
+
+/// A damaged map that is not the same.
+pub fn changed_map(text: &[u8], rng: &mut Rng) -> Vec<u8> {
+    loop {
+        let other = damaged_map(text, rng);
+        if other != text {
+            return other;
+        }
+    }
 }
 
 /// Bytes that could stand in a map, and some that could not.
