@@ -65,6 +65,7 @@ pub enum MapFault {
     PassesNoCell,
     RefusesExactLength,
     // The bytes.
+    WritesWordFirst,
     WritesWhatFits,
     WritesBeforeCounting,
     WritesZeroBehindText,
@@ -124,6 +125,7 @@ pub const MAP_FAULTS: &[MapFault] = &[
     MapFault::Passes257,
     MapFault::PassesNoCell,
     MapFault::RefusesExactLength,
+    MapFault::WritesWordFirst,
     MapFault::WritesWhatFits,
     MapFault::WritesBeforeCounting,
     MapFault::WritesZeroBehindText,
@@ -159,6 +161,9 @@ impl FaultyMap {
     fn written(&self, map: &[u8], text: &mut [u8]) -> Result<usize, Refusal> {
         if self.0 == MapFault::MeasuresBeforeForm && text.len() < SHORTEST {
             return Err(refusal(SHEET_TOO_SHORT));
+        }
+        if self.0 == MapFault::WritesWordFirst && text.len() >= SHORTEST {
+            text[..5].copy_from_slice(b"FLOOR");
         }
         let (cells, floor) = floor::text(&form::read(map, self.0)?, self.0);
         let too_long = match self.0 {
