@@ -1,7 +1,7 @@
 //! Maps in great number, whole and damaged, in buffers of any length: the answer and every byte, against the model.
 
 use harness::compare::library_on_map;
-use harness::gen::map_cases::{damaged_maps, large_maps, small_maps, MapKind};
+use harness::gen::map_cases::{damaged_maps, large_maps, small_maps, MapCase, MapKind};
 use harness::gen::Rng;
 use harness::model::answer::*;
 use harness::tally::Tally;
@@ -18,23 +18,23 @@ fn answers(kind: MapKind, times: usize, seed: u64) -> Tally {
 
 #[test]
 fn small() {
-    let tally = answers(small_maps, 20_000, 1);
+    let tally = answers(small_maps, 30_000, 1);
     tally.assert_each(&[FLOOR, SHEET_TOO_SHORT, NO_FLOOR], 500);
     tally.assert_only(&[FLOOR, SHEET_TOO_SHORT, NO_FLOOR]);
 }
 
 #[test]
 fn up_to_64_by_64() {
-    let tally = answers(large_maps, 20_000, 2);
+    let tally = answers(large_maps, 30_000, 2);
     tally.assert_each(&[FLOOR, SHEET_TOO_SHORT, NO_FLOOR], 1000);
     tally.assert_only(&[FLOOR, SHEET_TOO_SHORT, NO_FLOOR]);
 }
 
 #[test]
 fn damaged() {
-    let tally = answers(damaged_maps, 60_000, 3);
+    let tally = answers(damaged_maps, 120_000, 3);
     tally.assert_each(&[FLOOR, SHEET_TOO_SHORT, BAD_MAP, NO_FLOOR], 500);
-    tally.assert_each(&[BAD_MAP], 30_000);
+    tally.assert_each(&[BAD_MAP], 60_000);
     tally.assert_only(&[FLOOR, SHEET_TOO_SHORT, BAD_MAP, NO_FLOOR]);
 }
 
@@ -48,7 +48,7 @@ fn noise() {
             true => rng.noise(len),
             false => (0..len).map(|_| *rng.pick(b".G@OT\n 1type octile\nheight 1\nwidth 1\nmap\n")).collect(),
         };
-        let case = harness::gen::map_cases::MapCase { map: noise, text_len: 100 };
+        let case = MapCase { map: noise, text_len: 100 };
         assert_eq!(library_on_map(&case, &mut rng).0, BAD_MAP);
     }
 }
