@@ -1,13 +1,11 @@
-//! The model on maps: told by hand, and by what a floor is in other words. That the maps which are tried are of every kind,
-//! and that the comparison finds each fault in a converter of maps.
+//! The model on maps: told by hand, and by what a floor is in other words. And that the maps which are tried are of every
+//! kind.
 
 use std::collections::{BTreeMap, BTreeSet};
 use std::fs;
 
-use harness::compare;
 use harness::examples::tabs;
-use harness::faulty::map::{FaultyMap, MapFault, MAP_FAULTS};
-use harness::gen::map_cases::{damaged_maps, MAP_KINDS};
+use harness::gen::map_cases::damaged_maps;
 use harness::gen::maps::{corridor, some_map, Drawing};
 use harness::gen::Rng;
 use harness::model::answer::*;
@@ -156,33 +154,4 @@ fn damage_of_every_kind() {
         ["0", "10", "13", "14"].map(String::from).into_iter().chain((1..8).map(|n| format!("13 at line {n}")));
     assert_eq!(kinds.keys().cloned().collect::<BTreeSet<String>>(), expected.collect());
     assert!(kinds.values().all(|&times| times > 100), "{kinds:?}");
-}
-
-/// How often a kind of cases shows a fault, up to what is enough, among so many.
-fn found(fault: MapFault, kind: usize, cases: usize, enough: usize) -> usize {
-    let mut rng = Rng::new(7);
-    let mut is_found = |_: &usize| {
-        let case = MAP_KINDS[kind].1(&mut rng);
-        compare::map(&FaultyMap(fault), &case, &mut rng).is_err()
-    };
-    (0..cases).filter(|i| is_found(i)).take(enough).count()
-}
-
-#[test]
-fn no_fault_is_found_where_there_is_none() {
-    let found: Vec<usize> = (0..MAP_KINDS.len()).map(|kind| found(MapFault::None, kind, 3000, 1)).collect();
-    assert_eq!(found, [0; MAP_KINDS.len()]);
-}
-
-/// More than once each, so that it is not left to luck; and on fewer maps than `map_random` tries.
-#[test]
-fn each_fault_is_found() {
-    for &fault in MAP_FAULTS {
-        // Most faults are about damage.
-        let found: Vec<usize> =
-            [800, 800, 3000].into_iter().enumerate().map(|(kind, n)| found(fault, kind, n, 5)).collect();
-        let by: Vec<String> = MAP_KINDS.iter().zip(&found).map(|(kind, times)| format!("{} {times}", kind.0)).collect();
-        println!("{fault:?}: {}", by.join(", "));
-        assert!(found.contains(&5), "{fault:?} was found: {}", by.join(", "));
-    }
 }
