@@ -3,54 +3,16 @@
 
 use std::fs;
 use std::path::PathBuf;
-use std::process::Command;
 
-use harness::child::{finish, piped, Ended};
 use harness::examples::{e, tabs, BUFFER, D, EXAMPLES, REFUSED};
 use harness::model::limits::{sheet_least, store_least, TEXT};
 use harness::model::reader;
-use harness::program::floorplan;
+use harness::program::{self, floorplan, refused, row, Row};
 
 const EXAMPLE_FILES: &str = concat!(env!("CARGO_MANIFEST_DIR"), "/../examples");
 
-/// An input, in the pieces in which it comes, and all that the program is to write.
-struct Row {
-    name: String,
-    pieces: Vec<Vec<u8>>,
-    expected: Vec<u8>,
-}
-
-fn row(name: &str, input: Vec<u8>, expected: &str) -> Row {
-    Row { name: name.to_string(), pieces: vec![input], expected: tabs(expected) }
-}
-
-fn refused(name: &str, input: Vec<u8>, number: u8, line: usize) -> Row {
-    row(name, input, &format!("REFUSED {number} {line}\n"))
-}
-
-fn run(pieces: Vec<Vec<u8>>) -> Ended {
-    let child = piped(Command::new(floorplan())).spawn().expect("a program that starts");
-    finish(child, pieces).expect("a program that ends")
-}
-
-/// Runs the program on each input, and tells all that differs.
 fn assert_rows(rows: Vec<Row>) {
-    let faults: Vec<String> = rows.into_iter().filter_map(fault).collect();
-    assert!(faults.is_empty(), "\n{}", faults.join("\n"));
-}
-
-fn fault(row: Row) -> Option<String> {
-    let found = run(row.pieces);
-    if found.status.code() == Some(0) && found.err.is_empty() && found.out == row.expected {
-        return None;
-    }
-    let [out, err, expected] = [&found.out, &found.err, &row.expected].map(|bytes| start_of(bytes));
-    Some(format!("{}: {out}, {}, {err} on standard error; expected {expected}", row.name, found.status))
-}
-
-fn start_of(bytes: &[u8]) -> String {
-    let start = String::from_utf8_lossy(&bytes[..bytes.len().min(60)]);
-    format!("{start:?} ({} bytes)", bytes.len())
+    program::assert_rows(floorplan(), rows);
 }
 
 #[test]
@@ -175,12 +137,8 @@ fn the_longest_input() {
 
 #[test]
 fn an_input_that_comes_in_pieces() {
-    let in_pieces = |row: Row, length| Row {
-        pieces: row.pieces.concat().chunks(length).map(|piece| piece.to_vec()).collect(),
-        ..row
-    };
-    let mut rows: Vec<Row> = EXAMPLES.iter().map(|x| in_pieces(row(x.name, tabs(x.job), x.sheet), 3)).collect();
-    rows.push(in_pieces(refused("16,384 bytes", spun_out(TEXT), 3, 4), 1000));
-    rows.push(in_pieces(refused("16,385 bytes", spun_out(TEXT + 1), 2, 0), TEXT));
+    let mut rows: Vec<Row> = EXAMPLES.iter().map(|x| row(x.name, tabs(x.job), x.sheet).in_pieces(3)).collect();
+    rows.push(refused("16,384 bytes", spun_out(TEXT), 3, 4).in_pieces(1000));
+    rows.push(refused("16,385 bytes", spun_out(TEXT + 1), 2, 0).in_pieces(TEXT));
     assert_rows(rows);
 }
