@@ -1,8 +1,9 @@
-/* cartfloor: plans for cart floors, and a check of their sheets. This header is the manual.
+/* cartfloor: plans for cart floors, a check of their sheets, and floors from grid maps. This header is the manual.
  *
  * A job text says a floor, its carts, calls and bays; a sheet answers it: PLAN with a path for each call and bay, or CANNOT with
- * choke points that show why there is no plan. Both calls take three buffers and give one 64-bit number back. Neither allocates,
- * and neither keeps anything between calls, so different threads may call them at the same time on buffers of their own. In C:
+ * choke points that show why there is no plan. A map is a drawing of a floor, of which a call writes the first lines of a job.
+ * Planner and check take three buffers, the map call takes two; each gives one 64-bit number back. None allocates, and none keeps
+ * anything between calls, so different threads may call them at the same time on buffers of their own. To plan, in C:
  *
  *     static uint8_t job[CARTFLOOR_TEXT_MAX + 1];
  *     size_t job_len = fread(job, 1, sizeof job, stdin);
@@ -35,8 +36,9 @@
  * loop lends CARTFLOOR_STORE_MOST and CARTFLOOR_SHEET_MOST bytes, enough for every job. But the whole lent store is wiped, so
  * that to lend more than the job needs costs time.
  *
- * Pointers. None may be null, also where its length is 0. The three buffers do not overlap. They may stand at any address.
- * Stack. Measured at the limits, planning takes 47 KB and checking 33 KB (harness/tests/stack.rs); both are held under 256 KiB.
+ * Pointers. None may be null, also where its length is 0. The buffers of a call do not overlap. They may stand at any address.
+ * Stack. Measured at the limits, planning takes 47 KB, checking 33 KB and the map call 12 KB (harness/tests/stack.rs); all three
+ * are held under 256 KiB.
  *
  * A JOB
  *
@@ -98,7 +100,43 @@
  * then, it stops nothing. A true choke list has fewer choke points than the job has calls and bays, and every walk from any
  * cart's cell that ends on the cell of any call or bay at its deadline stands on one of them, on that cell at that step. Each
  * cart of a plan would need a choke point of its own: so where there is a true choke list, there is no plan. Where there is no
- * plan, there is such a list. */
+ * plan, there is such a list.
+ *
+ * A MAP
+ *
+ * A drawing of a floor in letters, in the MovingAI format. LF ends every line, the last one too. The lines come in this order and
+ * no other, with one space (byte 32) behind the first word of three of them and none elsewhere; numbers are as in a job:
+ *
+ *     type octile           always so
+ *     height 2              the number of rows, 1 to CARTFLOOR_SIDE_MAX
+ *     width 4               the number of letters in each row, in the same range
+ *     map                   then come the rows
+ *     .G@.                  cells 0 and 1, none, cell 2
+ *     ..TO                  cells 3 and 4, none, none
+ *
+ * The letters . and G are cells, @, O and T are none, and there are no others. Cells are numbered from 0, row by row from the top
+ * left, and there are 1 to CARTFLOOR_CELLS_MAX of them. Two are joined exactly if they are next to each other in a row or a
+ * column. The text of the floor has lines as a job has them, again with tabs shown as spaces:
+ *
+ *     FLOOR 5               the number of cells
+ *     TRACK 0 1             cell 0 and the one to its right
+ *     TRACK 0 3             cell 0 and the one below it
+ *     TRACK 1 4             cell 1 has none to its right, and this one below
+ *     TRACK 3 4             cell 2 has none at all
+ *
+ * TRACK lines go by their first cell. Each cell in turn is joined to the one on its right and then to the one below, with its own
+ * number first. With CART, CALL and BAY lines behind it the text is a job. In C:
+ *
+ *     static uint8_t map[CARTFLOOR_MAP_MOST + 1], text[CARTFLOOR_FLOOR_MOST];
+ *     size_t map_len = fread(map, 1, sizeof map, stdin);
+ *     uint64_t r = cartfloor_map(map, map_len, text, sizeof text);
+ *     if (CARTFLOOR_ANSWER(r) == 0)
+ *         fwrite(text, 1, (size_t)CARTFLOOR_VALUE(r), stdout);
+ *     else
+ *         printf("REFUSED\t%u\t%u\n", CARTFLOOR_ANSWER(r), (unsigned)CARTFLOOR_VALUE(r));
+ *
+ * No map in this form is longer than CARTFLOOR_MAP_MOST bytes. A longer text fills the last byte too, and is refused with 13 at
+ * the line that would be the bad one in all of it; what is left of it need not be read. */
 #ifndef CARTFLOOR_H
 #define CARTFLOOR_H
 
@@ -111,10 +149,11 @@ extern "C" {
 
 /* The version of this header and its library. The minor number moves where jobs or sheets are read or written otherwise than
  * before, or where calls are added: programs compile as they are. The major number moves where a program has to change. Since
- * 1.2 equal deadlines go by cell: sheets of 1.1 and before are out of order (12) where they have them in another order. */
+ * 1.2 equal deadlines go by cell: sheets of 1.1 and before are out of order (12) where they have them in another order. Since 1.3
+ * there is cartfloor_map; jobs and sheets are as in 1.2. */
 #define CARTFLOOR_VERSION_MAJOR 1
-#define CARTFLOOR_VERSION_MINOR 2
-#define CARTFLOOR_VERSION "1.2"
+#define CARTFLOOR_VERSION_MINOR 3
+#define CARTFLOOR_VERSION "1.3"
 
 /* C++ compilers can be asked to warn of C's casts. */
 #ifdef __cplusplus
@@ -124,12 +163,14 @@ extern "C" {
 #endif
 
 /* A call's answer is the lowest byte of its number. The rest is, after PLAN or CANNOT from the planner, the number of bytes
- * written; after PLAN or CANNOT from the check, 0; after a refusal, its line, or 0 where it concerns no line. */
+ * written; after PLAN or CANNOT from the check, 0; after 0 from the map call, the number of bytes written; after a refusal, its
+ * line, or 0 where it concerns no line. */
 #define CARTFLOOR_ANSWER(r) CARTFLOOR_AS(unsigned, (r) & 0xff)
 #define CARTFLOOR_VALUE(r) (CARTFLOOR_AS(uint64_t, r) >> 8)
 
 /* The answers, and what to do. PLAN and CANNOT come from the planner, which wrote such a sheet, and from the check, which passed
- * it. The first of the refusals that holds is the answer, in this order:
+ * it. From the map call 0 says that the floor's text was written. The first of the refusals that holds is the answer, for planner
+ * and check in this order:
  *
  *     2          the text
  *     3 to 7     each line from the first; of a line 3 before 4 and so on, each over the whole line
@@ -138,13 +179,21 @@ extern "C" {
  *     10         the sheet buffer, from the planner
  *     11, 12     the sheet, from the check
  *
- * The line of 3 to 7 is that of the job text, the line of 11 that of the sheet, both counted from 1; it is 0 with all others.
- * What stands behind the last LF is a line without one. A line that is missing is the one after the last, 1 in an empty text. Of
- * lines beyond those that the sheet counts it is the first.
+ * and for the map call in this:
+ *
+ *     13         each line from the first
+ *     14         the whole map
+ *     10         the buffer for the floor's text
+ *
+ * The line of 3 to 7 is that of the job text, the line of 11 that of the sheet, the line of 13 that of the map, all counted from
+ * 1; it is 0 with all others. What stands behind the last LF is a line without one. A line that is missing is the one after the
+ * last, 1 in an empty text. Of lines beyond those that the sheet counts, and beyond the rows of a map, it is the first.
  *
  * A sheet is not in the form where its words, numbers or counts of fields are wrong, where its last LF is missing, where it has
  * unknown carts, calls, bays, cells or steps, and where a PATH has not exactly deadline + 1 cells, a PLAN not the number of calls
- * and bays, or a CANNOT not fewer choke points than that. A refusal changes no lent byte. */
+ * and bays, or a CANNOT not fewer choke points than that. A map is not in the form where a line differs from what A MAP says by
+ * any byte, a CR or a space at its end included, where a number is out of range, where a row has not as many letters as the width
+ * or another letter, and where the rows are not as many as the height. A refusal changes no lent byte. */
 enum {
     /* PLAN: the sheet has a plan. To do: run it. */
     CARTFLOOR_PLAN = 0,
@@ -170,14 +219,19 @@ enum {
     CARTFLOOR_UNEVEN = 8,
     /* the store is too short. To do: lend twice as much and call again. */
     CARTFLOOR_STORE_TOO_SHORT = 9,
-    /* the sheet buffer is too short. To do: lend twice as much and call again. */
+    /* the buffer for the sheet or the floor's text is too short. To do: lend twice as much and call again. */
     CARTFLOOR_SHEET_TOO_SHORT = 10,
     /* the sheet is not in the form. To do: do not run it: see that line's word, numbers and count of fields, or plan the job
      * again (floors plan --again). */
     CARTFLOOR_BAD_SHEET = 11,
     /* the sheet is in the form, yet no plan, no true choke list, or out of order. To do: do not run it: plan the job again
      * (floors plan --again). */
-    CARTFLOOR_WRONG_SHEET = 12
+    CARTFLOOR_WRONG_SHEET = 12,
+    /* the map is not in the form. To do: mend that line: type octile, height and width from 1 to 64, map, then so many rows of so
+     * many letters, each . G @ O or T; no CR. */
+    CARTFLOOR_BAD_MAP = 13,
+    /* the map has no cell, or more than 256. To do: draw 1 to 256 cells, or split the drawing. */
+    CARTFLOOR_NO_FLOOR = 14
 };
 
 /* Limits of a job; CARTFLOOR_CALLS_MAX is for calls and bays together. */
@@ -187,6 +241,12 @@ enum {
 #define CARTFLOOR_CALLS_MAX 64
 #define CARTFLOOR_DEADLINE_MAX 255
 #define CARTFLOOR_TEXT_MAX 16384
+
+/* The limit of a map's height and of its width; the length of the longest map; and one of a text buffer that is enough for every
+ * map: a FLOOR line of 10 bytes and CARTFLOOR_TRACKS_MAX TRACK lines of 14. */
+#define CARTFLOOR_SIDE_MAX 64
+#define CARTFLOOR_MAP_MOST 4195
+#define CARTFLOOR_FLOOR_MOST 7178
 
 /* The least lengths of the buffers. `last` is the largest deadline of calls and bays, 0 if there are none. More is allowed. */
 #define CARTFLOOR_STORE_LEAST(last, cells, tracks) \
@@ -214,6 +274,14 @@ uint64_t cartfloor_plan(const uint8_t *job, size_t job_len, uint8_t *store, size
  * the written form; or 2 to 9, 11 or 12. */
 uint64_t cartfloor_check(const uint8_t *job, size_t job_len, uint8_t *store, size_t store_len, const uint8_t *sheet,
                          size_t sheet_len);
+
+/* Writes the FLOOR and TRACK lines of a map's floor. It takes no work store.
+ *   map, map_len      the whole map, however long; it is left alone
+ *   text, text_len    where the text goes; CARTFLOOR_FLOOR_MOST bytes are enough for every map. After 0 the text stands at its
+ *                     start, and the bytes behind it are as lent; after a refusal all are
+ * Answers 0 with the number of bytes written, exactly if the map is in the form, has 1 to CARTFLOOR_CELLS_MAX cells, and its text
+ * fits; or 13, 14 or 10. */
+uint64_t cartfloor_map(const uint8_t *map, size_t map_len, uint8_t *text, size_t text_len);
 
 #ifdef __cplusplus
 }

@@ -20,7 +20,7 @@ pub const SHEET_TOO_SHORT: u8 = 10;
 pub const BAD_SHEET: u8 = 11;
 pub const WRONG_SHEET: u8 = 12;
 
-pub const NUMBERS: [Words; 13] = [
+pub const NUMBERS: [Words; 15] = [
     Words { number: PLAN, name: "PLAN", says: "PLAN: the sheet has a plan", advice: "run it", of_lines: &[] },
     Words {
         number: CANNOT,
@@ -106,7 +106,7 @@ pub const NUMBERS: [Words; 13] = [
     Words {
         number: SHEET_TOO_SHORT,
         name: "SHEET_TOO_SHORT",
-        says: "the sheet buffer is too short",
+        says: "the buffer for the sheet or the floor's text is too short",
         advice: "lend twice as much and call again",
         of_lines: &[],
     },
@@ -122,6 +122,21 @@ pub const NUMBERS: [Words; 13] = [
         name: "WRONG_SHEET",
         says: "the sheet is in the form, yet no plan, no true choke list, or out of order",
         advice: "do not run it: plan the job again (floors plan --again)",
+        of_lines: &[],
+    },
+    Words {
+        number: 13,
+        name: "BAD_MAP",
+        says: "the map is not in the form",
+        advice: "mend that line: type octile, height and width from 1 to 64, map, then so many rows of so many letters, \
+                 each . G @ O or T; no CR",
+        of_lines: &[],
+    },
+    Words {
+        number: 14,
+        name: "NO_FLOOR",
+        says: "the map has no cell, or more than 256",
+        advice: "draw 1 to 256 cells, or split the drawing",
         of_lines: &[],
     },
 ];

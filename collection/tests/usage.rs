@@ -50,8 +50,8 @@ fn wrong_use() {
         (&["help", "plan", "check"], "floors: help is for one command\n"),
         (&["--help", "plans"], "floors: there is no command \"plans\"; `floors --help` lists them\n"),
         (&["--version", "1"], "floors: --version stands alone\n"),
-        (&["explain", "13"], "floors: \"13\" is no number of the library's; those are 0 to 12\n"),
-        (&["explain", "x"], "floors: \"x\" is no number of the library's; those are 0 to 12\n"),
+        (&["explain", "15"], "floors: \"15\" is no number of the library's; those are 0 to 14\n"),
+        (&["explain", "x"], "floors: \"x\" is no number of the library's; those are 0 to 14\n"),
         (&["explain", "1", "2"], "floors: `floors explain` takes one number\n"),
         (
             &["plan", "a.job", "--dry"],

@@ -1,8 +1,8 @@
 /* A program of the header's tests: each row of a test is a statement, a call of one of the functions below, which prints
  * a line. The test has the line that the README asks for. ROWS is the file with the statements.
  *
- * PLAN_ORDER and CHECK_ORDER are the names of the parameters in the order of the header's two prototypes. So a header with
- * two of them exchanged makes the call with exchanged arguments, as its readers would. Each buffer has room for the
+ * PLAN_ORDER, CHECK_ORDER and MAP_ORDER are the names of the parameters in the order of the header's prototypes. So a header
+ * with two of them exchanged makes the call with exchanged arguments, as its readers would. Each buffer has room for the
  * longest of the lengths: such a call answers wrongly, yet reads and writes nothing that is not ours. */
 #include "cartfloor.h"
 
@@ -17,9 +17,11 @@ _Static_assert(_Generic(cartfloor_plan, default: 0,
     uint64_t (*)(const uint8_t *, size_t, uint8_t *, size_t, uint8_t *, size_t): 1), "the types of cartfloor_plan");
 _Static_assert(_Generic(cartfloor_check, default: 0,
     uint64_t (*)(const uint8_t *, size_t, uint8_t *, size_t, const uint8_t *, size_t): 1), "the types of cartfloor_check");
+_Static_assert(_Generic(cartfloor_map, default: 0,
+    uint64_t (*)(const uint8_t *, size_t, uint8_t *, size_t): 1), "the types of cartfloor_map");
 
-static uint8_t job[ROOM], store[ROOM], sheet[ROOM];
-static size_t job_len;
+static uint8_t job[ROOM], store[ROOM], sheet[ROOM], map[ROOM], text[ROOM];
+static size_t job_len, map_len;
 
 static uint64_t plan(size_t store_len, size_t sheet_len)
 {
@@ -29,6 +31,11 @@ static uint64_t plan(size_t store_len, size_t sheet_len)
 static uint64_t check(size_t store_len, size_t sheet_len)
 {
     return cartfloor_check(CHECK_ORDER);
+}
+
+static uint64_t lay(size_t text_len)
+{
+    return cartfloor_map(MAP_ORDER);
 }
 
 static const char *name_of(unsigned answer)
@@ -48,6 +55,8 @@ static const char *name_of(unsigned answer)
     NAMED(SHEET_TOO_SHORT);
     NAMED(BAD_SHEET);
     NAMED(WRONG_SHEET);
+    NAMED(BAD_MAP);
+    NAMED(NO_FLOOR);
     default: return "NO NAME";
     }
 }
@@ -103,7 +112,7 @@ void number(unsigned long long n)
     printf("%llu\n", n);
 }
 
-void text(const char *line)
+void string(const char *line)
 {
     printf("%s\n", line);
 }
@@ -140,10 +149,10 @@ void checked_in_least(size_t last, size_t cells, size_t tracks, size_t carts, si
 }
 
 /* The sheet's length and its bytes, and how much of the store is wiped. */
-void planned(const char *text, size_t store_len, size_t sheet_len, const char *expected)
+void planned(const char *lines, size_t store_len, size_t sheet_len, const char *expected)
 {
     begin_job();
-    add("%s", text);
+    add("%s", lines);
     memset(store, NOISE, ROOM);
     memset(sheet, NOISE, ROOM);
     uint64_t r = plan(store_len, sheet_len);
@@ -156,14 +165,53 @@ void planned(const char *text, size_t store_len, size_t sheet_len, const char *e
     tell(r);
 }
 
-void checked(const char *text, size_t store_len, const char *lines)
+void checked(const char *lines, size_t store_len, const char *paths)
 {
     begin_job();
-    add("%s", text);
+    add("%s", lines);
     memset(store, NOISE, ROOM);
     memset(sheet, NOISE, ROOM);
-    memcpy(sheet, lines, strlen(lines));
-    tell(check(store_len, strlen(lines)));
+    memcpy(sheet, paths, strlen(paths));
+    tell(check(store_len, strlen(paths)));
+}
+
+/* From the map call 0 is no PLAN. */
+static void tell_laid(uint64_t r)
+{
+    if (CARTFLOOR_ANSWER(r) == 0)
+        printf("written %llu\n", (unsigned long long)CARTFLOOR_VALUE(r));
+    else
+        tell(r);
+}
+
+/* The text's length and its bytes, and that the rest of the buffer and the map are as lent. */
+void laid(const char *lines, size_t text_len, const char *expected)
+{
+    map_len = strlen(lines);
+    memcpy(map, lines, map_len);
+    memset(text, NOISE, ROOM);
+    uint64_t r = lay(text_len);
+    size_t length = strlen(expected), end = length;
+    while (end < ROOM && text[end] == NOISE)
+        end++;
+    int written = memcmp(text, expected, length) == 0 && end == ROOM;
+    printf("%s%s, ", written ? "the text" : "ANOTHER TEXT", memcmp(map, lines, map_len) == 0 ? "" : ", ANOTHER MAP");
+    tell_laid(r);
+}
+
+/* A map with so many cells, its first letters, and then none; so many bytes behind its last row. */
+void laid_map(size_t height, size_t width, size_t cells, size_t behind, size_t text_len)
+{
+    map_len = (size_t)snprintf((char *)map, ROOM, "type octile\nheight %zu\nwidth %zu\nmap\n", height, width);
+    for (size_t i = 0; i < height * width; i++) {
+        map[map_len++] = i < cells ? '.' : '@';
+        if ((i + 1) % width == 0)
+            map[map_len++] = '\n';
+    }
+    memset(map + map_len, '@', behind);
+    map_len += behind;
+    printf("of %zu bytes: ", map_len);
+    tell_laid(lay(text_len));
 }
 
 int main(void)

@@ -58,19 +58,21 @@ fn passages() -> Vec<Vec<String>> {
     lines.split(Option::is_none).map(|passage| passage.iter().flatten().cloned().collect()).collect()
 }
 
-/// The passage that shows how to plan a job: the one with the call.
-pub fn example() -> String {
-    let shows_the_call = |passage: &Vec<String>| passage.iter().any(|line| line.contains("cartfloor_plan("));
+/// The passage that shows how to use a call: the one that has it.
+pub fn example(call: &str) -> String {
+    let shows_the_call = |passage: &Vec<String>| passage.iter().any(|line| line.contains(&format!("{call}(")));
     passages().into_iter().find(shows_the_call).expect("an example in the header").join("\n")
 }
 
-/// The jobs and sheets that the manual shows, without what is said of their lines: the passages that open with a word and
-/// its number.
+/// The jobs, sheets and maps that the manual shows, without what is said of their lines: the passages that open with a word
+/// and its number, or as maps do.
 pub fn shown() -> Vec<String> {
     let is_text = |passage: &Vec<String>| {
         let mut opens = passage.first().map_or("", String::as_str).split(' ');
-        opens.next().is_some_and(|word| ["FLOOR", "PLAN", "CANNOT"].contains(&word))
-            && opens.next().is_some_and(|number| number.parse::<usize>().is_ok())
+        match opens.next() {
+            Some("FLOOR" | "PLAN" | "CANNOT") => opens.next().is_some_and(|number| number.parse::<usize>().is_ok()),
+            word => word == Some("type"),
+        }
     };
     let line = |line: &String| line.split("  ").next().unwrap_or_default().to_string() + "\n";
     passages().iter().filter(|passage| is_text(passage)).map(|passage| passage.iter().map(line).collect()).collect()
@@ -141,6 +143,7 @@ fn build(rows: &str, program: &str) {
     gcc.arg(format!("-DROWS=\"{rows}\""));
     gcc.arg(format!("-DPLAN_ORDER={}", parameters("cartfloor_plan").join(",")));
     gcc.arg(format!("-DCHECK_ORDER={}", parameters("cartfloor_check").join(",")));
+    gcc.arg(format!("-DMAP_ORDER={}", parameters("cartfloor_map").join(",")));
     gcc.args([&format!("{ROOT}/harness/header/rows.c"), &library()]);
     output(gcc, Vec::new());
 }

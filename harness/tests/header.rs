@@ -11,7 +11,7 @@ const SPECS: &str = concat!(env!("CARGO_MANIFEST_DIR"), "/../crates/model/specs"
 /// What the header has for a C program to write down, and its number.
 const NUMBERS: &[(&str, u64)] = &[
     ("CARTFLOOR_VERSION_MAJOR", 1),
-    ("CARTFLOOR_VERSION_MINOR", 2),
+    ("CARTFLOOR_VERSION_MINOR", 3),
     ("CARTFLOOR_PLAN", 0),
     ("CARTFLOOR_CANNOT", 1),
     ("CARTFLOOR_TEXT_TOO_LONG", 2),
@@ -25,12 +25,19 @@ const NUMBERS: &[(&str, u64)] = &[
     ("CARTFLOOR_SHEET_TOO_SHORT", 10),
     ("CARTFLOOR_BAD_SHEET", 11),
     ("CARTFLOOR_WRONG_SHEET", 12),
+    ("CARTFLOOR_BAD_MAP", 13),
+    ("CARTFLOOR_NO_FLOOR", 14),
     ("CARTFLOOR_CELLS_MAX", 256),
     ("CARTFLOOR_TRACKS_MAX", 512),
     ("CARTFLOOR_CARTS_MAX", 64),
     ("CARTFLOOR_CALLS_MAX", 64),
     ("CARTFLOOR_DEADLINE_MAX", 255),
     ("CARTFLOOR_TEXT_MAX", 16_384),
+    ("CARTFLOOR_SIDE_MAX", 64),
+    // Lines of 12, 10, 9 and 4 bytes, and 64 rows of 65.
+    ("CARTFLOOR_MAP_MOST", 4195),
+    // 10 + 512 × 14.
+    ("CARTFLOOR_FLOOR_MOST", 7178),
     // What programs in Rust have of these.
     ("CARTFLOOR_TEXT_MAX", cartfloor::TEXT_MAX as u64),
     ("CARTFLOOR_SHEET_MOST", cartfloor::SHEET_MOST as u64),
@@ -72,10 +79,10 @@ const NUMBERS: &[(&str, u64)] = &[
 ];
 
 /// What it has that is no number.
-const TEXTS: &[(&str, &str)] = &[("CARTFLOOR_VERSION", "1.2")];
+const TEXTS: &[(&str, &str)] = &[("CARTFLOOR_VERSION", "1.3")];
 
-/// The guard of the header, and the calls, which `header_calls.rs` holds.
-const NO_NUMBERS: &[&str] = &["CARTFLOOR_H", "cartfloor_plan", "cartfloor_check"];
+/// The guard of the header, and the calls, which `header_calls.rs` and `header_map.rs` hold.
+const NO_NUMBERS: &[&str] = &["CARTFLOOR_H", "cartfloor_plan", "cartfloor_check", "cartfloor_map"];
 
 #[test]
 fn every_name_of_the_header_has_a_row() {
@@ -91,7 +98,7 @@ fn every_name_of_the_header_has_a_row() {
 #[test]
 fn every_number_and_text_as_a_compiler_sees_it() {
     let numbers = NUMBERS.iter().map(|(expression, number)| row(format!("number({expression})"), number));
-    let texts = TEXTS.iter().map(|(expression, text)| row(format!("text({expression})"), text));
+    let texts = TEXTS.iter().map(|(expression, text)| row(format!("string({expression})"), text));
     assert_rows(env!("CARGO_TARGET_TMPDIR"), "numbers", &numbers.chain(texts).collect::<Vec<_>>());
 }
 
@@ -166,8 +173,8 @@ fn the_definitions_have_these_numbers() {
     }
 }
 
-/// The job and the sheets that its manual shows are filed ones.
+/// The job and the sheets that its manual shows are filed ones. `header_map.rs` holds the map and its text, which are last.
 #[test]
 fn the_examples_it_shows() {
-    assert_eq!(shown(), [BAY.job, BAY.sheet, A.sheet, CLOSED.sheet]);
+    assert_eq!(shown()[..4], [BAY.job, BAY.sheet, A.sheet, CLOSED.sheet]);
 }

@@ -1,5 +1,5 @@
 //! The library called by the names of the C header: its limits, lengths and answers, each at its edge, and the parameters
-//! of both calls in the order of their prototypes. Tabs are shown as spaces.
+//! of planner and check in the order of their prototypes. `header_map.rs` has the map call. Tabs are shown as spaces.
 
 use harness::examples::{A, B, BAY, CLOSED, D, F, F_TRADED, G};
 use harness::header::{answers, assert_rows, parameters, row, Row};
@@ -140,7 +140,7 @@ fn every_answer_by_its_name() {
     rows.extend(refused.iter().flat_map(|(job, name)| turned_back(job, name)));
     let carts: String = (0..65).map(|cell| format!("CART {cell}\n")).collect();
     rows.extend(turned_back(&format!("FLOOR 256\n{carts}"), "TOO_MANY 66"));
-    for answer in answers() {
+    for answer in answers().into_iter().filter(|name| !["BAD_MAP", "NO_FLOOR"].contains(&name.as_str())) {
         assert!(rows.iter().any(|row| row.expects(&answer)), "no row has the answer {answer}");
     }
     assert_rows(FOLDER, "answers", &rows);

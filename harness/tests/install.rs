@@ -70,7 +70,7 @@ fn version() -> String {
 fn expected(prefix: &Path) -> BTreeMap<String, Vec<u8>> {
     let described = format!(
         "prefix={}\nlibdir=${{prefix}}/lib\nincludedir=${{prefix}}/include\n\nName: cartfloor\n\
-         Description: Plans for cart floors, and a check of their sheets\nVersion: {}\n\
+         Description: Plans for cart floors, a check of their sheets, and floors from grid maps\nVersion: {}\n\
          Cflags: -I\"${{includedir}}\"\nLibs: -L\"${{libdir}}\" -lcartfloor\n",
         prefix.display(),
         version()
@@ -107,7 +107,7 @@ fn what_was_there_is_replaced_or_stays() {
 }
 
 #[test]
-fn the_installed_archive_shows_the_two_calls_alone() {
+fn the_installed_archive_shows_the_calls_alone() {
     let prefix = folder("for symbols");
     assert_installs(&prefix, ".");
     let mut symbols = Command::new(format!("{ROOT}/harness/symbols"));

@@ -18,3 +18,10 @@ uint64_t cartfloor_check(const uint8_t *job, size_t job_len, uint8_t *store, siz
     (void)job, (void)job_len, (void)store, (void)store_len, (void)sheet, (void)sheet_len;
     return CARTFLOOR_WRONG_SHEET;
 }
+
+/* Nothing in `floors` calls it, but the bindings that it is built with name it. */
+uint64_t cartfloor_map(const uint8_t *map, size_t map_len, uint8_t *text, size_t text_len)
+{
+    (void)map, (void)map_len, (void)text, (void)text_len;
+    return CARTFLOOR_NO_FLOOR;
+}
