@@ -1,7 +1,8 @@
-//! The program `floorplan` where nobody takes what it writes: it ends by itself, and says nothing elsewhere.
+//! The programs `floorplan` and `floormap` where nobody takes what they write: they end by themselves, and say nothing
+//! elsewhere.
 //!
-//! The README says nothing of this. What is held is that the program never hangs and, where the system does not end it,
-//! is not ended by a fault of its own; which status it ends with is left open.
+//! The README says nothing of this. What is held is that a program never hangs and, where the system does not end it, is
+//! not ended by a fault of its own; which status it ends with is left open.
 
 use std::fs::File;
 use std::os::unix::process::ExitStatusExt;
@@ -9,12 +10,15 @@ use std::process::{Child, Command};
 
 use harness::child::{finish, piped, Ended};
 use harness::examples::{e, tabs, REFUSED};
-use harness::program::floorplan;
+use harness::program::{floormap, floorplan};
 
-/// Runs a child on a job that has a sheet, and one on a job that is refused.
-fn runs(start: impl Fn() -> Child) -> [Ended; 2] {
-    let (job, refused) = (e().0, tabs(REFUSED[1].0));
-    [job, refused].map(|input| finish(start(), vec![input]).expect("a program that ends"))
+/// Runs each program on a text that has an answer of some length, and on one that is refused.
+fn runs(start: impl Fn(&str) -> Child) -> [Ended; 4] {
+    let row = ".".repeat(64);
+    let map = format!("type octile\nheight 4\nwidth 64\nmap\n{row}\n{row}\n{row}\n{row}\n").into_bytes();
+    let inputs =
+        [(floorplan(), e().0), (floorplan(), tabs(REFUSED[1].0)), (floormap(), map), (floormap(), b"type\n".to_vec())];
+    inputs.map(|(program, input)| finish(start(program), vec![input]).expect("a program that ends"))
 }
 
 fn assert_quiet(ended: &Ended) {
@@ -23,9 +27,9 @@ fn assert_quiet(ended: &Ended) {
 
 #[test]
 fn a_closed_output() {
-    let start = || {
+    let start = |program: &str| {
         let mut shell = Command::new("sh");
-        shell.args(["-c", "exec \"$0\" >&-", floorplan()]);
+        shell.args(["-c", "exec \"$0\" >&-", program]);
         piped(shell).spawn().expect("a shell")
     };
     for ended in runs(start) {
@@ -41,7 +45,8 @@ fn a_full_device() {
     if full().is_err() {
         return;
     }
-    let start = || piped(Command::new(floorplan())).stdout(full().expect("the device")).spawn().expect("a program");
+    let start =
+        |program: &str| piped(Command::new(program)).stdout(full().expect("the device")).spawn().expect("a program");
     for ended in runs(start) {
         assert_quiet(&ended);
         assert_eq!(ended.status.signal(), None);
@@ -50,8 +55,8 @@ fn a_full_device() {
 
 #[test]
 fn a_pipe_without_a_reader() {
-    let start = || {
-        let mut child = piped(Command::new(floorplan())).spawn().expect("a program");
+    let start = |program: &str| {
+        let mut child = piped(Command::new(program)).spawn().expect("a program");
         // Before it has its input, so before it writes.
         drop(child.stdout.take());
         child
