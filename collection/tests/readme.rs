@@ -1,12 +1,14 @@
-//! What the README shows of `floors`. Tabs are shown there as spaces.
+//! What the README shows of jobs, sheets, a map and `floors`. Tabs are shown there as spaces.
 
 mod kit;
 
 use std::fs;
+use std::os::unix::fs::symlink;
+use std::process::Command;
 
 use collection::help;
 use collection::words::NUMBERS;
-use kit::{is_right, Folder};
+use kit::{is_right, ran, Folder};
 
 const ROOT: &str = concat!(env!("CARGO_MANIFEST_DIR"), "/..");
 
@@ -80,4 +82,51 @@ fn the_faults() {
         faults += 1;
     }
     assert_eq!(faults, 2, "{shown:?}");
+}
+
+fn example(name: &str) -> String {
+    fs::read_to_string(format!("{ROOT}/examples/{name}")).expect("an example")
+}
+
+/// The map is the filed one, without what is said of its lines, and each of its cells has its number.
+#[test]
+fn the_map() {
+    let said = shown_behind("This is `examples/packing.map`");
+    let shown: Vec<&str> = said.iter().map(|line| line.split("  ").next().unwrap_or_default()).collect();
+    let map = example("packing.map");
+    assert_eq!(shown, map.lines().collect::<Vec<_>>());
+    let numbered = shown_behind("Cells are numbered row by row from the top left");
+    let mut next = 0;
+    for (row, numbers) in shown[4..].iter().zip(&numbered) {
+        for (letter, number) in row.chars().zip(numbers.as_bytes().chunks(3)) {
+            let number = std::str::from_utf8(number).expect("text").trim();
+            assert_eq!(number, if letter == '.' { next.to_string() } else { String::new() });
+            next += usize::from(letter == '.');
+        }
+    }
+    assert_eq!((numbered.len(), next), (4, 20));
+}
+
+#[test]
+fn the_start_of_its_floor() {
+    let shown = shown_behind("So the text opens");
+    let floor = example("packing.floor").replace('\t', " ");
+    let (first, more): (Vec<&str>, Vec<&str>) = (floor.lines().take(4).collect(), floor.lines().skip(4).collect());
+    assert_eq!(shown[..4], first);
+    assert_eq!(shown[4..], [format!("and {} tracks more", more.len())]);
+}
+
+/// The lines of shell as they are shown, in a folder that has what they name.
+#[test]
+fn from_a_drawing_to_a_plan() {
+    let script = shown_behind("three lines of shell");
+    assert_eq!(script.len(), 3);
+    let folder = Folder::new();
+    for name in ["floormap", "floorplan", "examples"] {
+        symlink(format!("{ROOT}/{name}"), folder.path(name)).expect("a link");
+    }
+    let mut shell = Command::new("sh");
+    shell.args(["-e", "-c", &script.join("\n")]).current_dir(&folder.0);
+    let sheet = lines(&shown_behind("this is their only plan"));
+    ran(shell, b"").expect(0, std::str::from_utf8(&sheet).expect("text"), "");
 }
