@@ -41,6 +41,8 @@ const NUMBERS: &[(&str, u64)] = &[
     // What programs in Rust have of these.
     ("CARTFLOOR_TEXT_MAX", cartfloor::TEXT_MAX as u64),
     ("CARTFLOOR_SHEET_MOST", cartfloor::SHEET_MOST as u64),
+    ("CARTFLOOR_MAP_MOST", cartfloor::MAP_MOST as u64),
+    ("CARTFLOOR_FLOOR_MOST", cartfloor::FLOOR_MOST as u64),
     // (H + 1) × 32 × (cells + 2 × tracks) + 4,096.
     ("CARTFLOOR_STORE_LEAST(0, 1, 0)", 4128),
     ("CARTFLOOR_STORE_LEAST(1, 3, 2)", 4544),
