@@ -53,7 +53,7 @@ module _ (text : List ℕ) (n : ℕ) (r : Reading) (read : Read text r) where
       bounded = read .bounded;
     }
 
-passed : (n : ℕ) (v : Verdict) (j : Job) → withStore n v ≡ accepted j → (v ≡ accepted j) × (storeLeast j ≤ n)
+passed : (n : ℕ) (v : Verdict Job) (j : Job) → withStore n v ≡ accepted j → (v ≡ accepted j) × (storeLeast j ≤ n)
 passed n (refused a l) j e = nope (cc)
 passed n (accepted i) j e = go (ltb n (storeLeast i)) refl e
   where

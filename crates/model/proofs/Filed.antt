@@ -16,8 +16,9 @@ use Rattle.model.specs.SheetText.{planText, cannotText}
 use Rattle.model.specs.ReadJob.{Verdict, refused, accepted, readJob}
 use Rattle.model.specs.ReadSheet.{Sheet, bad, plan, cannot, readSheet}
 use Rattle.model.specs.Bytes.{bytes}
-use Rattle.model.specs.Contracts.{Told, Decided, Judged, Answers, RightPlan, RightChokes, planVerdict, checkVerdict, storeAfter, zeros, Planned, Checked}
-use Rattle.model.specs.Filed.{Row, Outcome, wrote, refuses, plans, checks, RowHolds, packed, written, leaves, filed}
+use Rattle.model.specs.Contracts.{Told, Decided, Judged, Answers, RightPlan, RightChokes, planVerdict, checkVerdict, storeAfter, zeros, textAnswer, textBytes, Planned, Checked, TextGiven}
+use Rattle.model.specs.GridMap.{mapVerdict, readMap}
+use Rattle.model.specs.Filed.{Row, Outcome, wrote, refuses, plans, checks, maps, RowHolds, packed, written, leaves, filed}
 use Rattle.model.proofs.Contrary.{weak}
 use Rattle.model.proofs.Decide.{decided, dec-and, dec-or, dec-eq, dec-list, dec-not, all-in, any-in}
 use Rattle.model.proofs.Every.{allPlans, allChokes, plan-listed, chokes-listed}
@@ -59,20 +60,20 @@ module _ (j : Job) (r : ℕ) (b : List ℕ) where
       let g = s .1 .1 xs (chokes-listed j xs h) in (f ∙ ap (λ x. number answer.Cannot + 256 * length x) e ∙ g .1, e ∙ g .0)
 
 -- The planner, on any verdict.
-abbrev pub ToldShown : Verdict → Outcome → Type 0
+abbrev pub ToldShown : Verdict Job → Outcome → Type 0
 ToldShown (refused a l) (refuses n m) = (n ≡ number a) × (m ≡ l)
 ToldShown (refused a l) (wrote k s) = ⊥
 ToldShown (accepted j) (refuses n m) = ⊥
 ToldShown (accepted j) (wrote a s) = Shown j (a + 256 * length (bytes s)) (bytes s)
 
-abbrev pub dec-told : (v : Verdict) (o : Outcome) → Dec (ToldShown v o)
+abbrev pub dec-told : (v : Verdict Job) (o : Outcome) → Dec (ToldShown v o)
 dec-told (refused a l) (refuses n m) = dec-and (dec-eq n (number a)) (dec-eq m l)
 dec-told (refused a l) (wrote k s) = no (λ h. h)
 dec-told (accepted j) (refuses n m) = no (λ h. h)
 dec-told (accepted j) (wrote a s) = dec-shown j (a + 256 * length (bytes s)) (bytes s)
 
 -- what is filed is told, nothing else is, and the store is left as filed
-told-holds : (v : Verdict) (o : Outcome) → ToldShown v o
+told-holds : (v : Verdict Job) (o : Outcome) → ToldShown v o
     → Told v (packed o) (written o) × (((r : ℕ) (b : List ℕ) → Told v r b → (r ≡ packed o) × (b ≡ written o)) × ((store : List ℕ) → storeAfter v store ≡ leaves o store))
 told-holds (refused a l) (refuses n m) (e, f) =
     let g : n + 256 * m ≡ number a + 256 * l = rw (e, f) in ((g, refl), ((λ r b h. (h .0 ∙ sym g, h .1)), λ store. refl))
@@ -101,22 +102,30 @@ judged-once j (bad l) r r′ e f = f ∙ sym e
 judged-once j (plan ps) r r′ h k = either-once r r′ h k
 judged-once j (cannot xs) r r′ h k = either-once r r′ h k
 
-abbrev pub dec-decided : (v : Verdict) (sheet : List ℕ) (r : ℕ) → Dec (Decided v sheet r)
+abbrev pub dec-decided : (v : Verdict Job) (sheet : List ℕ) (r : ℕ) → Dec (Decided v sheet r)
 dec-decided (refused a l) sheet r = dec-eq r (number a + 256 * l)
 dec-decided (accepted j) sheet r = dec-judged j (readSheet j sheet) r
 
-decided-once : (v : Verdict) (sheet : List ℕ) (r r′ : ℕ) → Decided v sheet r → Decided v sheet r′ → r′ ≡ r
+decided-once : (v : Verdict Job) (sheet : List ℕ) (r r′ : ℕ) → Decided v sheet r → Decided v sheet r′ → r′ ≡ r
 decided-once (refused a l) sheet r r′ e f = f ∙ sym e
 decided-once (accepted j) sheet r r′ h k = judged-once j (readSheet j sheet) r r′ h k
+
+-- The map reader, on any verdict: what is filed is what it gives.
+abbrev pub GivenShown : Verdict (List ℕ) → Outcome → Type 0
+GivenShown v o = (packed o ≡ textAnswer v) × (written o ≡ textBytes v)
 
 -- A row, by computation; and so the table.
 abbrev pub RowShown : Row → Type 0
 RowShown (plans job n m o) = ToldShown (planVerdict (bytes job) n m) o
 RowShown (checks job n sheet k) = Decided (checkVerdict (bytes job) n) (bytes sheet) k
+RowShown (maps map n o) = GivenShown (mapVerdict (bytes map) n) o
 
 abbrev pub dec-row : (x : Row) → Dec (RowShown x)
 dec-row (plans job n m o) = dec-told (planVerdict (bytes job) n m) o
 dec-row (checks job n sheet k) = dec-decided (checkVerdict (bytes job) n) (bytes sheet) k
+dec-row (maps map n o) =
+    let v = mapVerdict (bytes map) n in
+    dec-and (dec-eq (packed o) (textAnswer v)) (dec-list dec-eq (written o) (textBytes v))
 
 module _ (job store sheet store′ sheet′ : List ℕ) (r : ℕ) (o : Outcome) (s : ToldShown (planVerdict job (length store) (length sheet)) o) where
   abbrev pub AsFiled : Type 0
@@ -142,6 +151,13 @@ module _ (job store sheet store′ : List ℕ) (r k : ℕ) (s : Decided (checkVe
   filed-checked : (r ≡ k) × (store′ ≡ cond (ltb k 2) (zeros store) store) → Checked job store sheet store′ r
   filed-checked (e, f) = record { told = rw e s; store-after = f ∙ ap (λ x. cond (ltb x 2) (zeros store) store) (sym e) }
 
+module _ (v : Verdict (List ℕ)) (text text′ : List ℕ) (r : ℕ) (o : Outcome) (s : GivenShown v o) where
+  given-filed : TextGiven v text text′ r → (r ≡ packed o) × (text′ ≡ written o ++ drop (length (written o)) text)
+  given-filed p = (p .told ∙ sym (s .0), p .text-after ∙ ap (λ b. b ++ drop (length b) text) (sym (s .1)))
+
+  filed-given : (r ≡ packed o) × (text′ ≡ written o ++ drop (length (written o)) text) → TextGiven v text text′ r
+  filed-given (e, f) = record { told = e ∙ s .0; text-after = f ∙ ap (λ b. b ++ drop (length b) text) (s .1) }
+
 pub row-holds : (x : Row) → RowShown x → RowHolds x
 row-holds (plans job n m o) h = λ store sheet store′ sheet′ r e f.
     let s : ToldShown (planVerdict (bytes job) (length store) (length sheet)) o = rw (e, f) h in
@@ -149,7 +165,10 @@ row-holds (plans job n m o) h = λ store sheet store′ sheet′ r e f.
 row-holds (checks job n sheet k) h = λ store store′ r e.
     let s : Decided (checkVerdict (bytes job) (length store)) (bytes sheet) k = rw e h in
     (checked-filed (bytes job) store (bytes sheet) store′ r k s, filed-checked (bytes job) store (bytes sheet) store′ r k s)
+row-holds (maps map n o) h = λ text text′ r e.
+    let s : GivenShown (mapVerdict (bytes map) (length text)) o = rw e h in
+    (given-filed (mapVerdict (bytes map) (length text)) text text′ r o s, filed-given (mapVerdict (bytes map) (length text)) text text′ r o s)
 
 pub filed-hold : (x : Row) → In x filed → RowHolds x
-unfolding readJob readSheet
+unfolding readJob readSheet readMap
 filed-hold x m = row-holds x (decided (all-in dec-row filed) tt x m)

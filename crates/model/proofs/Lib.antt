@@ -17,3 +17,10 @@ pub mod OnFloor
 pub mod Every
 pub mod Filed
 pub mod Readings
+pub mod Numbering
+pub mod Neighbours
+pub mod Rise
+pub mod Room
+pub mod MapReads
+pub mod ByCell
+pub mod MapPrefix

@@ -17,13 +17,14 @@ use Rattle.model.specs.Ready.{Fit}
 use Rattle.model.specs.Text.{Lines, done, cut, more, onFirst, linesOf, onField, fieldsOf, isDigit, numberFrom, numberOf}
 use Rattle.model.specs.Text.{andNumber, numbersOf, numeral, fields, line, opens, after, planWord, pathWord, cannotWord, chokeWord}
 use Rattle.model.specs.SheetText.{linesText, pathNumbers, chokeNumbers, planText, cannotText}
-use Rattle.model.specs.ReadSheet.{Sheet, bad, plan, cannot, knownPath, knownPoint, orBad, numbersAfter, restSays, pathOf, pointOf, headSays, countSays, pathLine, chokeLine, readSheet}
+use Rattle.model.specs.FirstBad.{orBad, restSays}
+use Rattle.model.specs.ReadSheet.{Sheet, bad, plan, cannot, knownPath, knownPoint, numbersAfter, pathOf, pointOf, headSays, countSays, pathLine, chokeLine, readSheet}
 use Rattle.model.proofs.Decide.{decided, dec-imp, dec-list, dec-lt, dec-eq, all-below}
 use Rattle.model.proofs.Basics.{nope, and-left, and-right}
 use Rattle.model.proofs.Written.{plan-read, cannot-read}
 
 -- Lines.
-lines-done : (b : List ℕ) → linesOf b ≡ done → b ≡ []
+pub lines-done : (b : List ℕ) → linesOf b ≡ done → b ≡ []
 lines-done [] e = refl
 lines-done (c ∷ b) e = go (eqb c 10) (linesOf b) e
   where
@@ -33,7 +34,7 @@ lines-done (c ∷ b) e = go (eqb c 10) (linesOf b) e
     go false cut e = nope (cc)
     go false (more m ms) e = nope (cc)
 
-lines-more : (b l : List ℕ) (ls : Lines) → linesOf b ≡ more l ls → (s : List ℕ) × (b ≡ l ++ (10 ∷ s)) × (linesOf s ≡ ls)
+pub lines-more : (b l : List ℕ) (ls : Lines) → linesOf b ≡ more l ls → (s : List ℕ) × (b ≡ l ++ (10 ∷ s)) × (linesOf s ≡ ls)
 lines-more [] l ls e = nope (cc)
 lines-more (c ∷ b) l ls e = go (eqb c 10) refl (linesOf b) refl e (λ m ms. lines-more b m ms)
   where
@@ -77,7 +78,7 @@ tabbed-numerals (n ∷ ns) = ap (λ y. 9 ∷ (numeral n ++ y)) (tabbed-numerals 
 pub one-digit : (x : ℕ) → x < 10 → numeral x ≡ (48 + x) ∷ []
 one-digit = decided (all-below (λ x. dec-list dec-eq (numeral x) ((48 + x) ∷ [])) 10) tt
 
-two-digits : (x : ℕ) → x < 10 → (y : ℕ) → y < 10 → 0 < x → numeral (x * 10 + y) ≡ (48 + x) ∷ (48 + y) ∷ []
+pub two-digits : (x : ℕ) → x < 10 → (y : ℕ) → y < 10 → 0 < x → numeral (x * 10 + y) ≡ (48 + x) ∷ (48 + y) ∷ []
 two-digits = decided (all-below (λ x. all-below (λ y. dec-imp (dec-lt 0 x) (dec-list dec-eq (numeral (x * 10 + y)) ((48 + x) ∷ (48 + y) ∷ []))) 10) 10) tt
 
 three-digits : (x : ℕ) → x < 10 → (y : ℕ) → y < 10 → (z : ℕ) → z < 10 → 0 < x → numeral ((x * 10 + y) * 10 + z) ≡ (48 + x) ∷ (48 + y) ∷ (48 + z) ∷ []
@@ -90,7 +91,7 @@ digit-back b e =
     let h : b < 58 = ltb-true b 58 (and-right (leb 48 b) (ltb b 58) e) in
     (omega arith, omega arith)
 
-cond-some : {A : Type 0} (t : Bool) (x : Option A) (a : A) → cond t x none ≡ some a → (t ≡ true) × (x ≡ some a)
+pub cond-some : {A : Type 0} (t : Bool) (x : Option A) (a : A) → cond t x none ≡ some a → (t ≡ true) × (x ≡ some a)
 cond-some true x a e = (refl, e)
 cond-some false x a e = nope (cc)
 
@@ -192,7 +193,7 @@ module _ {A : Type 0} (say : List ℕ → Option A) (all : List A → Sheet) (wo
   abbrev pub LinesBack : List A → List A → ℕ → List ℕ → Type 0
   LinesBack got res k b = (l : List A) × (res ≡ got ++ l) × (length l ≡ k) × (b ≡ linesText word numbers l) × ((a : A) → In a l → Good a)
 
-  rest-back : (got res : List A) (k n : ℕ) (ls : Lines) (b : List ℕ) → linesOf b ≡ ls → restSays say all got k n ls ≡ all res → LinesBack got res k b
+  rest-back : (got res : List A) (k n : ℕ) (ls : Lines) (b : List ℕ) → linesOf b ≡ ls → restSays bad say all got k n ls ≡ all res → LinesBack got res k b
   rest-back got res zero n done b q e = ([], sym (same got res e) ∙ sym (append-nil got), refl, lines-done b q, λ a h. absurd h)
   rest-back got res zero n cut b q e = absurd (not-bad n res e)
   rest-back got res zero n (more l ls) b q e = absurd (not-bad n res e)
@@ -200,9 +201,9 @@ module _ {A : Type 0} (say : List ℕ → Option A) (all : List A → Sheet) (wo
   rest-back got res (suc k) n cut b q e = absurd (not-bad n res e)
   rest-back got res (suc k) n (more l ls) b q e = go (say l) refl e (lines-more b l ls q) (λ g s. rest-back g res k (n + 1) ls s)
     where
-      go : (o : Option A) → say l ≡ o → orBad n o (λ a. restSays say all (got ++ (a ∷ [])) k (n + 1) ls) ≡ all res
+      go : (o : Option A) → say l ≡ o → orBad bad n o (λ a. restSays bad say all (got ++ (a ∷ [])) k (n + 1) ls) ≡ all res
           → (s : List ℕ) × (b ≡ l ++ (10 ∷ s)) × (linesOf s ≡ ls)
-          → ((g : List A) (s : List ℕ) → linesOf s ≡ ls → restSays say all g k (n + 1) ls ≡ all res → LinesBack g res k s) → LinesBack got res (suc k) b
+          → ((g : List A) (s : List ℕ) → linesOf s ≡ ls → restSays bad say all g k (n + 1) ls ≡ all res → LinesBack g res k s) → LinesBack got res (suc k) b
       go none f e m ih = absurd (not-bad n res e)
       go (some a) f e (s, g, h) ih =
           let (as′, r, c, w, t) = ih (got ++ (a ∷ [])) s h e in
@@ -218,10 +219,10 @@ module _ {A : Type 0} (say : List ℕ → Option A) (all : List A → Sheet) (wo
           both m g t b (inr h) = t b h
 
   pub all-back : (head b l : List ℕ) (ls : Lines) (isRight : ℕ → Bool) (res : List A) → linesOf b ≡ more l ls
-      → countSays isRight (λ n. restSays say all [] n 2 ls) (numbersAfter head l) ≡ all res
+      → countSays isRight (λ n. restSays bad say all [] n 2 ls) (numbersAfter head l) ≡ all res
       → (b ≡ line head (length res ∷ []) ++ linesText word numbers res) × (isRight (length res) ≡ true) × ((a : A) → In a res → Good a)
   all-back head b l ls isRight res q e =
-      let (n, f, g, h) = count-back isRight (λ n. restSays say all [] n 2 ls) (numbersAfter head l) (all res) (not-bad 1 res) e in
+      let (n, f, g, h) = count-back isRight (λ n. restSays bad say all [] n 2 ls) (numbersAfter head l) (all res) (not-bad 1 res) e in
       let (s, q₁, q₂) = lines-more b l ls q in
       let (m, r, c, w, t) = rest-back [] res n 2 ls s q₂ h in
       let k : length res ≡ n = ap length r ∙ c in (
@@ -233,7 +234,7 @@ module _ {A : Type 0} (say : List ℕ → Option A) (all : List A → Sheet) (wo
 
 -- Whatever the lines are, what they say is all of a kind, or bad.
 module _ {A : Type 0} (say : List ℕ → Option A) (all : List A → Sheet) where
-  rest-out : (got : List A) (k n : ℕ) (ls : Lines) → ((x : List A) × (restSays say all got k n ls ≡ all x)) ⊎ ((m : ℕ) × (restSays say all got k n ls ≡ bad m))
+  rest-out : (got : List A) (k n : ℕ) (ls : Lines) → ((x : List A) × (restSays bad say all got k n ls ≡ all x)) ⊎ ((m : ℕ) × (restSays bad say all got k n ls ≡ bad m))
   rest-out got zero n done = inl (got, refl)
   rest-out got zero n cut = inr (n, refl)
   rest-out got zero n (more l ls) = inr (n, refl)
@@ -241,16 +242,16 @@ module _ {A : Type 0} (say : List ℕ → Option A) (all : List A → Sheet) whe
   rest-out got (suc k) n cut = inr (n, refl)
   rest-out got (suc k) n (more l ls) = go (say l) (λ g. rest-out g k (n + 1) ls)
     where
-      go : (o : Option A) → ((g : List A) → ((x : List A) × (restSays say all g k (n + 1) ls ≡ all x)) ⊎ ((m : ℕ) × (restSays say all g k (n + 1) ls ≡ bad m)))
-          → ((x : List A) × (orBad n o (λ a. restSays say all (got ++ (a ∷ [])) k (n + 1) ls) ≡ all x))
-          ⊎ ((m : ℕ) × (orBad n o (λ a. restSays say all (got ++ (a ∷ [])) k (n + 1) ls) ≡ bad m))
+      go : (o : Option A) → ((g : List A) → ((x : List A) × (restSays bad say all g k (n + 1) ls ≡ all x)) ⊎ ((m : ℕ) × (restSays bad say all g k (n + 1) ls ≡ bad m)))
+          → ((x : List A) × (orBad bad n o (λ a. restSays bad say all (got ++ (a ∷ [])) k (n + 1) ls) ≡ all x))
+          ⊎ ((m : ℕ) × (orBad bad n o (λ a. restSays bad say all (got ++ (a ∷ [])) k (n + 1) ls) ≡ bad m))
       go none ih = inr (n, refl)
       go (some a) ih = ih (got ++ (a ∷ []))
 
   no-other : (ls : Lines) (isRight : ℕ → Bool) (o : Option (List ℕ)) (out : Sheet) → ((m : ℕ) → bad m ≡ out → ⊥) → ((x : List A) → all x ≡ out → ⊥)
-      → countSays isRight (λ n. restSays say all [] n 2 ls) o ≡ out → ⊥
+      → countSays isRight (λ n. restSays bad say all [] n 2 ls) o ≡ out → ⊥
   no-other ls isRight o out not-bad not-all e =
-      let (n, f, g, h) = count-back isRight (λ n. restSays say all [] n 2 ls) o out (not-bad 1) e in
+      let (n, f, g, h) = count-back isRight (λ n. restSays bad say all [] n 2 ls) o out (not-bad 1) e in
       ⊎-elim (λ w. not-all (w .0) (sym (w .1) ∙ h)) (λ w. not-bad (w .0) (sym (w .1) ∙ h)) (rest-out [] n 2 ls)
 
 plan-not-bad : (n : ℕ) (x : List Path) → bad n ≡ plan x → ⊥
@@ -304,10 +305,10 @@ module _ (j : Job) where
 
   -- what a PLAN or a CANNOT says, by its first line
   abbrev plans : List ℕ → Lines → Sheet
-  plans l ls = countSays (λ n. eqb n (length (j .calls))) (λ n. restSays (pathLine j) plan [] n 2 ls) (numbersAfter planWord l)
+  plans l ls = countSays (λ n. eqb n (length (j .calls))) (λ n. restSays bad (pathLine j) plan [] n 2 ls) (numbersAfter planWord l)
 
   abbrev cannots : List ℕ → Lines → Sheet
-  cannots l ls = countSays (λ n. ltb n (length (j .calls))) (λ n. restSays (chokeLine j) cannot [] n 2 ls) (numbersAfter cannotWord l)
+  cannots l ls = countSays (λ n. ltb n (length (j .calls))) (λ n. restSays bad (chokeLine j) cannot [] n 2 ls) (numbersAfter cannotWord l)
 
   pub plan-back : (b : List ℕ) (ps : List Path) → readSheet j b ≡ plan ps
       → (b ≡ planText ps) × (length ps ≡ length (j .calls)) × ((p : Path) → In p ps → knownPath j p ≡ true)

@@ -1,10 +1,11 @@
--- What no filed example shows, each as a row: the least buffers, the form of a sheet and the line of a 11, what is no conflict, the order of a plan.
+-- What no filed example shows, each as a row: the least buffers, the form of a sheet and the line of a 11, what is no conflict, the order of a plan, the form of a map.
 use Prim.Native.Nat.{ℕ, _+_, _*_}
 use mathlib.Core.List.{List, [], _∷_}
 use Rattle.model.specs.Lists.{In}
 use Rattle.model.specs.ReadJob.{readJob}
 use Rattle.model.specs.ReadSheet.{readSheet}
-use Rattle.model.specs.Filed.{Row, plans, checks, wrote, refuses, RowHolds, big, jobA, jobB, jobD, jobF, jobClosed, jobUnclosed}
+use Rattle.model.specs.GridMap.{readMap}
+use Rattle.model.specs.Filed.{Row, plans, checks, maps, wrote, refuses, RowHolds, big, jobA, jobB, jobD, jobF, jobClosed, jobUnclosed}
 use Rattle.model.proofs.Decide.{decided, all-in}
 use Rattle.model.proofs.Filed.{dec-row, row-holds}
 
@@ -80,6 +81,32 @@ orders =
     ∷ checks "FLOOR\t3\nCART\t0\nCART\t1\nCART\t2\nCALL\t2\t0\nCALL\t0\t0\nCALL\t1\t0\n" big "PLAN\t3\nPATH\t2\t0\t2\nPATH\t0\t1\t0\nPATH\t1\t2\t1\n" 12
     ∷ []
 
+-- every line of a map in its form, and its refusals in their order; a row's end joins no cells, nor do corners
+abbrev drawings : List Row
+drawings =
+    maps "" big (refuses 13 1)
+    ∷ maps "type octile" big (refuses 13 1)
+    ∷ maps "type octile\n" big (refuses 13 2)
+    ∷ maps "type octile\nwidth 1\nheight 1\nmap\n.\n" big (refuses 13 2)
+    ∷ maps "type octile\nheight  1\nwidth 1\nmap\n.\n" big (refuses 13 2)
+    ∷ maps "type octile\nheight 01\nwidth 1\nmap\n.\n" big (refuses 13 2)
+    ∷ maps "type octile\nheight 0\nwidth 1\nmap\n.\n" big (refuses 13 2)
+    ∷ maps "type octile\nheight 1\nwidth 65\nmap\n.\n" big (refuses 13 3)
+    ∷ maps "type octile\nheight 1\nwidth 1 \nmap\n.\n" big (refuses 13 3)
+    ∷ maps "type octile\nheight 1\nwidth 1\nmap\r\n.\n" big (refuses 13 4)
+    ∷ maps "type octile\nheight 1\nwidth 1\nmap\n." big (refuses 13 5)
+    ∷ maps "type octile\nheight 1\nwidth 1\nmap\n..\n" big (refuses 13 5)
+    ∷ maps "type octile\nheight 1\nwidth 2\nmap\n.\n" big (refuses 13 5)
+    ∷ maps "type octile\nheight 1\nwidth 1\nmap\n.\n\n" big (refuses 13 6)
+    ∷ maps "type octile\nheight 1\nwidth 1\nmap\n.\nx" big (refuses 13 6)
+    ∷ maps "type octile\nheight 1\nwidth 64\nmap\n@@@@@@@@@@@@@@@@@@@@@@@@@@@@@@@@@@@@@@@@@@@@@@@@@@@@@@@@@@@@@@@.\n" big (wrote 0 "FLOOR\t1\n")
+    ∷ maps "type octile\nheight 2\nwidth 3\nmap\n..@\n..@\n" big (wrote 0 "FLOOR\t4\nTRACK\t0\t1\nTRACK\t0\t2\nTRACK\t1\t3\nTRACK\t2\t3\n")
+    ∷ maps "type octile\nheight 2\nwidth 3\nmap\n@O.\n.T@\n" big (wrote 0 "FLOOR\t2\n")
+    ∷ maps "type octile\nheight 3\nwidth 1\nmap\n.\nG\n.\n" big (wrote 0 "FLOOR\t3\nTRACK\t0\t1\nTRACK\t1\t2\n")
+    ∷ maps "type octile\nheight 1\nwidth 1\nmap\nT\n" 0 (refuses 14 0)
+    ∷ maps "type octile\nheight 1\nwidth 1\nmap\nt\n" 0 (refuses 13 5)
+    ∷ []
+
 pub buffers-hold : (x : Row) → In x buffers → RowHolds x
 unfolding readJob readSheet
 buffers-hold x m = row-holds x (decided (all-in dec-row buffers) tt x m)
@@ -99,3 +126,7 @@ orders-hold x m = row-holds x (decided (all-in dec-row orders) tt x m)
 pub moves-hold : (x : Row) → In x moves → RowHolds x
 unfolding readJob readSheet
 moves-hold x m = row-holds x (decided (all-in dec-row moves) tt x m)
+
+pub drawings-hold : (x : Row) → In x drawings → RowHolds x
+unfolding readMap
+drawings-hold x m = row-holds x (decided (all-in dec-row drawings) tt x m)

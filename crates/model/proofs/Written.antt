@@ -17,7 +17,8 @@ use Rattle.model.specs.Choke.{Point}
 use Rattle.model.specs.Ready.{Fit}
 use Rattle.model.specs.Text.{more, withByte, linesOf, onField, fieldsOf, numberOf, andNumber, numbersOf, numeral, fields, line, planWord, pathWord, cannotWord, chokeWord}
 use Rattle.model.specs.SheetText.{linesText, pathNumbers, chokeNumbers, planText, cannotText}
-use Rattle.model.specs.ReadSheet.{Sheet, bad, plan, cannot, allBelow, knownPath, knownPoint, orBad, restSays, pathOf, pointOf, headSays, countSays, pathLine, chokeLine, readSheet}
+use Rattle.model.specs.FirstBad.{orBad, restSays}
+use Rattle.model.specs.ReadSheet.{Sheet, bad, plan, cannot, allBelow, knownPath, knownPoint, pathOf, pointOf, headSays, countSays, pathLine, chokeLine, readSheet}
 use Rattle.model.proofs.Basics.{and-left, and-right, and-both}
 use Rattle.model.proofs.Decide.{decided, dec-by, dec-and, dec-eq, all-below}
 
@@ -26,7 +27,7 @@ abbrev pub free : ℕ → List ℕ → Bool
 free c [] = true
 free c (b ∷ l) = not (eqb b c) && free c l
 
-free-append : (c : ℕ) (l m : List ℕ) → free c l ≡ true → free c m ≡ true → free c (l ++ m) ≡ true
+pub free-append : (c : ℕ) (l m : List ℕ) → free c l ≡ true → free c m ≡ true → free c (l ++ m) ≡ true
 free-append c [] m e f = f
 free-append c (b ∷ l) m e f = and-both (not (eqb b c)) (free c (l ++ m)) (and-left _ _ e) (free-append c l m (and-right (not (eqb b c)) (free c l) e) f)
 
@@ -76,15 +77,15 @@ fields-front (b ∷ l) m f fs e h =
     let g : eqb b 9 ≡ false = not-true (eqb b 9) (and-left _ _ e) in
     ap (onField b) (fields-front l m f fs (and-right (not (eqb b 9)) (free 9 l) e) h) ∙ ap (λ x. cond x ([] ∷ (l ++ f) ∷ fs) ((b ∷ (l ++ f)) ∷ fs)) g
 
-fields-first : (l m : List ℕ) (fs : List (List ℕ)) → free 9 l ≡ true → fieldsOf m ≡ [] ∷ fs → fieldsOf (l ++ m) ≡ l ∷ fs
+pub fields-first : (l m : List ℕ) (fs : List (List ℕ)) → free 9 l ≡ true → fieldsOf m ≡ [] ∷ fs → fieldsOf (l ++ m) ≡ l ∷ fs
 fields-first l m fs e h = fields-front l m [] fs e h ∙ ap (λ x. x ∷ fs) (append-nil l)
 
-fields-apart : (ns : List ℕ) → AllSmall ns → fieldsOf (fields ns) ≡ [] ∷ map numeral ns
+pub fields-apart : (ns : List ℕ) → AllSmall ns → fieldsOf (fields ns) ≡ [] ∷ map numeral ns
 fields-apart [] h = refl
 fields-apart (n ∷ ns) h =
     ap (onField 9) (fields-first (numeral n) (fields ns) (map numeral ns) (numeral-good n (h .0) .0) (fields-apart ns (h .1)))
 
-numbers-read : (ns : List ℕ) → AllSmall ns → numbersOf (map numeral ns) ≡ some ns
+pub numbers-read : (ns : List ℕ) → AllSmall ns → numbersOf (map numeral ns) ≡ some ns
 numbers-read [] h = refl
 numbers-read (n ∷ ns) h = ap (λ o. andNumber o (numbersOf (map numeral ns))) (numeral-good n (h .0) .1 .1) ∙ ap (andNumber (some n)) (numbers-read ns (h .1))
 
@@ -96,20 +97,20 @@ fields-read n ns h =
 module _ {A : Type 0} (say : List ℕ → Option A) (all : List A → Sheet) (word : List ℕ) (numbers : A → List ℕ) (Good : A → Type 0)
     (plain : free 10 word ≡ true) (small : (a : A) → Good a → AllSmall (numbers a)) (said : (a : A) → Good a → say (word ++ fields (numbers a)) ≡ some a) where
   pub rest-read : (got l : List A) (n : ℕ) → ((a : A) → In a l → Good a)
-      → restSays say all got (length l) n (linesOf (linesText word numbers l)) ≡ all (got ++ l)
+      → restSays bad say all got (length l) n (linesOf (linesText word numbers l)) ≡ all (got ++ l)
   rest-read got [] n g = ap all (sym (append-nil got))
   rest-read got (a ∷ l) n g =
-      ap (restSays say all got (suc (length l)) n) (line-read word (numbers a) (linesText word numbers l) plain (small a (g a (inl refl))))
-      ∙ ap (λ o. orBad n o (λ x. restSays say all (got ++ (x ∷ [])) (length l) (n + 1) (linesOf (linesText word numbers l)))) (said a (g a (inl refl)))
+      ap (restSays bad say all got (suc (length l)) n) (line-read word (numbers a) (linesText word numbers l) plain (small a (g a (inl refl))))
+      ∙ ap (λ o. orBad bad n o (λ x. restSays bad say all (got ++ (x ∷ [])) (length l) (n + 1) (linesOf (linesText word numbers l)))) (said a (g a (inl refl)))
       ∙ rest-read (got ++ (a ∷ [])) l (n + 1) (λ b m. g b (inr m))
       ∙ ap all (append-assoc got (a ∷ []) l)
 
   -- A head line that counts the lines of a kind, and these.
   pub all-read : (isRight : ℕ → Bool) (l : List A) → length l < 1000 → isRight (length l) ≡ true → ((a : A) → In a l → Good a)
-      → countSays isRight (λ n. restSays say all [] n 2 (linesOf (linesText word numbers l))) (numbersOf (fieldsOf (numeral (length l) ++ fields []))) ≡ all l
+      → countSays isRight (λ n. restSays bad say all [] n 2 (linesOf (linesText word numbers l))) (numbersOf (fieldsOf (numeral (length l) ++ fields []))) ≡ all l
   all-read isRight l h e g =
-      ap (countSays isRight (λ n. restSays say all [] n 2 (linesOf (linesText word numbers l)))) (fields-read (length l) [] (h, tt))
-      ∙ ap (λ x. cond x (restSays say all [] (length l) 2 (linesOf (linesText word numbers l))) (bad 1)) e ∙ rest-read [] l 2 g
+      ap (countSays isRight (λ n. restSays bad say all [] n 2 (linesOf (linesText word numbers l)))) (fields-read (length l) [] (h, tt))
+      ∙ ap (λ x. cond x (restSays bad say all [] (length l) 2 (linesOf (linesText word numbers l))) (bad 1)) e ∙ rest-read [] l 2 g
 
 -- The limits keep every number of a sheet below 1,000.
 deadline-below : (n : ℕ) (qs : List Call) → 0 < n → ((q : Call) → In q qs → q .deadline < n) → latest qs < n

@@ -2,7 +2,7 @@
 use Prim.Native.Nat.{ℕ}
 use Rattle.model.specs.declared.answer.Answer.{Answer}
 use Rattle.model.specs.declared.answer.Answer.the-variants.{Plan, Cannot, TextTooLong, BadLine, NoNumber, OutOfRange, TooMany, Doubled, Uneven}
-use Rattle.model.specs.declared.answer.Answer.the-variants.{StoreTooShort, SheetTooShort, BadSheet, WrongSheet}
+use Rattle.model.specs.declared.answer.Answer.the-variants.{StoreTooShort, SheetTooShort, BadSheet, WrongSheet, BadMap, NoFloor}
 
 abbrev pub number : Answer → ℕ
 number Plan = 0
@@ -18,3 +18,5 @@ number StoreTooShort = 9
 number SheetTooShort = 10
 number BadSheet = 11
 number WrongSheet = 12
+number BadMap = 13
+number NoFloor = 14

@@ -7,11 +7,11 @@ use mathlib.Core.Bool.{cond}
 use lib.Dec.{ltb}
 use lib.ListN.{length, drop}
 use Rattle.model.specs.Bytes.{bytes}
-use Rattle.model.specs.Contracts.{Planned, Checked, zeros}
+use Rattle.model.specs.Contracts.{Planned, Checked, Mapped, zeros}
 
--- what the planner is to do: answer 0 or 1 and write a sheet, or refuse
+-- what planner or map reader is to do: answer 0 or 1 and write a text, or refuse
 pub data Outcome : Type 0 where
-  wrote : (answer : ℕ) (sheet : String) → Outcome
+  wrote : (answer : ℕ) (text : String) → Outcome
   refuses : (number line : ℕ) → Outcome
 
 abbrev pub packed : Outcome → ℕ
@@ -26,10 +26,11 @@ abbrev pub leaves : Outcome → List ℕ → List ℕ
 leaves (wrote k s) store = zeros store
 leaves (refuses n l) store = store
 
--- A job, the store's length, and the sheet buffer's length for the planner or the sheet for the check, with what is filed.
+-- A job, the store's length, and the sheet buffer's length for the planner or the sheet for the check; or a map and the text buffer's length; with what is filed.
 pub data Row : Type 0 where
   plans : (job : String) (store room : ℕ) → Outcome → Row
   checks : (job : String) (store : ℕ) (sheet : String) (answer : ℕ) → Row
+  maps : (map : String) (room : ℕ) → Outcome → Row
 
 -- What is filed is what the contract allows, and nothing else is.
 abbrev pub RowHolds : Row → Type 0
@@ -39,6 +40,9 @@ RowHolds (plans job n m o) = (store sheet store′ sheet′ : List ℕ) (r : ℕ
 RowHolds (checks job n sheet k) = (store store′ : List ℕ) (r : ℕ) → length store ≡ n
     → (Checked (bytes job) store (bytes sheet) store′ r → (r ≡ k) × (store′ ≡ cond (ltb k 2) (zeros store) store))
     × ((r ≡ k) × (store′ ≡ cond (ltb k 2) (zeros store) store) → Checked (bytes job) store (bytes sheet) store′ r)
+RowHolds (maps map n o) = (text text′ : List ℕ) (r : ℕ) → length text ≡ n
+    → (Mapped (bytes map) text text′ r → (r ≡ packed o) × (text′ ≡ written o ++ drop (length (written o)) text))
+    × ((r ≡ packed o) × (text′ ≡ written o ++ drop (length (written o)) text) → Mapped (bytes map) text text′ r)
 
 abbrev pub jobA : String
 jobA = "FLOOR\t3\nTRACK\t0\t1\nTRACK\t1\t2\nCART\t0\nCART\t1\nCALL\t2\t1\nCALL\t1\t1\n"
@@ -62,6 +66,12 @@ jobClosed = "FLOOR\t3\nTRACK\t0\t1\nTRACK\t1\t2\nCART\t0\nCART\t1\nBAY\t1\t0\nCA
 
 abbrev pub jobUnclosed : String
 jobUnclosed = "FLOOR\t3\nTRACK\t0\t1\nTRACK\t1\t2\nCART\t0\nCART\t1\nCALL\t1\t0\nCALL\t2\t2\n"
+
+abbrev pub mapOfFour : String
+mapOfFour = "type octile\nheight 2\nwidth 2\nmap\n..\nGG\n"
+
+abbrev pub floorOfFour : String
+floorOfFour = "FLOOR\t4\nTRACK\t0\t1\nTRACK\t0\t2\nTRACK\t1\t3\nTRACK\t2\t3\n"
 
 abbrev pub big : ℕ
 big = 65536
@@ -87,4 +97,13 @@ filed =
     ∷ plans jobUnclosed big big (wrote 0 "PLAN\t2\nPATH\t1\t0\t1\nPATH\t0\t1\t0\t1\t2\n")
     ∷ plans "FLOOR\t1\nCART\t0\nBAY\t0\t1\nCALL\t0\t2\n" big big (refuses 7 4)
     ∷ plans "FLOOR\t2\nCART\t0\nBAY\t0\t1\nCART\t1\n" big big (refuses 3 4)
+    ∷ maps "type octile\nheight 1\nwidth 1\nmap\n.\n" big (wrote 0 "FLOOR\t1\n")
+    ∷ maps mapOfFour big (wrote 0 floorOfFour)
+    ∷ maps mapOfFour 48 (wrote 0 floorOfFour)
+    ∷ maps mapOfFour 47 (refuses 10 0)
+    ∷ maps "type octile\nheight 2\nwidth 2\nmap\n.@\n.G\n" big (wrote 0 "FLOOR\t3\nTRACK\t0\t1\nTRACK\t1\t2\n")
+    ∷ maps "type octile\nheight 1\nwidth 3\nmap\nTTT\n" big (refuses 14 0)
+    ∷ maps "type octile\nheight 2\nwidth 2\nmap\n..\n.S\n" big (refuses 13 6)
+    ∷ maps "type octile\nheight 2\nwidth 2\nmap\n..\n" big (refuses 13 6)
+    ∷ maps "type octile\nheight 1\nwidth 2\nmap\n..\n..\n" big (refuses 13 6)
     ∷ []

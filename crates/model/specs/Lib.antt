@@ -8,8 +8,10 @@ pub mod Choke
 pub mod Bytes
 pub mod Text
 pub mod SheetText
+pub mod FirstBad
 pub mod ReadJob
 pub mod ReadSheet
+pub mod GridMap
 pub mod Contracts
 pub mod Ready
 pub mod Filed

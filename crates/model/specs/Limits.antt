@@ -1,4 +1,4 @@
--- The limits of a job. `Limits` of src/lib.rt has the same numbers, and guards there hold the two together.
+-- The limits of a job and of a map. `Limits` of src/lib.rt has the same numbers, and guards there hold the two together.
 use Prim.Native.Nat.{ℕ}
 
 abbrev pub maxCells : ℕ
@@ -16,6 +16,10 @@ maxCalls = 64
 -- the steps from 0 on: a deadline is below this
 abbrev pub maxSteps : ℕ
 maxSteps = 256
+
+-- rows of a map, and letters of a row
+abbrev pub maxSide : ℕ
+maxSide = 64
 
 -- bytes of a job text
 abbrev pub maxText : ℕ

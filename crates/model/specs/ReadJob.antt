@@ -11,9 +11,10 @@ use Rattle.model.specs.declared.answer.Answer.the-variants.{TextTooLong,
 use Rattle.model.specs.Job.{Job, Track, CallKind, lift, bay, track, call}
 use Rattle.model.specs.Text.{Lines, done, cut, more, linesOf, numbersOf, opens, after, floorWord, trackWord, cartWord, callWord, bayWord}
 
-pub data Verdict : Type 0 where
-  refused : (answer : Answer) (line : ℕ) → Verdict
-  accepted : Job → Verdict
+-- on a text that says an A
+pub data Verdict (A : Type 0) : Type 0 where
+  refused : (answer : Answer) (line : ℕ) → Verdict A
+  accepted : A → Verdict A
 
 -- the kinds of lines: CALL and BAY lines differ only in the kind of their call
 pub data Kind : Type 0 where
@@ -101,19 +102,19 @@ lineSays j l =
     (cond (opens bayWord l) (fieldsSay j (callLine bay) (after bayWord l))
     (wrong BadLine)))))
 
-abbrev pub goOn : Said → ℕ → (Job → Verdict) → Verdict
+abbrev pub goOn : Said → ℕ → (Job → Verdict Job) → Verdict Job
 goOn (wrong a) n on = refused a n
 goOn (right j) n on = on j
 
 -- 8: carts and calls differ in number. A text without a line has no FLOOR.
-abbrev pub wholeJob : Job → ℕ → Verdict
+abbrev pub wholeJob : Job → ℕ → Verdict Job
 wholeJob j n = cond (eqb (j .cells) 0) (refused BadLine n) (cond (eqb (length (j .carts)) (length (j .calls))) (accepted j) (refused Uneven 0))
 
 -- The lines from number n on, after those that said j.
-abbrev pub linesSay : Job → ℕ → Lines → Verdict
+abbrev pub linesSay : Job → ℕ → Lines → Verdict Job
 linesSay j n done = wholeJob j n
 linesSay j n cut = refused BadLine n
 linesSay j n (more l ls) = goOn (lineSays j l) n (λ j′. linesSay j′ (n + 1) ls)
 
-unfoldable pub readJob : List ℕ → Verdict
+unfoldable pub readJob : List ℕ → Verdict Job
 readJob s = cond (ltb maxText (length s)) (refused TextTooLong 0) (linesSay noJob 1 (linesOf s))

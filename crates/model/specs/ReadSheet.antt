@@ -8,6 +8,7 @@ use lib.ListN.{length}
 use Rattle.model.specs.Job.{Job, callOf, horizon}
 use Rattle.model.specs.Plan.{Path}
 use Rattle.model.specs.Choke.{Point}
+use Rattle.model.specs.FirstBad.{restSays}
 use Rattle.model.specs.Text.{Lines, done, cut, more, linesOf, numbersOf, opens, after, planWord, pathWord, cannotWord, chokeWord}
 
 pub data Sheet : Type 0 where
@@ -45,20 +46,6 @@ pointOf j (some (a ∷ [])) = none
 pointOf j (some (a ∷ b ∷ [])) = let x : Point = record { cell = a; step = b } in cond (knownPoint j x) (some x) none
 pointOf j (some (a ∷ b ∷ c ∷ ns)) = none
 
-abbrev pub orBad : {A : Type 0} → ℕ → Option A → (A → Sheet) → Sheet
-orBad n none on = bad n
-orBad n (some a) on = on a
-
--- The lines from number n on: k more of them, `say` each, and no other. `got` were said so far.
-module _ {A : Type 0} (say : List ℕ → Option A) (all : List A → Sheet) where
-  abbrev pub restSays : List A → ℕ → ℕ → Lines → Sheet
-  restSays got zero n done = all got
-  restSays got zero n cut = bad n
-  restSays got zero n (more l ls) = bad n
-  restSays got (suc k) n done = bad n
-  restSays got (suc k) n cut = bad n
-  restSays got (suc k) n (more l ls) = orBad n (say l) (λ a. restSays (got ++ (a ∷ [])) k (n + 1) ls)
-
 abbrev pub pathLine : Job → List ℕ → Option Path
 pathLine j l = pathOf j (numbersAfter pathWord l)
 
@@ -77,8 +64,8 @@ abbrev pub headSays : Job → Lines → Sheet
 headSays j done = bad 1
 headSays j cut = bad 1
 headSays j (more l ls) = cond (opens planWord l)
-    (countSays (λ n. eqb n (length (j .calls))) (λ n. restSays (pathLine j) plan [] n 2 ls) (numbersAfter planWord l))
-    (countSays (λ n. ltb n (length (j .calls))) (λ n. restSays (chokeLine j) cannot [] n 2 ls) (numbersAfter cannotWord l))
+    (countSays (λ n. eqb n (length (j .calls))) (λ n. restSays bad (pathLine j) plan [] n 2 ls) (numbersAfter planWord l))
+    (countSays (λ n. ltb n (length (j .calls))) (λ n. restSays bad (chokeLine j) cannot [] n 2 ls) (numbersAfter cannotWord l))
 
 unfoldable pub readSheet : Job → List ℕ → Sheet
 readSheet j s = headSays j (linesOf s)

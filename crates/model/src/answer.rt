@@ -1,9 +1,9 @@
-// The answers of planner and check, and the 64-bit number that carries one.
+// The answers of planner, check and map reader, and the 64-bit number that carries one.
 ghost use mathlib.Core.Path.{_≡_};
 ghost use Prim.Native.Nat.{_+_, _*_, _<_, _^_};
 ghost use Rattle.model.specs.Answers as answers;
 
-// A plan or a choke list, or the place that turns the text, the buffers or the sheet back.
+// A plan or a choke list, or the place that turns the text, the buffers, the sheet or the map back.
 pub enum Answer {
     Plan,
     Cannot,
@@ -18,6 +18,8 @@ pub enum Answer {
     SheetTooShort,
     BadSheet,
     WrongSheet,
+    BadMap,
+    NoFloor,
 }
 
 pub fn number(answer: Answer) -> u64
@@ -37,6 +39,8 @@ pub fn number(answer: Answer) -> u64
         Answer::SheetTooShort => 10,
         Answer::BadSheet => 11,
         Answer::WrongSheet => 12,
+        Answer::BadMap => 13,
+        Answer::NoFloor => 14,
     }
 }
 

@@ -3,7 +3,7 @@ pub mod answer;
 pub mod bytes;
 
 ghost use mathlib.Core.Path.{_≡_};
-ghost use Rattle.model.specs.Limits.{maxCells, maxTracks, maxCarts, maxCalls, maxSteps, maxText};
+ghost use Rattle.model.specs.Limits.{maxCells, maxTracks, maxCarts, maxCalls, maxSteps, maxSide, maxText};
 
 pub struct Limits {}
 
@@ -18,6 +18,9 @@ impl Limits {
 
     // The steps from 0 to the largest deadline allowed, 255.
     pub const STEPS: usize = 256;
+
+    // Rows of a map, and letters of a row.
+    pub const SIDE: usize = 64;
 
     pub const TEXT: usize = 16384;
 }
@@ -51,6 +54,12 @@ pub fn steps_agree() -> usize
     ensures { λ r. ⌜ r ≡ maxSteps ⌝ }
 {
     Limits::STEPS
+}
+
+pub fn side_agree() -> usize
+    ensures { λ r. ⌜ r ≡ maxSide ⌝ }
+{
+    Limits::SIDE
 }
 
 pub fn text_agree() -> usize

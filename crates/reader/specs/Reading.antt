@@ -15,7 +15,7 @@ use Rattle.reader.specs.declared.read.Reading.{Reading}
 use Rattle.job.specs.Arrays.{jobOf, Sized}
 use Rattle.reader.specs.Lines.{answerTo}
 
-abbrev pub verdictOf : Verdict → model.Job → read.Verdict
+abbrev pub verdictOf : Verdict → model.Job → read.Verdict model.Job
 verdictOf Accepted j = read.accepted j
 verdictOf (Refused a l) j = read.refused a l
 

@@ -14,7 +14,8 @@ use Rattle.model.specs.Job.{Job, callOf, horizon}
 use Rattle.model.specs.Plan.{Path}
 use Rattle.model.specs.Choke.{point}
 use Rattle.model.specs.Text.{Lines, more, opens, planWord, pathWord, cannotWord, chokeWord}
-use Rattle.model.specs.ReadSheet.{Sheet, bad, plan, cannot, allBelow, numbersAfter, pathOf, pathLine, pointOf, chokeLine, countSays, restSays, headSays}
+use Rattle.model.specs.FirstBad.{restSays}
+use Rattle.model.specs.ReadSheet.{Sheet, bad, plan, cannot, allBelow, numbersAfter, pathOf, pathLine, pointOf, chokeLine, countSays, headSays}
 use Rattle.model.proofs.Basics.{nope}
 use Rattle.sheet.specs.declared.PathLine.{PathLine}
 use Rattle.sheet.specs.declared.PathLine.the-variants as P
@@ -131,11 +132,11 @@ count-only isRight rest (some (n ∷ [])) = refl
 count-only isRight rest (some (n ∷ m ∷ ns)) = refl
 
 cannot-goes : (j : Job) (ls : Lines) (m : Option ℕ) → headGoes j (cannotHead (length (j .calls)) m) ls
-    ≡ countOnly (λ n. ltb n (length (j .calls))) (λ n. restSays (chokeLine j) cannot [] n 2 ls) m
+    ≡ countOnly (λ n. ltb n (length (j .calls))) (λ n. restSays bad (chokeLine j) cannot [] n 2 ls) m
 cannot-goes j ls none = refl
 cannot-goes j ls (some n) = go (ltb n (length (j .calls)))
   where
-    go : (t : Bool) → headGoes j (cond t (H.Cannot n) H.Bad) ls ≡ cond t (restSays (chokeLine j) cannot [] n 2 ls) (bad 1)
+    go : (t : Bool) → headGoes j (cond t (H.Cannot n) H.Bad) ls ≡ cond t (restSays bad (chokeLine j) cannot [] n 2 ls) (bad 1)
     go true = refl
     go false = refl
 
@@ -157,7 +158,7 @@ head-unlike calls l e r q = (λ j ls n. ap (λ x. headGoes j x ls) q ∙ goes j 
     goes j ls n = rw (← n, e) (cannot-goes j ls (onlyOf (numbersAfter cannotWord l)) ∙ sym (count-only _ _ (numbersAfter cannotWord l)))
 
 module _ (l : List ℕ) (e : opens planWord l ≡ true) {m : Option ℕ} (only : m ≡ onlyOf (numbersAfter planWord l)) where
-  plan-says : (j : Job) (ls : Lines) → headSays j (more l ls) ≡ countOnly (λ n. eqb n (length (j .calls))) (λ n. restSays (pathLine j) plan [] n 2 ls) m
+  plan-says : (j : Job) (ls : Lines) → headSays j (more l ls) ≡ countOnly (λ n. eqb n (length (j .calls))) (λ n. restSays bad (pathLine j) plan [] n 2 ls) m
   plan-says j ls = rw e (count-only _ _ (numbersAt l 5) ∙ ap (countOnly _ _) (sym (only ∙ ap onlyOf (past (planWord ++ (9 ∷ [])) l e))))
 
   pub head-few : (calls : ℕ) → m ≡ none → HeadSaid calls l H.Bad

@@ -8,7 +8,8 @@ use lib.ListN.{length, drop}
 use borrow.Author.Tests.{ltb-true, ltb-false, eq-eqb, ne-eqb}
 use Rattle.model.specs.Job.{Job}
 use Rattle.model.specs.Text.{Lines, more, linesOf}
-use Rattle.model.specs.ReadSheet.{Sheet, bad, headSays, readSheet, pathLine, plan, restSays}
+use Rattle.model.specs.FirstBad.{restSays}
+use Rattle.model.specs.ReadSheet.{Sheet, bad, headSays, readSheet, pathLine, plan}
 use Rattle.text.specs.Scan.{lineOf}
 use Rattle.text.proofs.LineLaws.{lines-done, next-cut, next-more}
 use Rattle.sheet.specs.declared.Head.{Head}
@@ -35,6 +36,6 @@ module _ (j : Job) (s : List ℕ) {line : List ℕ} {q : ℕ} (taken : (line ≡
   whole-head h head r said f = ap (λ x. headGoes j x (linesOf (drop q s))) (sym f) ∙ said (linesOf (drop q s)) ∙ ap (headSays j) (sym (next-more s 0 line q taken h))
 
 -- The lines of a plan are as many as the job's calls, whatever x says of that number.
-pub plan-whole : (j : Job) (ls : Lines) {s : Sheet} (x : ℕ → Sheet) {n : ℕ} → length (j .calls) ≡ n → x n ≡ restSays (pathLine j) plan [] n 2 ls → headGoes j Plan ls ≡ s
+pub plan-whole : (j : Job) (ls : Lines) {s : Sheet} (x : ℕ → Sheet) {n : ℕ} → length (j .calls) ≡ n → x n ≡ restSays bad (pathLine j) plan [] n 2 ls → headGoes j Plan ls ≡ s
     → x (length (j .calls)) ≡ s
 plan-whole j ls x e f g = rw e (f ∙ rw e at g)

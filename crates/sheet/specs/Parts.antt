@@ -11,7 +11,8 @@ use Rattle.model.specs.Job.{Job, callOf}
 use Rattle.model.specs.Plan.{Path}
 use Rattle.model.specs.Choke.{Point, point}
 use Rattle.model.specs.Text.{Lines, fieldsOf, andNumber, numbersOf, startsWith}
-use Rattle.model.specs.ReadSheet.{Sheet, bad, plan, cannot, allBelow, restSays, pathLine, chokeLine}
+use Rattle.model.specs.FirstBad.{restSays}
+use Rattle.model.specs.ReadSheet.{Sheet, bad, plan, cannot, allBelow, pathLine, chokeLine}
 use Rattle.text.specs.declared.scan.Scan.{Scan}
 use Rattle.text.specs.declared.scan.Scan.the-variants.{Value, Fault}
 use Rattle.sheet.specs.declared.Two.{Two}
@@ -100,8 +101,8 @@ ChokeKnown cells latest (C.Good a b) = (a < cells) × (b ≤ latest)
 -- what the sheet is by its first line, with the rest of its lines
 abbrev pub headGoes : Job → Head → Lines → Sheet
 headGoes j H.Bad ls = bad 1
-headGoes j H.Plan ls = restSays (pathLine j) plan [] (length (j .calls)) 2 ls
-headGoes j (H.Cannot n) ls = restSays (chokeLine j) cannot [] n 2 ls
+headGoes j H.Plan ls = restSays bad (pathLine j) plan [] (length (j .calls)) 2 ls
+headGoes j (H.Cannot n) ls = restSays bad (chokeLine j) cannot [] n 2 ls
 
 abbrev pub HeadKnown : ℕ → Head → Type 0
 HeadKnown calls H.Bad = Unit

@@ -12,7 +12,8 @@ ghost use Rattle.model.specs.Job as model;
 ghost use Rattle.model.specs.Job.{horizon};
 ghost use Rattle.model.specs.Ready.{Ready};
 ghost use Rattle.model.specs.Text.{Lines, more, linesOf, cannotWord};
-ghost use Rattle.model.specs.ReadSheet.{plan, cannot, numbersAfter, restSays, headSays, pathLine, chokeLine, readSheet};
+ghost use Rattle.model.specs.FirstBad.{restSays};
+ghost use Rattle.model.specs.ReadSheet.{bad, plan, cannot, numbersAfter, headSays, pathLine, chokeLine, readSheet};
 ghost use Rattle.job.specs.Arrays.{jobOf, Sized};
 ghost use Rattle.job.specs.Held.{Room, pathsTo, pointsOf};
 ghost use Rattle.sheet.specs.Form.{formOf, LineFits};
@@ -224,7 +225,7 @@ fn read_paths(
     rows: &mut [u8],
 ) -> usize
     requires { ⌜ (at ≤ length (now sheet)) × (cells ≤ maxCells) × (carts ≤ maxCarts) × (calls ≤ maxCalls) × Room (now first) (now second) (now lasts) (now rows) ⌝ }
-    ensures { λ r. ⌜ ((j : model.Job) → Tells j cells carts calls (now (deadlines .entry)) → unlessBad r (plan (pathsTo (now (first .exit)) (now (second .exit)) (now (lasts .exit)) (now (rows .exit)) calls)) ≡ restSays (pathLine j) plan [] calls 2 (linesOf (drop at (now (sheet .entry))))) × Room (now (first .exit)) (now (second .exit)) (now (lasts .exit)) (now (rows .exit)) × (r ≤ maxCalls + 2) ⌝ }
+    ensures { λ r. ⌜ ((j : model.Job) → Tells j cells carts calls (now (deadlines .entry)) → unlessBad r (plan (pathsTo (now (first .exit)) (now (second .exit)) (now (lasts .exit)) (now (rows .exit)) calls)) ≡ restSays bad (pathLine j) plan [] calls 2 (linesOf (drop at (now (sheet .entry))))) × Room (now (first .exit)) (now (second .exit)) (now (lasts .exit)) (now (rows .exit)) × (r ≤ maxCalls + 2) ⌝ }
 {
     let mut k = 0;
     let mut p = at;
@@ -267,7 +268,7 @@ fn read_chokes(
     second: &mut [u8],
 ) -> usize
     requires { ⌜ (at ≤ length (now sheet)) × (count ≤ maxCalls) × (cells ≤ maxCells) × (latest < maxSteps) × (length (now first) ≡ maxCalls) × (length (now second) ≡ maxCalls) ⌝ }
-    ensures { λ r. ⌜ ((j : model.Job) → j .cells ≡ cells → horizon j ≡ latest → unlessBad r (cannot (pointsOf (now (first .exit)) (now (second .exit)) count)) ≡ restSays (chokeLine j) cannot [] count 2 (linesOf (drop at (now (sheet .entry))))) × (r ≤ maxCalls + 2) ⌝ }
+    ensures { λ r. ⌜ ((j : model.Job) → j .cells ≡ cells → horizon j ≡ latest → unlessBad r (cannot (pointsOf (now (first .exit)) (now (second .exit)) count)) ≡ restSays bad (chokeLine j) cannot [] count 2 (linesOf (drop at (now (sheet .entry))))) × (r ≤ maxCalls + 2) ⌝ }
 {
     let mut k = 0;
     let mut p = at;
