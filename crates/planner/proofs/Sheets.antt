@@ -19,7 +19,8 @@ use Rattle.model.specs.Contracts.{RightPlan, RightChokes}
 use Rattle.model.proofs.Lists.{in-getD}
 use Rattle.model.proofs.Contrary.{weak}
 use Rattle.text.specs.Wrote.{Wrote}
-use Rattle.text.proofs.Wrote.{wrote-whole, line-room, lines-room}
+use Rattle.model.proofs.Room.{line-room, lines-room}
+use Rattle.text.proofs.Wrote.{wrote-whole}
 use Rattle.planner.specs.Written.{Written}
 
 module _ (j : Job) (f : Fit j) where

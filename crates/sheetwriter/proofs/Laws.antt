@@ -1,42 +1,27 @@
--- The pieces of a sheet are its lines, one more line is one more piece, and no line is longer than its share of the least length of a sheet.
+-- No line of a sheet is longer than its share of the least length of a sheet.
 -- By induction over lists and counts. Assumes nothing.
 use Rattle.job.proofs.UpTo.{in-up}
 use Prim.Native.Nat.{ℕ, zero, suc, _+_, _-_, _*_, _≤_, _<_}
 use mathlib.Core.Path.{_≡_, refl, ap}
-use mathlib.Core.List.{List, [], _∷_, _++_, append-assoc, append-nil}
+use mathlib.Core.List.{List, [], _∷_}
 use mathlib.Core.Bool.{true, _&&_}
 use native.Mathlib.Omega.{arith}
 use native.Mathlib.Nat.{add-mul, one-mul, mul-le-mul}
 use lib.Dec.{ltb, eqb}
-use lib.ListN.{length, getD, take, drop, length-append}
+use lib.ListN.{length, getD, take, drop}
 use borrow.Author.Tests.{eqb-true}
 use Rattle.model.specs.Lists.{In}
 use Rattle.model.specs.Limits.{maxSteps}
-use Rattle.model.specs.Text.{numeral, fields, line, pathWord}
+use Rattle.model.specs.Text.{line, pathWord}
 use Rattle.model.specs.Job.{Job, Call, lift, call, callOf, latest, horizon, sheetLeast}
 use Rattle.model.specs.Plan.{Path}
 use Rattle.model.specs.Ready.{Ready}
-use Rattle.model.specs.SheetText.{linesText, pathNumbers}
+use Rattle.model.specs.SheetText.{pathNumbers}
 use Rattle.model.specs.ReadSheet.{knownPath, allBelow}
 use Rattle.model.proofs.Basics.{and-left, and-right}
 use Rattle.text.specs.Wrote.{Wrote}
-use Rattle.text.proofs.Wrote.{wrote-more, fields-append, fields-room, line-room, lines-append}
+use Rattle.model.proofs.Room.{line-room}
 use Rattle.job.specs.Held.{pathAt, pathsTo}
-
--- A line that is written in pieces.
-pub wrote-pair : {s : List ℕ} {at : ℕ} {word t : List ℕ} {p : ℕ} (a b : ℕ) {u : List ℕ} {q : ℕ} {v : List ℕ} {r : ℕ}
-    → Wrote s at word t p → Wrote t p (9 ∷ numeral a) u q → Wrote u q (9 ∷ numeral b) v r → Wrote s at (word ++ fields (a ∷ b ∷ [])) v r
-wrote-pair a b x y z = rw (append-nil (numeral b)) (wrote-more x (wrote-more y z))
-
-pub pair-room : (word : List ℕ) (a b : ℕ) → length (word ++ fields (a ∷ b ∷ [])) ≤ length word + 8
-pair-room word a b = rw (length-append word (fields (a ∷ b ∷ []))) (omega (arith, fields-room (a ∷ b ∷ [])))
-
-pub line-of : (word xs ys : List ℕ) → (word ++ fields xs) ++ (fields ys ++ (10 ∷ [])) ≡ line word (xs ++ ys)
-line-of word xs ys = rw (fields-append xs ys) (simp append-assoc)
-
-pub wrote-lines : {A : Type 0} (word : List ℕ) (numbers : A → List ℕ) (l : List A) (a : A) {s : List ℕ} {at : ℕ} {t : List ℕ} {p : ℕ} {u : List ℕ} {r : ℕ}
-    → Wrote s at (linesText word numbers l) t p → Wrote t p (line word (numbers a)) u r → Wrote s at (linesText word numbers (l ++ (a ∷ []))) u r
-wrote-lines word numbers l a x y = rw (lines-append word numbers l (a ∷ []), append-nil (line word (numbers a))) (wrote-more x y)
 
 -- The room for n pieces of at most b bytes, of which k are written up to p.
 module _ (b k n p l : ℕ) (h : k < n) (room : p + (n - k) * b ≤ l) where

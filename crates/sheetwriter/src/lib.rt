@@ -4,13 +4,13 @@ use model::Limits;
 use model::bytes::wide;
 use text::put;
 ghost use mathlib.Core.Path.{_≡_};
-ghost use mathlib.Core.List.{_∷_, [], _++_};
+ghost use mathlib.Core.List.{_∷_};
 ghost use mathlib.Core.Bool.{true};
 ghost use Prim.Native.Nat.{_+_, _*_, _<_, _≤_};
 ghost use lib.ListN.{length};
 ghost use Rattle.model.specs.Limits.{maxCalls};
 ghost use Rattle.model.specs.Lists.{In};
-ghost use Rattle.model.specs.Text.{fields, line, pathWord, chokeWord};
+ghost use Rattle.model.specs.Text.{line, pathWord};
 ghost use Rattle.model.specs.Job.{sheetLeast};
 ghost use Rattle.model.specs.Plan.{Path};
 ghost use Rattle.model.specs.Ready.{Ready};
@@ -20,41 +20,13 @@ ghost use Rattle.job.specs.Arrays.{jobOf, Sized};
 ghost use Rattle.text.specs.Wrote.{Wrote};
 ghost use Rattle.job.specs.Held.{Room, pathsTo, pointsOf};
 
-// The first line: a word and a count.
-fn put_head(out: &mut [u8], at: usize, word: &[u8], n: usize) -> usize
-    requires { ⌜ (n < 1000) × (at + length (now word) + 5 ≤ length (now out)) ⌝ }
-    ensures { λ r. ⌜ Wrote (now (out .entry)) at (line (now (word .entry)) (n ∷ [])) (now (out .exit)) r × (r ≤ at + length (now (word .entry)) + 5) ⌝ }
-{
-    let p = put::word(out, at, word);
-    let q = put::field(out, p, n);
-    put::byte(out, q, 10)
-}
-
-// A line's word and its first two fields.
-fn put_pair(out: &mut [u8], at: usize, word: &[u8], a: usize, b: usize) -> usize
-    requires { ⌜ (a < 1000) × (b < 1000) × (at + length (now word) + 8 ≤ length (now out)) ⌝ }
-    ensures { λ r. ⌜ Wrote (now (out .entry)) at (now (word .entry) ++ fields (a ∷ b ∷ [])) (now (out .exit)) r ⌝ }
-{
-    let p = put::word(out, at, word);
-    let q = put::field(out, p, a);
-    put::field(out, q, b)
-}
-
 fn put_path(out: &mut [u8], at: usize, cart: usize, call: usize, cells: &[u8]) -> usize
     requires { ⌜ (cart < 1000) × (call < 1000) × (at + 4 * length (now cells) + 13 ≤ length (now out)) ⌝ }
     ensures { λ r. ⌜ Wrote (now (out .entry)) at (line pathWord (cart ∷ call ∷ now (cells .entry))) (now (out .exit)) r ⌝ }
 {
-    let p = put_pair(out, at, b"PATH", cart, call);
+    let p = put::pair(out, at, b"PATH", cart, call);
     let q = put::fields(out, p, cells, cells.len());
     put::byte(out, q, 10)
-}
-
-fn put_choke(out: &mut [u8], at: usize, cell: usize, step: usize) -> usize
-    requires { ⌜ (cell < 1000) × (step < 1000) × (at + 14 ≤ length (now out)) ⌝ }
-    ensures { λ r. ⌜ Wrote (now (out .entry)) at (line chokeWord (cell ∷ step ∷ [])) (now (out .exit)) r ⌝ }
-{
-    let p = put_pair(out, at, b"CHOKE", cell, step);
-    put::byte(out, p, 10)
 }
 
 // PLAN, and a PATH line for each call.
@@ -69,7 +41,7 @@ pub fn put_plan(
     requires { ⌜ Ready (jobOf job) × Sized job × Room (now carts) (now calls) (now lasts) (now rows) × ((p : Path) → In p (pathsTo (now carts) (now calls) (now lasts) (now rows) (length (jobOf job .calls))) → knownPath (jobOf job) p ≡ true) × (sheetLeast (jobOf job) ≤ length (now out)) ⌝ }
     ensures { λ r. ⌜ Wrote (now (out .entry)) 0 (planText (pathsTo (now (carts .entry)) (now (calls .entry)) (now (lasts .entry)) (now (rows .entry)) (length (jobOf job .calls)))) (now (out .exit)) r ⌝ }
 {
-    let mut p = put_head(out, 0, b"PLAN", job.calls);
+    let mut p = put::head(out, 0, b"PLAN", job.calls);
     let mut k = 0;
     while k < job.calls {
         let a = k * Limits::STEPS;
@@ -85,10 +57,10 @@ pub fn put_cannot(job: Job, cells: &[u8], steps: &[u8], n: usize, out: &mut [u8]
     requires { ⌜ Ready (jobOf job) × Sized job × (length (now cells) ≡ maxCalls) × (length (now steps) ≡ maxCalls) × (n < job .calls) × (sheetLeast (jobOf job) ≤ length (now out)) ⌝ }
     ensures { λ r. ⌜ Wrote (now (out .entry)) 0 (cannotText (pointsOf (now (cells .entry)) (now (steps .entry)) n)) (now (out .exit)) r ⌝ }
 {
-    let mut p = put_head(out, 0, b"CANNOT", n);
+    let mut p = put::head(out, 0, b"CANNOT", n);
     let mut k = 0;
     while k < n {
-        p = put_choke(out, p, wide(cells[k]), wide(steps[k]));
+        p = put::pair_line(out, p, b"CHOKE", wide(cells[k]), wide(steps[k]));
         k += 1;
     }
     p

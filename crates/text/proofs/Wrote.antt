@@ -1,19 +1,16 @@
--- What is written piece by piece is written as one piece, and how long the pieces are.
+-- What is written piece by piece is written as one piece.
 -- A writer's contract is a `Wrote`; its proof composes those of the functions that it calls by `wrote-more`. Assumes nothing.
 use mathlib.Core.Path.{_≡_, refl, sym, ap, _∙_}
 use mathlib.Core.List.{List, [], _∷_, _++_, append-assoc, append-nil}
-use mathlib.Core.Logic.{inl, inr}
-use mathlib.Core.Bool.{Bool, true, false, cond}
-use Prim.Native.Nat.{ℕ, suc, _+_, _*_, _/_, _%_, _≤_, _<_}
+use Prim.Native.Nat.{ℕ, suc, _+_, _/_, _%_, _≤_, _<_}
 use native.Mathlib.Omega.{arith}
 use native.Mathlib.Numerals.{add-one}
-use native.Mathlib.Nat.{add-zero, zero-add, mul-suc}
-use lib.Dec.{ltb}
+use native.Mathlib.Nat.{add-zero, zero-add}
 use lib.ListN.{length, getD, take, drop, set, length-append, take-append-drop, length-take, length-drop}
 use lib.Seq.{length-take-le, take-suc, append-snoc, set-split, drop-drop, take-at, drop-at}
 use borrow.Author.Tests.{lt-ltb, le-ltb}
-use Rattle.model.specs.Lists.{In}
-use Rattle.model.specs.Text.{digit, numeral, fields, line}
+use Rattle.model.proofs.Room.{fields-room}
+use Rattle.model.specs.Text.{numeral, fields, line}
 use Rattle.model.specs.SheetText.{linesText}
 use Rattle.text.specs.Wrote.{Wrote}
 
@@ -55,18 +52,6 @@ numeral-3 n l h =
     let k : 10 ≤ n = omega arith in
     simp (le-ltb _ _ k, le-ltb _ _ l) (ap (λ (d : ℕ). (48 + d) ∷ (48 + n / 10 % 10) ∷ (48 + n % 10) ∷ []) (omega arith))
 
--- one to three digits, whatever the tests say
-numeral-long : (n : ℕ) → (1 ≤ length (numeral n)) × (length (numeral n) ≤ 3)
-numeral-long n = go (ltb n 10) (ltb n 100)
-  where
-    go : (t u : Bool) → let l = length (cond t (digit n ∷ []) (cond u (digit (n / 10) ∷ digit n ∷ []) (digit (n / 100) ∷ digit (n / 10) ∷ digit n ∷ []))) in (1 ≤ l) × (l ≤ 3)
-    go true u = (omega arith, omega arith)
-    go false true = (omega arith, omega arith)
-    go false false = (omega arith, omega arith)
-
-pub numeral-short : (n : ℕ) → length (numeral n) ≤ 3
-numeral-short n = numeral-long n .1
-
 pub fields-append : (xs ys : List ℕ) → fields (xs ++ ys) ≡ fields xs ++ fields ys
 fields-append [] ys = refl
 fields-append (x ∷ xs) ys = rw (fields-append xs ys) (ap (λ (l : List ℕ). 9 ∷ l) (sym (append-assoc (numeral x) (fields xs) (fields ys))))
@@ -78,24 +63,38 @@ fields-one n = rw append-nil
 pub fields-suc : (ns : List ℕ) (i : ℕ) → i < length ns → fields (take (i + 1) ns) ≡ fields (take i ns) ++ (9 ∷ numeral (getD ns i 0))
 fields-suc ns i h = rw (add-one, take-suc ns i 0 h) (fields-append (take i ns) (getD ns i 0 ∷ []) ∙ rw fields-one)
 
-pub fields-room : (ns : List ℕ) → length (fields ns) ≤ 4 * length ns
-fields-room [] = omega arith
-fields-room (n ∷ ns) = simp length-append (omega (arith, numeral-short n, fields-room ns))
-
 -- a line of its three pieces
 pub wrote-line : {s : List ℕ} {at : ℕ} {word t : List ℕ} {p : ℕ} (ns : List ℕ) {u : List ℕ} {q : ℕ} {v : List ℕ} {r : ℕ}
     → Wrote s at word t p → Wrote t p (fields ns) u q → Wrote u q (10 ∷ []) v r → Wrote s at (line word ns) v r
 wrote-line ns a b c = wrote-more a (wrote-more b c)
 
-pub line-room : (word ns : List ℕ) → length (line word ns) ≤ length word + 4 * length ns + 1
-line-room word ns = simp length-append (omega (arith, fields-room ns))
+-- a line that begins with a word and two fields
+pub wrote-pair : {s : List ℕ} {at : ℕ} {word t : List ℕ} {p : ℕ} (a b : ℕ) {u : List ℕ} {q : ℕ} {v : List ℕ} {r : ℕ}
+    → Wrote s at word t p → Wrote t p (9 ∷ numeral a) u q → Wrote u q (9 ∷ numeral b) v r → Wrote s at (word ++ fields (a ∷ b ∷ [])) v r
+wrote-pair a b x y z = rw (append-nil (numeral b)) (wrote-more x (wrote-more y z))
 
--- The same of many lines: their text, and the room for l lines of at most k bytes each.
-module _ {A : Type 0} (word : List ℕ) (numbers : A → List ℕ) where
-  pub lines-append : (l m : List A) → linesText word numbers (l ++ m) ≡ linesText word numbers l ++ linesText word numbers m
-  lines-append [] m = refl
-  lines-append (a ∷ l) m = rw (lines-append l m) (sym (append-assoc (line word (numbers a)) (linesText word numbers l) (linesText word numbers m)))
+pub pair-room : (word : List ℕ) (a b : ℕ) → length (word ++ fields (a ∷ b ∷ [])) ≤ length word + 8
+pair-room word a b = rw (length-append word (fields (a ∷ b ∷ []))) (omega (arith, fields-room (a ∷ b ∷ [])))
 
-  pub lines-room : (k : ℕ) (l : List A) → ((a : A) → In a l → length (line word (numbers a)) ≤ k) → length (linesText word numbers l) ≤ k * length l
-  lines-room k [] h = omega arith
-  lines-room k (a ∷ l) h = rw (length-append (line word (numbers a)) (linesText word numbers l), mul-suc) (omega (arith, h a (inl refl), lines-room k l (λ b i. h b (inr i))))
+-- how long the lines with one field and with two are
+pub head-long : (word : List ℕ) (n : ℕ) → length (line word (n ∷ [])) ≡ length word + length (numeral n) + 2
+head-long word n = simp length-append (omega arith)
+
+pub pair-long : (word : List ℕ) (a b : ℕ) → length (word ++ fields (a ∷ b ∷ [])) ≡ length word + length (numeral a) + length (numeral b) + 2
+pair-long word a b = simp length-append (omega arith)
+
+pub pair-line-long : (word : List ℕ) (a b : ℕ) → length (line word (a ∷ b ∷ [])) ≡ length word + length (numeral a) + length (numeral b) + 3
+pair-line-long word a b = simp length-append (omega arith)
+
+pub line-of : (word xs ys : List ℕ) → (word ++ fields xs) ++ (fields ys ++ (10 ∷ [])) ≡ line word (xs ++ ys)
+line-of word xs ys = rw (fields-append xs ys) (simp append-assoc)
+
+-- Many lines, and one more of them.
+pub lines-append : {A : Type 0} (word : List ℕ) (numbers : A → List ℕ) (l m : List A) → linesText word numbers (l ++ m) ≡ linesText word numbers l ++ linesText word numbers m
+lines-append word numbers [] m = refl
+lines-append word numbers (a ∷ l) m =
+    rw (lines-append word numbers l m) (sym (append-assoc (line word (numbers a)) (linesText word numbers l) (linesText word numbers m)))
+
+pub wrote-lines : {A : Type 0} (word : List ℕ) (numbers : A → List ℕ) (l : List A) (a : A) {s : List ℕ} {at : ℕ} {t : List ℕ} {p : ℕ} {u : List ℕ} {r : ℕ}
+    → Wrote s at (linesText word numbers l) t p → Wrote t p (line word (numbers a)) u r → Wrote s at (linesText word numbers (l ++ (a ∷ []))) u r
+wrote-lines word numbers l a x y = rw (lines-append word numbers l (a ∷ []), append-nil (line word (numbers a))) (wrote-more x y)

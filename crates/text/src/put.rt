@@ -2,9 +2,9 @@
 use model::bytes::wide;
 ghost use mathlib.Core.Path.{_≡_};
 ghost use Prim.Native.Nat.{_+_, _*_, _<_, _≤_};
-ghost use mathlib.Core.List.{_∷_, []};
+ghost use mathlib.Core.List.{_∷_, [], _++_};
 ghost use lib.ListN.{length, take};
-ghost use Rattle.model.specs.Text.{numeral, fields};
+ghost use Rattle.model.specs.Text.{numeral, fields, line};
 ghost use Rattle.text.specs.Wrote.{Wrote};
 
 pub fn byte(out: &mut [u8], at: usize, b: u8) -> usize
@@ -32,6 +32,19 @@ fn digit(n: usize) -> u8
     ensures { λ r. ⌜ r ≡ 48 + n ⌝ }
 {
     48 + n as u8
+}
+
+// How many digits a number below 1,000 has.
+pub fn digits(n: usize) -> usize
+    ensures { λ r. ⌜ r ≡ length (numeral n) ⌝ }
+{
+    if n < 10 {
+        return 1;
+    }
+    if n < 100 {
+        return 2;
+    }
+    3
 }
 
 // A number below 1,000 in decimal digits, none of them a leading zero.
@@ -72,4 +85,33 @@ pub fn fields(out: &mut [u8], at: usize, cells: &[u8], n: usize) -> usize
         i += 1;
     }
     p
+}
+
+// A line of a word and one number.
+pub fn head(out: &mut [u8], at: usize, word: &[u8], n: usize) -> usize
+    requires { ⌜ (n < 1000) × (at + length (line (now word) (n ∷ [])) ≤ length (now out)) ⌝ }
+    ensures { λ r. ⌜ Wrote (now (out .entry)) at (line (now (word .entry)) (n ∷ [])) (now (out .exit)) r ⌝ }
+{
+    let p = self::word(out, at, word);
+    let q = field(out, p, n);
+    byte(out, q, 10)
+}
+
+// A word and two fields, as a line begins.
+pub fn pair(out: &mut [u8], at: usize, word: &[u8], a: usize, b: usize) -> usize
+    requires { ⌜ (a < 1000) × (b < 1000) × (at + length (now word ++ fields (a ∷ b ∷ [])) ≤ length (now out)) ⌝ }
+    ensures { λ r. ⌜ Wrote (now (out .entry)) at (now (word .entry) ++ fields (a ∷ b ∷ [])) (now (out .exit)) r ⌝ }
+{
+    let p = self::word(out, at, word);
+    let q = field(out, p, a);
+    field(out, q, b)
+}
+
+// A line of a word and two numbers.
+pub fn pair_line(out: &mut [u8], at: usize, word: &[u8], a: usize, b: usize) -> usize
+    requires { ⌜ (a < 1000) × (b < 1000) × (at + length (line (now word) (a ∷ b ∷ [])) ≤ length (now out)) ⌝ }
+    ensures { λ r. ⌜ Wrote (now (out .entry)) at (line (now (word .entry)) (a ∷ b ∷ [])) (now (out .exit)) r ⌝ }
+{
+    let p = pair(out, at, word, a, b);
+    byte(out, p, 10)
 }

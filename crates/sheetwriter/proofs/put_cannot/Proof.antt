@@ -7,12 +7,13 @@ use mathlib.Core.Path.{_∙_, _≡_, refl}
 use native.Mathlib.Omega.{arith}
 use Rattle.job.proofs.UpTo.{up-count, up-suc}
 use Rattle.job.proofs.Arrays.{calls-count}
-use Rattle.model.specs.Text.{chokeWord}
+use Rattle.model.specs.Text.{cannotWord, chokeWord}
 use Rattle.model.specs.SheetText.{chokeNumbers, linesText}
-use Rattle.sheetwriter.proofs.Laws.{chokes-room, wrote-lines}
+use Rattle.sheetwriter.proofs.Laws.{chokes-room}
 use Rattle.job.specs.Arrays.{jobOf}
 use lib.ListN.{length}
-use Rattle.text.proofs.Wrote.{line-room, wrote-more, wrote-none}
+use Rattle.model.proofs.Room.{line-room}
+use Rattle.text.proofs.Wrote.{wrote-lines, wrote-more, wrote-none}
 use denote.Ref.{now}
 use Rattle.model.specs.Choke.{point}
 use Rattle.job.specs.Held.{pointAt, pointsOf}
@@ -23,19 +24,31 @@ mod Places
 use Places.*
 
 abbrev Inv-loop : tie.InvT-loop
-Inv-loop cells steps n out₀ p₀ k₀ out p k =
+Inv-loop cells steps n out₀ p₀ k₀ word out p k =
     (k ≤ n) × (p + 14 * (n - k) ≤ length out) × (length out ≡ length out₀) × Wrote out₀ p₀ (linesText chokeWord chokeNumbers (pointsOf cells steps k)) out p
 
 abbrev μ-loop : tie.MeasureT-loop
-μ-loop cells steps n out₀ p₀ k₀ out p k = n - k
+μ-loop cells steps n out₀ p₀ k₀ word out p k = n - k
+
+head-requires : tie.Need-head-requires Inv-loop μ-loop
+head-requires c κs =
+    let s = head-arg2→start c in
+    (omega arith, omega (arith, line-room cannotWord (s .args .n ∷ [])))
 
 loop-holds : tie.Need-loop-holds Inv-loop μ-loop
 loop-holds c =
     let s = slice-known2→start c in
     let j = s .args .job in
     let n : s .args .n < length (jobOf j .calls) = omega (arith, calls-count j) in
-    let w = slice-known2→put-head c .put-head .ensures in
-    (search needs, omega (arith, chokes-room (jobOf j) (s .pre .0) (s .args .n) n, w .1), refl, wrote-none (omega (arith, w .0 .next, w .0 .fits)))
+    let w = slice-known2→head c .head .ensures in
+    let r = line-room cannotWord (s .args .n ∷ []) in
+    (search needs, omega (arith, chokes-room (jobOf j) (s .pre .0) (s .args .n) n, r, w .next), refl, wrote-none (omega (arith, w .next, w .fits)))
+
+pair-line-requires : tie.Need-pair-line-requires Inv-loop μ-loop
+pair-line-requires c κs =
+    let a = wide2→wide c .wide in
+    let b = c .wide2 in
+    (omega arith, omega arith, omega (arith, line-room chokeWord (a .result ∷ b .result ∷ [])))
 
 loop-again : tie.Need-loop-again Inv-loop μ-loop
 loop-again c =
@@ -43,7 +56,7 @@ loop-again c =
     let l = slice-known3→loop c .loop in
     let a = slice-known3→wide c .wide in
     let b = slice-known3→wide2 c .wide2 in
-    let w = slice-known3→put-choke c .put-choke in (
+    let w = slice-known3→pair-line c .pair-line in (
       omega arith,
       omega (arith, w .ensures .next, line-room chokeWord (a .result ∷ b .result ∷ [])),
       w .kept .0 ∙ l .inv .2,
@@ -56,11 +69,11 @@ returns c =
     let s = after-loop→start c .args in
     let l = c .before .loop in
     let e : l .k ≡ s .n = omega arith in
-    rw (up-count (pointAt (now (s .cells)) (now (s .steps))) (s .n)) (wrote-more (after-loop→put-head c .put-head .ensures .0) (rw e at (l .inv .3)))
+    rw (up-count (pointAt (now (s .cells)) (now (s .steps))) (s .n)) (wrote-more (after-loop→head c .head .ensures) (rw e at (l .inv .3)))
 
 pub put-cannot-spec : {M : Type 1} → statement M
 put-cannot-spec =
     tie.close
     (tie.spec
-    Inv-loop μ-loop (λ c. search needs) (λ c κs. search needs) loop-holds (λ c. search needs) (λ c κs. search needs) (λ c. search needs) (λ c κs. search needs)
-    (λ c κs. search needs) (λ c. search needs) (λ c. search needs) loop-again (λ c. search needs) returns)
+    Inv-loop μ-loop (λ c. search needs) head-requires loop-holds (λ c. search needs) (λ c. search needs) (λ c κs. search needs) (λ c. search needs) (λ c κs. search needs)
+    pair-line-requires (λ c. search needs) (λ c. search needs) loop-again (λ c. search needs) returns)

@@ -9,11 +9,13 @@ use native.Mathlib.Omega.{arith}
 use Rattle.job.proofs.Arrays.{calls-count}
 use Rattle.job.specs.Arrays.{jobOf}
 use lib.ListN.{length}
-use Rattle.text.proofs.Wrote.{wrote-none, wrote-more}
+use mathlib.Core.List.{[], _∷_}
+use Rattle.model.proofs.Room.{line-room}
+use Rattle.text.proofs.Wrote.{wrote-lines, wrote-more, wrote-none}
 use Rattle.model.specs.SheetText.{linesText, pathNumbers}
-use Rattle.model.specs.Text.{pathWord}
+use Rattle.model.specs.Text.{pathWord, planWord}
 use Rattle.job.proofs.UpTo.{up-count}
-use Rattle.sheetwriter.proofs.Laws.{paths-room, share, part-short, wrote-path, path-room, room-one, room-rest, wrote-lines}
+use Rattle.sheetwriter.proofs.Laws.{paths-room, share, part-short, wrote-path, path-room, room-one, room-rest}
 use Rattle.job.specs.Held.{pathsTo, pathAt}
 use borrow.Author.Needs.{needs}
 use Rattle.sheetwriter.proofs.put_plan.Statement.{statement}
@@ -32,15 +34,20 @@ abbrev μ-loop : tie.MeasureT-loop
 counted : (c : tie.Start Inv-loop μ-loop) → length (jobOf (c .args .job) .calls) ≡ c .args .job .calls
 counted c = calls-count (c .args .job)
 
+head-requires : tie.Need-head-requires Inv-loop μ-loop
+head-requires c κs =
+    let s = head-arg2→start c in
+    (omega arith, omega (arith, line-room planWord (s .args .job .calls ∷ [])))
+
 loop-holds : tie.Need-loop-holds Inv-loop μ-loop
 loop-holds c =
     let s = slice-known2→start c in
     let j = s .args .job in
-    let w = slice-known2→put-head c .put-head in (
+    let w = slice-known2→head c .head in (
       search needs,
-      paths-room (jobOf j) (s .pre .0) (j .calls) (counted s) (w .result) (length (w .last .0)) (omega (arith, w .ensures .1)) (omega arith),
+      paths-room (jobOf j) (s .pre .0) (j .calls) (counted s) (w .result) (length (w .last .0)) (omega (arith, w .ensures .next, line-room planWord (j .calls ∷ []))) (omega arith),
       refl,
-      wrote-none (omega (arith, w .ensures .0 .next, w .ensures .0 .fits)),
+      wrote-none (omega (arith, w .ensures .next, w .ensures .fits)),
     )
 
 loop-again : tie.Need-loop-again Inv-loop μ-loop
@@ -90,12 +97,12 @@ returns c =
     let a = s .args in
     let l = c .before .before .loop in
     let e : l .k ≡ a .job .calls = omega arith in
-    rw (counted s, up-count (pathAt (now (a .carts)) (now (a .calls)) (now (a .lasts)) (now (a .rows))) (a .job .calls)) (wrote-more (else1→put-head c .put-head .ensures .0) (rw e at (l .inv .3)))
+    rw (counted s, up-count (pathAt (now (a .carts)) (now (a .calls)) (now (a .lasts)) (now (a .rows))) (a .job .calls)) (wrote-more (else1→head c .head .ensures) (rw e at (l .inv .3)))
 
 pub put-plan-spec : {M : Type 1} → statement M
 put-plan-spec =
     tie.close
     (tie.spec
-    Inv-loop μ-loop (λ c. search needs) (λ c κs. search needs) loop-holds (λ c. search needs) (λ c. search needs) (λ c κs. search needs) (λ c. search needs) (λ c. search needs)
+    Inv-loop μ-loop (λ c. search needs) head-requires loop-holds (λ c. search needs) (λ c. search needs) (λ c κs. search needs) (λ c. search needs) (λ c. search needs)
     (λ c. search needs) (λ c κs. search needs) (λ c. search needs) (λ c κs. search needs) (λ c. search needs) (λ c. search needs) (λ c. search needs) put-path-requires
     (λ c. search needs) (λ c. search needs) loop-again (λ c. search needs) returns)

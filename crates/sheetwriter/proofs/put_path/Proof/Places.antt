@@ -1,24 +1,27 @@
 -- The earlier places that the proof of `put_path` names: `x→y c` is what is known at y, seen from the place x.
 -- Made of the code by proof-names, which reads the lists below when the code has changed.
 -- All places in the code's order, each behind the one in front of it; where it is behind another, `X<Y` names that:
--- Start After-slice-known After-shared-slice-known After-put-pair-arg After-put-pair-arg2 After-put-pair After-out After-slice-known2 After-fields-arg After-fields After-out2
+-- Start After-slice-known After-shared-slice-known After-pair-arg After-pair-arg2 After-pair After-out After-slice-known2 After-fields-arg After-fields After-out2
 -- After-slice-known3 After-byte-arg After-byte After-out3 After-slice-known4
 -- The needs, each with its place:
--- slice-aggregate-put-pair@After-put-pair-arg2 put-pair-requires@After-put-pair-arg2 fields-requires@After-fields-arg byte-requires@After-byte-arg same-length@After-slice-known4
+-- slice-aggregate-pair@After-pair-arg2 pair-requires@After-pair-arg2 fields-requires@After-fields-arg byte-requires@After-byte-arg same-length@After-slice-known4
 -- returns@After-slice-known4
 use Rattle.sheetwriter.proofs.put_path.Tie as tie
 
-abbrev pub fields-arg→put-pair : tie.After-fields-arg → tie.After-put-pair
-fields-arg→put-pair c = c .before .before .before
+abbrev pub pair-arg2→start : tie.After-pair-arg2 → tie.Start
+pair-arg2→start c = c .before .before .before .before
+
+abbrev pub fields-arg→pair : tie.After-fields-arg → tie.After-pair
+fields-arg→pair c = c .before .before .before
 
 abbrev pub fields-arg→start : tie.After-fields-arg → tie.Start
-fields-arg→start c = fields-arg→put-pair c .before .before .before .before .before
+fields-arg→start c = pair-arg2→start (c .before .before .before .before)
 
 abbrev pub byte-arg→fields : tie.After-byte-arg → tie.After-fields
 byte-arg→fields c = c .before .before .before
 
-abbrev pub byte-arg→put-pair : tie.After-byte-arg → tie.After-put-pair
-byte-arg→put-pair c = byte-arg→fields c .before .before .before .before
+abbrev pub byte-arg→pair : tie.After-byte-arg → tie.After-pair
+byte-arg→pair c = byte-arg→fields c .before .before .before .before
 
 abbrev pub byte-arg→start : tie.After-byte-arg → tie.Start
 byte-arg→start c = fields-arg→start (c .before .before .before .before)
@@ -29,8 +32,8 @@ slice-known4→byte c = c .before .before
 abbrev pub slice-known4→fields : tie.After-slice-known4 → tie.After-fields
 slice-known4→fields c = byte-arg→fields (c .before .before .before)
 
-abbrev pub slice-known4→put-pair : tie.After-slice-known4 → tie.After-put-pair
-slice-known4→put-pair c = byte-arg→put-pair (c .before .before .before)
+abbrev pub slice-known4→pair : tie.After-slice-known4 → tie.After-pair
+slice-known4→pair c = byte-arg→pair (c .before .before .before)
 
 abbrev pub slice-known4→start : tie.After-slice-known4 → tie.Start
 slice-known4→start c = byte-arg→start (c .before .before .before)

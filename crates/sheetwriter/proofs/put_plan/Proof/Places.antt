@@ -1,11 +1,11 @@
 -- The earlier places that the proof of `put_plan` names: `x→y c` is what is known at y, seen from the place x.
 -- Made of the code by proof-names, which reads the lists below when the code has changed.
 -- All places in the code's order, each behind the one in front of it; where it is behind another, `X<Y` names that:
--- Start After-shared-slice-known After-shared-slice-known2 After-shared-slice-known3 After-shared-slice-known4 After-slice-known After-put-head-arg After-put-head-arg2
--- After-put-head After-out After-slice-known2 At-loop After-struct-known Then1 Else1<After-struct-known After-shared-slice-known5<Then1 After-wide After-put-path-arg
--- After-shared-slice-known6 After-wide2 After-shared-slice-known7 After-wide3 After-put-path-arg2 After-put-path After-out2 After-slice-known3
+-- Start After-shared-slice-known After-shared-slice-known2 After-shared-slice-known3 After-shared-slice-known4 After-slice-known After-head-arg After-head-arg2 After-head
+-- After-out After-slice-known2 At-loop After-struct-known Then1 Else1<After-struct-known After-shared-slice-known5<Then1 After-wide After-put-path-arg After-shared-slice-known6
+-- After-wide2 After-shared-slice-known7 After-wide3 After-put-path-arg2 After-put-path After-out2 After-slice-known3
 -- The needs, each with its place:
--- slice-aggregate-put-head@After-put-head-arg2 put-head-requires@After-put-head-arg2 loop-holds@After-slice-known2 mul-a@Then1 shared-slice-read-wide@After-shared-slice-known5
+-- slice-aggregate-head@After-head-arg2 head-requires@After-head-arg2 loop-holds@After-slice-known2 mul-a@Then1 shared-slice-read-wide@After-shared-slice-known5
 -- wide-requires@After-shared-slice-known5 add-e@After-wide add-e-2@After-wide shared-slice-read-wide-2@After-shared-slice-known6 wide-requires-2@After-shared-slice-known6
 -- shared-slice-read-wide-3@After-shared-slice-known7 wide-requires-3@After-shared-slice-known7 sub-put-path@After-wide3 part-put-path-start@After-wide3
 -- part-put-path-end@After-wide3 put-path-requires@After-put-path-arg2 add-k@After-slice-known3 loop-less@After-slice-known3 loop-again@After-slice-known3 same-length@Else1
@@ -13,14 +13,17 @@
 use Rattle.sheetwriter.proofs.put_plan.Tie as tie
 
 module _ {Inv : tie.InvT-loop} {μ : tie.MeasureT-loop} where
-  abbrev pub slice-known2→put-head : tie.After-slice-known2 Inv μ → tie.After-put-head Inv μ
-  slice-known2→put-head c = c .before .before
+  abbrev pub head-arg2→start : tie.After-head-arg2 Inv μ → tie.Start Inv μ
+  head-arg2→start c = c .before .before .before .before .before .before .before
+
+  abbrev pub slice-known2→head : tie.After-slice-known2 Inv μ → tie.After-head Inv μ
+  slice-known2→head c = c .before .before
 
   abbrev pub slice-known2→start : tie.After-slice-known2 Inv μ → tie.Start Inv μ
-  slice-known2→start c = slice-known2→put-head c .before .before .before .before .before .before .before .before
+  slice-known2→start c = head-arg2→start (c .before .before .before)
 
-  abbrev pub else1→put-head : tie.Else1 Inv μ → tie.After-put-head Inv μ
-  else1→put-head c = slice-known2→put-head (c .before .before .before)
+  abbrev pub else1→head : tie.Else1 Inv μ → tie.After-head Inv μ
+  else1→head c = slice-known2→head (c .before .before .before)
 
   abbrev pub else1→start : tie.Else1 Inv μ → tie.Start Inv μ
   else1→start c = slice-known2→start (c .before .before .before)

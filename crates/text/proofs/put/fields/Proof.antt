@@ -5,7 +5,8 @@ use Prim.Native.Nat.{_*_, _+_, _-_, _<_, _≤_}
 use mathlib.Core.Path.{_∙_, _≡_, refl}
 use native.Mathlib.Omega.{arith}
 use Rattle.model.specs.Text.{fields}
-use Rattle.text.proofs.Wrote.{fields-suc, numeral-short, wrote-more, wrote-none}
+use Rattle.model.proofs.Room.{numeral-short}
+use Rattle.text.proofs.Wrote.{fields-suc, wrote-more, wrote-none}
 use lib.ListN.{length, take}
 use borrow.Author.Needs.{needs}
 use denote.Ref.{now}
