@@ -1,2 +1,3 @@
 pub mod Verdicts
+pub mod MapVerdicts
 pub mod Rule3

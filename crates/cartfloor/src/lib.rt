@@ -1,4 +1,5 @@
-// The calls that the controller makes, and what they share.
+// The calls that the controller makes, and what planner and check share.
 pub mod check;
+pub mod map;
 pub mod plan;
 pub mod refuse;

@@ -8,21 +8,13 @@ use model::answer::number;
 // The length of the store and of the sheet's buffer.
 const LENT: usize = 65536;
 
-fn refuse(number: u64, line: u64) {
-    io::write_all(STDOUT_FILENO, b"REFUSED\t");
-    io::print_decimal(STDOUT_FILENO, number);
-    io::write_all(STDOUT_FILENO, b"\t");
-    io::print_decimal(STDOUT_FILENO, line);
-    io::write_all(STDOUT_FILENO, b"\n");
-}
-
 fn plan(text: &[u8]) {
     let mut store = [0u8; LENT];
     let mut sheet = [0u8; LENT];
     let r = cartfloor::plan::cartfloor_plan(text, &mut store, &mut sheet);
     let value = r / 256;
     if number(Answer::Cannot) < r % 256 {
-        refuse(r % 256, value);
+        report::refused(r % 256, value);
         return;
     }
     // A sheet is never longer than its buffer.
