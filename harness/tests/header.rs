@@ -120,12 +120,15 @@ const LINES: &[(&str, &str)] = &[
     ("Answers", "number SheetTooShort = 10"),
     ("Answers", "number BadSheet = 11"),
     ("Answers", "number WrongSheet = 12"),
+    ("Answers", "number BadMap = 13"),
+    ("Answers", "number NoFloor = 14"),
     ("Limits", "maxCells = 256"),
     ("Limits", "maxTracks = 512"),
     ("Limits", "maxCarts = 64"),
     ("Limits", "maxCalls = 64"),
     // A deadline is below this.
     ("Limits", "maxSteps = 256"),
+    ("Limits", "maxSide = 64"),
     ("Limits", "maxText = 16384"),
     ("Job", "storeLeast j = (horizon j + 1) * 32 * (j .cells + 2 * length (j .tracks)) + 4096"),
     ("Job", "sheetLeast j = length (j .carts) * (4 * (horizon j + 1) + 16) + 64"),
@@ -145,8 +148,22 @@ const LINES: &[(&str, &str)] = &[
     ("Contracts", "Judged j (bad l) r = r ≡ number answer.BadSheet + 256 * l"),
     ("Contracts", JUDGED_PLAN),
     ("Contracts", JUDGED_CANNOT),
+    ("Contracts", "textAnswer (refused a l) = number a + 256 * l"),
+    ("Contracts", "textAnswer (accepted b) = 256 * length b"),
+    ("GridMap", "isCell b = member b (bytes \".G\")"),
+    ("GridMap", "isWall b = member b (bytes \"@OT\")"),
+    ("GridMap", "lineDue bad (wordLine (bytes \"type octile\")) 1 (linesOf s) (λ _ ls₁."),
+    ("GridMap", "lineDue bad (sizeLine (bytes \"height \")) 2 ls₁ (λ h ls₂."),
+    ("GridMap", "lineDue bad (sizeLine (bytes \"width \")) 3 ls₂ (λ w ls₃."),
+    ("GridMap", "lineDue bad (wordLine (bytes \"map\")) 4 ls₃ (λ _ ls₄."),
+    ("GridMap", "restSays bad (rowLine w) drawn [] h 5 ls₄))))"),
+    ("GridMap", "tracksAt m r c = cond (cellAt m r c) (trackTo m r c r (suc c) ++ trackTo m r c (suc r) c) []"),
+    ("GridMap", "floorText room (bad l) = refused BadMap l"),
+    ("GridMap", "floorText room (drawn m) = cond (ltb 0 (mapCells m) && leb (mapCells m) maxCells)"),
+    ("GridMap", FLOOR_FITS),
 ];
 
+const FLOOR_FITS: &str = "(cond (leb (length (mapText m)) room) (accepted (mapText m)) (refused SheetTooShort 0))";
 const FIELDS_SAY: &str = "fieldsSay j k fs = \
     cond (mayFollow j k && eqb (length fs) (fieldCount k)) (numbersSay j k (numbersOf fs)) (wrong BadLine)";
 const NUMBERS_SAY: &str = "cond (inRange j k a b) \

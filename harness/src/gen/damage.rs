@@ -13,19 +13,27 @@ const FIELDS: [Damage; 5] = [other_number, leading_zero, lost_field, added_field
 /// A text with one damage, now and then with more. A changed number comes most often, since it mostly leaves the form
 /// whole and so gets furthest. It can be the same text: a number changed into itself, a line swapped with itself.
 pub fn damaged(text: &[u8], rng: &mut Rng) -> Vec<u8> {
-    let kinds: [&[Damage]; 4] = [&BYTES, &LINES, &FIELDS, &[other_number]];
-    let kind = rng.pick(&kinds);
-    let once = rng.pick(kind)(text, rng);
-    if rng.once_in(4) {
-        return damaged(&once, rng);
-    }
-    once
+    damaged_by(&[&BYTES, &LINES, &FIELDS, &[other_number]], text, rng)
 }
 
 /// A damaged text that is not the same.
 pub fn changed(text: &[u8], rng: &mut Rng) -> Vec<u8> {
+    changed_by(damaged, text, rng)
+}
+
+/// A text with a damage of one of the kinds, now and then with more.
+pub(super) fn damaged_by(kinds: &[&[Damage]], text: &[u8], rng: &mut Rng) -> Vec<u8> {
+    let kind = rng.pick(kinds);
+    let once = rng.pick(kind)(text, rng);
+    if rng.once_in(4) {
+        return damaged_by(kinds, &once, rng);
+    }
+    once
+}
+
+pub(super) fn changed_by(damage: Damage, text: &[u8], rng: &mut Rng) -> Vec<u8> {
     loop {
-        let other = damaged(text, rng);
+        let other = damage(text, rng);
         if other != text {
             return other;
         }
@@ -33,15 +41,18 @@ pub fn changed(text: &[u8], rng: &mut Rng) -> Vec<u8> {
 }
 
 /// Bytes that could stand in a text, and some that could not.
-fn any_byte(rng: &mut Rng) -> u8 {
-    *rng.pick(b"\t\t\n\n00123456789ABCFHKLNOPRTY \r-+x\0\xff")
-}
+const ANY: &[u8] = b"\t\t\n\n00123456789ABCFHKLNOPRTY \r-+x\0\xff";
 
 fn changed_byte(text: &[u8], rng: &mut Rng) -> Vec<u8> {
+    with_other_byte(ANY, text, rng)
+}
+
+/// One byte changed, into one of these or by a bit.
+pub(super) fn with_other_byte(bytes: &[u8], text: &[u8], rng: &mut Rng) -> Vec<u8> {
     let mut text = text.to_vec();
     if !text.is_empty() {
         let at = rng.below(text.len());
-        text[at] = if rng.once_in(2) { any_byte(rng) } else { text[at] ^ (1 << rng.below(8)) };
+        text[at] = if rng.once_in(2) { *rng.pick(bytes) } else { text[at] ^ (1 << rng.below(8)) };
     }
     text
 }
@@ -55,8 +66,13 @@ pub(super) fn lost_byte(text: &[u8], rng: &mut Rng) -> Vec<u8> {
 }
 
 fn added_byte(text: &[u8], rng: &mut Rng) -> Vec<u8> {
+    with_byte_more(ANY, text, rng)
+}
+
+/// One of these bytes more.
+pub(super) fn with_byte_more(bytes: &[u8], text: &[u8], rng: &mut Rng) -> Vec<u8> {
     let mut text = text.to_vec();
-    text.insert(rng.below(text.len() + 1), any_byte(rng));
+    text.insert(rng.below(text.len() + 1), *rng.pick(bytes));
     text
 }
 
@@ -67,7 +83,7 @@ pub(super) fn cut_off(text: &[u8], rng: &mut Rng) -> Vec<u8> {
 }
 
 fn trailing(text: &[u8], rng: &mut Rng) -> Vec<u8> {
-    let more: Vec<u8> = (0..=rng.below(3)).map(|_| any_byte(rng)).collect();
+    let more: Vec<u8> = (0..=rng.below(3)).map(|_| *rng.pick(ANY)).collect();
     [text, &more].concat()
 }
 

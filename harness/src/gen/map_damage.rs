@@ -1,6 +1,9 @@
 //! Damaged maps: bytes, lines, numbers and rows changed, lost or added.
 
-use super::damage::{cut_off, lines, lost_byte, lost_line, swapped_lines, Damage};
+use super::damage::{
+    changed_by, cut_off, damaged_by, lines, lost_byte, lost_line, swapped_lines, with_byte_more, with_other_byte,
+    Damage,
+};
 use super::maps::LETTERS;
 use super::Rng;
 use crate::model::lines::LF;
@@ -12,37 +15,19 @@ const ROWS: [Damage; 5] = [other_letter, strange_letter, other_width, one_row_mo
 
 /// A text with one damage, now and then with more. It can be the same text, and it can still be a map.
 fn damaged_map(text: &[u8], rng: &mut Rng) -> Vec<u8> {
-    let kinds: [&[Damage]; 4] = [&BYTES, &LINES, &NUMBERS, &ROWS];
-    let kind = rng.pick(&kinds);
-    let once = rng.pick(kind)(text, rng);
-    if rng.once_in(4) {
-        return damaged_map(&once, rng);
-    }
-    once
+    damaged_by(&[&BYTES, &LINES, &NUMBERS, &ROWS], text, rng)
 }
 
 /// A damaged map that is not the same.
 pub fn changed_map(text: &[u8], rng: &mut Rng) -> Vec<u8> {
-    loop {
-        let other = damaged_map(text, rng);
-        if other != text {
-            return other;
-        }
-    }
+    changed_by(damaged_map, text, rng)
 }
 
 /// Bytes that could stand in a map, and some that could not.
-fn any_byte(rng: &mut Rng) -> u8 {
-    *rng.pick(b"..GG@OT\n\n  \t\r0123456789hwtypemap+-#SW\0\xff")
-}
+const ANY: &[u8] = b"..GG@OT\n\n  \t\r0123456789hwtypemap+-#SW\0\xff";
 
 fn changed_byte(text: &[u8], rng: &mut Rng) -> Vec<u8> {
-    let mut text = text.to_vec();
-    if !text.is_empty() {
-        let at = rng.below(text.len());
-        text[at] = if rng.once_in(2) { any_byte(rng) } else { text[at] ^ (1 << rng.below(8)) };
-    }
-    text
+    with_other_byte(ANY, text, rng)
 }
 
 fn doubled_byte(text: &[u8], rng: &mut Rng) -> Vec<u8> {
@@ -55,9 +40,7 @@ fn doubled_byte(text: &[u8], rng: &mut Rng) -> Vec<u8> {
 }
 
 fn added_byte(text: &[u8], rng: &mut Rng) -> Vec<u8> {
-    let mut text = text.to_vec();
-    text.insert(rng.below(text.len() + 1), any_byte(rng));
-    text
+    with_byte_more(ANY, text, rng)
 }
 
 /// Something behind the last row: an empty line, a row more, a byte.
@@ -67,7 +50,7 @@ fn trailing(text: &[u8], rng: &mut Rng) -> Vec<u8> {
         0 => vec![LF],
         1 => last,
         2 => last[..last.len().saturating_sub(1)].to_vec(),
-        _ => vec![any_byte(rng)],
+        _ => vec![*rng.pick(ANY)],
     };
     [text, &more].concat()
 }
@@ -170,7 +153,7 @@ fn near_number(text: &[u8], rng: &mut Rng) -> Vec<u8> {
         2 => format!("0{was}"),
         3 => format!("+{was}"),
         4 => format!(" {was}"),
-        _ => format!("{was}{}", char::from(any_byte(rng) & 127)),
+        _ => format!("{was}{}", char::from(*rng.pick(ANY) & 127)),
     })
 }
 
