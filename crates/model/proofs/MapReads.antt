@@ -1,9 +1,9 @@
 -- The text that is written for a map reads as its job. Its tracks rise by their ends, and each leads from a lower cell to a higher one: so no two join the same cells, either way round, and
 -- every line passes the reader's tests. The counts pass as a cell has two tracks at most: 256 cells have 512, and lines of at most 14 bytes. Assumes nothing.
 use Prim.Native.Nat.{ℕ, suc, _+_, _*_, _≤_, _<_}
-use mathlib.Core.Path.{_≡_, refl, sym, ap, _∙_}
+use mathlib.Core.Path.{_≡_, refl, sym, ap, subst, _∙_}
 use mathlib.Core.List.{List, [], _∷_, _++_, map, append-assoc, append-nil}
-use mathlib.Core.Logic.{inl, inr}
+use mathlib.Core.Logic.{inl, inr, _↔_}
 use mathlib.Core.Bool.{Bool, true, false, cond, _&&_, _||_}
 use native.Mathlib.Omega.{arith}
 use lib.Dec.{eqb, ltb, leb}
@@ -14,11 +14,12 @@ use Rattle.model.specs.declared.answer.Answer.the-variants.{BadLine, She
 use Rattle.model.specs.Limits.{maxCells, maxTracks, maxText}
 use Rattle.model.specs.Lists.{In, Rising, Lex, eachBelow}
 use Rattle.model.specs.Job.{Job, Track, track}
+use Rattle.model.specs.Walk.{Arc}
 use Rattle.model.specs.Text.{linesOf, fieldsOf, numeral, fields, line, floorWord, trackWord, numbersOf}
 use Rattle.model.specs.SheetText.{linesText}
 use Rattle.model.specs.ReadJob.{Verdict, refused, accepted, Kind, floorLine, trackLine, noJob, leads, mayFollow, fieldCount, inRange, hasRoom, isNew, add, wrong, right}
 use Rattle.model.specs.ReadJob.{numbersSay, fieldsSay, lineSays, goOn, linesSay, readJob}
-use Rattle.model.specs.GridMap.{Drawn, bad, drawn, readMap, cellAt, mapCells, cellNumber, trackTo, tracksAt, tracksOf, trackNumbers, mapText, floorJob, floorText, mapVerdict}
+use Rattle.model.specs.GridMap.{Drawn, bad, drawn, readMap, cellAt, mapCells, cellNumber, trackTo, tracksAt, tracksOf, trackNumbers, mapText, floorJob, NextTo, floorText, mapVerdict}
 use Rattle.model.proofs.Basics.{nope, and-left, and-right, and-both}
 use Rattle.model.proofs.Lists.{in-left, in-right}
 use Rattle.model.proofs.Lex.{lex-on, lex-apart}
@@ -26,7 +27,7 @@ use Rattle.model.proofs.Rise.{rising-append, each-rising, rising-across
 use Rattle.model.proofs.Room.{line-room, lines-room}
 use Rattle.model.proofs.Written.{AllSmall, numeral-good, line-read, fields-first, fields-apart, numbers-read}
 use Rattle.model.proofs.Numbering.{number-rises, number-below, each-in, tracks-few}
-use Rattle.model.proofs.Neighbours.{RightOrBelow, Leaves, track-to, track-leaves, track-cells}
+use Rattle.model.proofs.Neighbours.{RightOrBelow, Leaves, track-to, track-leaves, track-cells, joined-next, next-joined}
 
 -- The order of the tracks.
 abbrev pub TrackBefore : Track → Track → Type 0
@@ -172,3 +173,21 @@ written (drawn m) room b e =
 
 pub written-reads : (s : List ℕ) (room : ℕ) (b : List ℕ) → mapVerdict s room ≡ accepted b → Writes (readMap s) room b
 written-reads s room b e = written (readMap s) room b e
+
+-- On the floor that the written lines say two cells of the map are joined exactly if they are next to each other.
+pub written-joined : (s : List ℕ) (room : ℕ) (b : List ℕ) (j : Job) → mapVerdict s room ≡ accepted b → readJob b ≡ accepted j
+    → (m : List (List ℕ)) × (readMap s ≡ drawn m)
+    × ((r c r′ c′ : ℕ) → cellAt m r c ≡ true → cellAt m r′ c′ ≡ true → Arc j (cellNumber m r c) (cellNumber m r′ c′) ↔ NextTo r c r′ c′)
+written-joined s room b j e f =
+    let (m, d, t, q, few, fits) = written-reads s room b e in
+    let g : floorJob m ≡ j = accepted-same (sym q ∙ f) in (
+      m,
+      d,
+      λ r c r′ c′ x y.
+          let u = cellNumber m r c in
+          let v = cellNumber m r′ c′ in
+          (λ a. joined-next m r c r′ c′ x y (subst (λ i. Arc i u v) (sym g) a), λ n. subst (λ i. Arc i u v) g (next-joined m r c r′ c′ x y n)),
+    )
+  where
+    accepted-same : {i k : Job} → accepted i ≡ accepted k → i ≡ k
+    accepted-same h = cc
