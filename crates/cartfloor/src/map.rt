@@ -9,16 +9,16 @@ use model::answer::Answer;
 use model::answer::packed;
 ghost use mathlib.Core.Path.{_≡_};
 ghost use mathlib.Core.List.{List};
-ghost use Prim.Native.Nat.{ℕ, _*_, _≤_, _<_};
+ghost use Prim.Native.Nat.{ℕ, _≤_, _<_};
 ghost use lib.ListN.{length, getD};
 ghost use Rattle.model.specs.Limits.{maxCells, maxSide};
 ghost use Rattle.model.specs.GridMap.{drawn, mapCells, floorText};
 ghost use Rattle.model.specs.Contracts.{TextGiven, Mapped};
-ghost use Rattle.gridmap.specs.CellPlaces.{CellsPlaced};
+ghost use Rattle.gridmap.specs.CellPlaces.{maxPlaces, CellsPlaced};
 
 // The floor with so many cells at these places, in rows of `width` letters.
 fn write_floor(places: &[usize], width: usize, cells: usize, text: &mut [u8]) -> u64
-    requires { ⌜ (length (now places) ≡ maxCells) × (width ≤ maxSide) × ((k : ℕ) → k < cells → k < maxCells → getD (now places) k 0 ≤ 64 * 65) ⌝ }
+    requires { ⌜ (length (now places) ≡ maxCells) × (width ≤ maxSide) × ((k : ℕ) → k < cells → k < maxCells → getD (now places) k 0 ≤ maxPlaces) ⌝ }
     ensures { λ r. ⌜ ((m : List (List ℕ)) → cells ≡ mapCells m → CellsPlaced m width (now (places .entry)) → TextGiven (floorText (length (now (text .entry))) (drawn m)) (now (text .entry)) (now (text .exit)) r) ⌝ }
 {
     if cells == 0 {

@@ -23,7 +23,7 @@ use Rattle.model.proofs.Decide.{dec-lt, dec-eq}
 use Rattle.model.proofs.Numbering.{rows-append, number-below, number-some}
 use Rattle.model.proofs.Neighbours.{column-inside, row-inside}
 use Rattle.gridmap.specs.Lines.{SaidAt, UnsaidAt}
-use Rattle.gridmap.specs.CellPlaces.{CellsPlaced}
+use Rattle.gridmap.specs.CellPlaces.{maxPlaces, CellsPlaced}
 use Rattle.gridmap.specs.Drawing.{GoodRow, RowsOf}
 use Rattle.gridmap.proofs.Lines.{Ended, said, unsaid, rest-said, rest-unsaid, rest-over, rest-none}
 
@@ -156,7 +156,7 @@ module _ (s : List ℕ) (start h w : ℕ) where
     }
 
 -- A place that is noted is within the rows.
-pub near : {d : Drawn} {places : List ℕ} {w cells : ℕ} → RowsOf d places w cells → (k : ℕ) → k < cells → k < maxCells → getD places k 0 ≤ 64 * 65
+pub near : {d : Drawn} {places : List ℕ} {w cells : ℕ} → RowsOf d places w cells → (k : ℕ) → k < cells → k < maxCells → getD places k 0 ≤ maxPlaces
 near {d} {places} {w} {cells} h k i j =
     let (r, c, e, f) = number-some (h .rows) k (omega (arith, h .counts)) in
     let (inside, place) = h .placed r c e (omega arith) in

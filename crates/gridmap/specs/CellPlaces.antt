@@ -4,10 +4,14 @@ use mathlib.Core.Path.{_≡_}
 use mathlib.Core.List.{List, [], _∷_, _++_}
 use mathlib.Core.Bool.{Bool, true, cond}
 use lib.ListN.{length, getD}
-use Rattle.model.specs.Limits.{maxCells, maxTracks}
+use Rattle.model.specs.Limits.{maxCells, maxTracks, maxSide}
 use Rattle.model.specs.Job.{Track, track}
 use Rattle.model.specs.GridMap.{cellAt, mapCells, cellNumber, tracksOf}
 use Rattle.job.specs.Arrays.{upTo, trackAt}
+
+-- The places of the largest map: its letters, and a line feed behind each row.
+abbrev pub maxPlaces : ℕ
+maxPlaces = maxSide * (maxSide + 1)
 
 -- In rows of w letters, the cell in row r and column c stands at the place r * (w + 1) + c, noted under its number, if a floor can have that number.
 abbrev pub CellsPlaced : List (List ℕ) → ℕ → List ℕ → Type 0

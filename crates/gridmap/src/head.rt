@@ -1,4 +1,5 @@
 // The lines before the rows. Each byte is looked at only after those before it fit, so that no more of a map is read than its refusal needs.
+use model::Limits;
 use model::bytes::wide;
 use text::scan::Scan;
 use text::scan::opens_with;
@@ -61,7 +62,7 @@ fn size_at(map: &[u8], first: usize) -> Scan
         return Scan::Fault;
     }
     let value = (a - 48) * 10 + (b - 48);
-    if 64 < value {
+    if Limits::SIDE < value {
         return Scan::Fault;
     }
     let third = second + 1;

@@ -7,12 +7,13 @@ use model::Limits;
 use text::scan::Scan;
 ghost use mathlib.Core.Path.{_≡_};
 ghost use mathlib.Core.List.{[]};
-ghost use Prim.Native.Nat.{_*_, _≤_, _<_};
+ghost use Prim.Native.Nat.{_≤_, _<_};
 ghost use lib.ListN.{length, drop, set};
 ghost use Rattle.model.specs.Limits.{maxCells, maxSide};
 ghost use Rattle.model.specs.Text.{linesOf};
 ghost use Rattle.model.specs.FirstBad.{restSays};
 ghost use Rattle.model.specs.GridMap.{bad, drawn, rowLine, readMap};
+ghost use Rattle.gridmap.specs.CellPlaces.{maxPlaces};
 ghost use Rattle.gridmap.specs.Drawing.{Draws, RowRead};
 
 // The longest map: lines of 12, 10, 9 and 4 bytes, and the rows with their line feeds.
@@ -42,7 +43,7 @@ fn note_place(n: usize, place: usize, places: &mut [usize])
 
 // A row whose first letter stands at `first`, after so many cells. The place of each of its cells is noted under the cell's number.
 fn read_row(row: &[u8], first: usize, cells: usize, places: &mut [usize]) -> Row
-    requires { ⌜ (length (now row) ≤ maxSide) × (first ≤ 64 * 65) × (cells ≤ 64 * 64) × (length (now places) ≡ maxCells) ⌝ }
+    requires { ⌜ (length (now row) ≤ maxSide) × (first ≤ maxPlaces) × (cells ≤ maxPlaces) × (length (now places) ≡ maxCells) ⌝ }
     ensures { λ r. ⌜ RowRead (now (row .entry)) first cells (now (places .entry)) (now (places .exit)) r ⌝ }
 {
     let mut n = cells;

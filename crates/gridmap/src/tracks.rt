@@ -7,7 +7,7 @@ ghost use Prim.Native.Nat.{ℕ, _+_, _*_, _≤_, _<_};
 ghost use lib.Dec.{ltb, eqb};
 ghost use lib.ListN.{length, getD};
 ghost use Rattle.model.specs.Limits.{maxCells, maxTracks, maxSide};
-ghost use Rattle.gridmap.specs.CellPlaces.{PlaceReached, TracksNoted, TracksFound, trackIf};
+ghost use Rattle.gridmap.specs.CellPlaces.{maxPlaces, PlaceReached, TracksNoted, TracksFound, trackIf};
 
 // Whether cell k is one of the cells, and stands at the place.
 fn stands(places: &[usize], k: usize, cells: usize, place: usize) -> bool
@@ -74,7 +74,7 @@ pub fn find_tracks(
     from: &mut [u8],
     to: &mut [u8],
 ) -> usize
-    requires { ⌜ (length (now places) ≡ maxCells) × (cells ≤ maxCells) × (stride ≤ maxSide + 1) × ((k : ℕ) → k < cells → getD (now places) k 0 ≤ 64 * 65) × (length (now from) ≡ maxTracks) × (length (now to) ≡ maxTracks) ⌝ }
+    requires { ⌜ (length (now places) ≡ maxCells) × (cells ≤ maxCells) × (stride ≤ maxSide + 1) × ((k : ℕ) → k < cells → getD (now places) k 0 ≤ maxPlaces) × (length (now from) ≡ maxTracks) × (length (now to) ≡ maxTracks) ⌝ }
     ensures { λ r. ⌜ TracksFound (now (places .entry)) cells stride (now (from .exit)) (now (to .exit)) r ⌝ }
 {
     let mut k = 0;

@@ -8,7 +8,7 @@ use denote.Ref.{now}
 use lib.ListN.{length, take, drop, length-drop}
 use lib.Seq.{length-take-le}
 use borrow.Author.Needs.{needs}
-use Rattle.model.specs.Limits.{maxCells}
+use Rattle.model.specs.Limits.{maxCells, maxSide}
 use Rattle.model.specs.GridMap.{allLetters}
 use Rattle.gridmap.specs.Drawing.{GoodRow, RowRead}
 use Rattle.gridmap.proofs.LetterLaws.{count-most}
@@ -20,7 +20,7 @@ use Places.*
 
 abbrev Inv-loop : tie.InvT-loop
 Inv-loop map start height width places₀ r₀ p₀ cells₀ places r p cells =
-    (r ≤ height) × (p ≤ length map) × (start ≤ p) × (p ≤ start + 65 * r) × (cells ≤ 64 * r) × (length places ≡ maxCells) × RowsLeft map start height width p r cells places
+    (r ≤ height) × (p ≤ length map) × (start ≤ p) × (p ≤ start + (maxSide + 1) * r) × (cells ≤ maxSide * r) × (length places ≡ maxCells) × RowsLeft map start height width p r cells places
 
 abbrev μ-loop : tie.MeasureT-loop
 μ-loop map start height width places₀ r₀ p₀ cells₀ places r p cells = height - r
