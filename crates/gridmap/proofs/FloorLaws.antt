@@ -1,7 +1,7 @@
 -- How long a floor's lines are: those of one track more are longer by that track's line, so that those of fewer tracks are no longer than those of all.
 -- By induction over the number of tracks. Assumes nothing.
 use Prim.Native.Nat.{ℕ, zero, suc, _+_, _<_, _≤_}
-use mathlib.Core.Path.{_≡_, ap, _∙_}
+use mathlib.Core.Path.{_≡_}
 use mathlib.Core.List.{List, [], _∷_, append-nil}
 use native.Mathlib.Omega.{arith}
 use native.Mathlib.Numerals.{add-one}
@@ -12,29 +12,20 @@ use Rattle.model.specs.GridMap.{floorLines, trackNumbers}
 use Rattle.model.proofs.Decide.{dec-eq}
 use Rattle.job.specs.Arrays.{trackAt}
 use Rattle.job.proofs.UpTo.{up-suc}
-use Rattle.text.proofs.Wrote.{head-long, pair-line-long, lines-append}
+use Rattle.text.proofs.Wrote.{head-long, lines-append}
 use Rattle.gridmap.specs.CellPlaces.{tracksIn}
-
-pub floor-none : (cells : ℕ) → length (floorLines cells []) ≡ 7 + length (numeral cells)
-floor-none cells = ap length (append-nil (line floorWord (cells ∷ []))) ∙ head-long floorWord cells ∙ omega arith
 
 module _ (from to : List ℕ) where
   abbrev pub trackLines : ℕ → List ℕ
   trackLines t = linesText trackWord trackNumbers (tracksIn from to t)
 
-  lines-more : (t : ℕ) → length (trackLines (t + 1)) ≡ length (trackLines t) + length (line trackWord (getD from t 0 ∷ getD to t 0 ∷ []))
+  pub lines-more : (t : ℕ) → length (trackLines (t + 1)) ≡ length (trackLines t) + length (line trackWord (getD from t 0 ∷ getD to t 0 ∷ []))
   lines-more t =
       let l : List ℕ = line trackWord (getD from t 0 ∷ getD to t 0 ∷ []) in
       rw (up-suc (trackAt from to) t, lines-append trackWord trackNumbers (tracksIn from to t) (trackAt from to t ∷ []), append-nil l) (length-append (trackLines t) l)
 
-  -- n bytes of lines, and the line of the next track, whose numbers are a and b
-  pub floor-more : (cells t a b : ℕ) {n d e : ℕ} → n ≡ length (floorLines cells (tracksIn from to t)) → a ≡ getD from t 0 → b ≡ getD to t 0
-      → d ≡ length (numeral a) → e ≡ length (numeral b) → n + (8 + d + e) ≡ length (floorLines cells (tracksIn from to (t + 1)))
-  floor-more cells t a b {n} {d} {e} u v w x y =
-      let h : List ℕ = line floorWord (cells ∷ []) in
-      let z : length (trackLines (t + 1)) ≡ length (trackLines t) + length (line trackWord (a ∷ b ∷ [])) = rw (v, w) (lines-more t) in
-      let o : n ≡ length h + length (trackLines t) = u ∙ length-append h (trackLines t) in
-      rw (length-append h (trackLines (t + 1))) (omega (arith, o, z, pair-line-long trackWord a b, x, y))
+  pub floor-long : (cells t : ℕ) → length (floorLines cells (tracksIn from to t)) ≡ 7 + length (numeral cells) + length (trackLines t)
+  floor-long cells t = rw (length-append (line floorWord (cells ∷ [])) (trackLines t)) (omega (arith, head-long floorWord cells))
 
   lines-grow : (t n : ℕ) → t ≤ n → length (trackLines t) ≤ length (trackLines n)
   lines-grow t zero h =

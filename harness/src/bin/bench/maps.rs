@@ -6,14 +6,15 @@ use harness::gen::maps::{corridor, scattered, Drawing};
 use harness::gen::Rng;
 use harness::model::answer::unpack;
 use harness::model::limits::{CELLS, SIDE};
+use harness::model::map::text_of;
 
 use crate::before::Before;
 use crate::clock::timed;
 
-/// A family of maps, which are gone through in turn, and the text buffer for them.
+/// A family of maps, which are gone through in turn, and the text buffer for them, given their longest text.
 struct Family {
     name: &'static str,
-    text_len: usize,
+    text_len: fn(usize) -> usize,
     make: fn(&mut Rng) -> Drawing,
 }
 
@@ -32,7 +33,8 @@ pub struct Figures {
 const MAPS: usize = 8;
 /// What is shorter is timed several times at once.
 const SHORTEST: f64 = 200.0;
-const ENOUGH: usize = cartfloor::FLOOR_MOST;
+/// What a caller lends who does not know the map.
+const ENOUGH: fn(usize) -> usize = |_| cartfloor::FLOOR_MOST;
 
 const FAMILIES: [Family; 9] = [
     Family { name: "16 by 16, open", text_len: ENOUGH, make: |_| Drawing::of(b'.', 16, 16) },
@@ -43,7 +45,7 @@ const FAMILIES: [Family; 9] = [
     Family { name: "64 by 64, a letter in the last row", text_len: ENOUGH, make: bad_letter },
     Family { name: "64 by 64, 257 cells", text_len: ENOUGH, make: |r| scattered(SIDE, SIDE, CELLS + 1, r) },
     Family { name: "64 by 64, no cell", text_len: ENOUGH, make: |_| Drawing::of(b'@', SIDE, SIDE) },
-    Family { name: "16 by 16, a short buffer", text_len: 1024, make: |_| Drawing::of(b'.', 16, 16) },
+    Family { name: "16 by 16, a byte short", text_len: |longest| longest - 1, make: |_| Drawing::of(b'.', 16, 16) },
 ];
 
 pub fn measure(before: Option<Before>, rounds: usize) -> Vec<Figures> {
@@ -52,7 +54,8 @@ pub fn measure(before: Option<Before>, rounds: usize) -> Vec<Figures> {
 
 fn of_family(family: &Family, before: Option<Before>, rounds: usize) -> Figures {
     let maps: Vec<Vec<u8>> = (1..=MAPS as u64).map(|seed| (family.make)(&mut Rng::new(seed)).text()).collect();
-    let mut text = vec![1; family.text_len];
+    let longest = maps.iter().map(|map| text_of(map, usize::MAX).map_or(0, |text| text.len())).max().unwrap_or(0);
+    let mut text = vec![1; (family.text_len)(longest)];
     let expected: Vec<u64> = maps.iter().map(|map| cartfloor::map(map, &mut text)).collect();
     let former = before.filter(|b| b.map(&maps[0], &mut text).is_some());
     let mut all = |times: usize, call: &dyn Fn(&[u8], &mut [u8]) -> u64| {
