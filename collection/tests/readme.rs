@@ -1,4 +1,5 @@
-//! What the README shows of jobs, sheets, a map and `floors`. Tabs are shown there as spaces.
+//! What the README shows of jobs, sheets, a map and `floors`, and how much it says is to be believed. Tabs are shown there as
+//! spaces.
 
 mod kit;
 
@@ -129,4 +130,15 @@ fn from_a_drawing_to_a_plan() {
     shell.args(["-e", "-c", &script.join("\n")]).current_dir(&folder.0);
     let sheet = lines(&shown_behind("this is their only plan"));
     ran(shell, b"").expect(0, std::str::from_utf8(&sheet).expect("text"), "");
+}
+
+/// Lines of definitions, neither blank nor comments, rounded to tens.
+#[test]
+fn the_lines_to_be_believed() {
+    let specs = fs::read_dir(format!("{ROOT}/crates/model/specs")).expect("a folder");
+    let texts = specs.map(|file| fs::read_to_string(file.expect("a file").path()).expect("a text"));
+    let says = |line: &&str| !line.trim().is_empty() && !line.trim_start().starts_with("--");
+    let lines: usize = texts.map(|text| text.lines().filter(says).count()).sum();
+    let said = format!("`crates/model/specs/`, some {} lines,", (lines + 5) / 10 * 10);
+    assert!(readme().contains(&said), "{lines} lines");
 }
