@@ -17,12 +17,12 @@ pub const MOST: usize = 10 + 28 * Limits::CELLS;
 
 // How many bytes a TRACK line has.
 fn line_length(a: u8, b: u8) -> u16
-    ensures { λ r. ⌜ (r ≡ length (line trackWord (a ∷ b ∷ []))) × (r ≤ 14) ⌝ }
+    ensures { λ r. ⌜ r ≡ length (line trackWord (a ∷ b ∷ [])) ⌝ }
 {
     (8 + put::digits(wide(a)) + put::digits(wide(b))) as u16
 }
 
-// How many bytes the lines have. A sum of two bytes lets the processor count eight lines at once.
+// How many bytes the lines have. Their sum is held in 16 bits, so that the processor adds eight lines at once.
 pub fn lines_length(cells: usize, from: &[u8], to: &[u8], tracks: usize) -> usize
     requires { ⌜ (tracks ≤ maxTracks) × (tracks ≤ length (now from)) × (tracks ≤ length (now to)) ⌝ }
     ensures { λ r. ⌜ (r ≡ length (floorLines cells (tracksIn (now (from .entry)) (now (to .entry)) tracks))) × (r ≤ 10 + 14 * tracks) ⌝ }

@@ -12,7 +12,7 @@ mod Places
 use Places.*
 
 add-result : tie.Need-add-result
-add-result c = record { fits = omega (arith, numeral-short (digits→wide c .wide .result), c .digits .ensures) }
+add-result c = record { fits = omega (arith, numeral-short (digits→wide c .wide .result)) }
 
 add-result-2 : tie.Need-add-result-2
 add-result-2 c = record { fits = omega (arith, numeral-short (digits2→wide2 c .wide2 .result), numeral-short (digits2→wide c .wide .result)) }
@@ -27,7 +27,7 @@ returns c =
     let d = digits2→digits c .digits .ensures ∙ ap (λ n. length (numeral n)) (a .ensures .0) in
     let e = c .digits2 .ensures ∙ ap (λ n. length (numeral n)) (b .ensures .0) in
     let s = digits2→start c .args in
-    (omega (arith, d, e, pair-line-long trackWord (s .a) (s .b)), omega (arith, numeral-short (a .result), numeral-short (b .result)))
+    omega (arith, d, e, pair-line-long trackWord (s .a) (s .b))
 
 pub line-length-spec : {M : Type 1} → statement M
 line-length-spec =

@@ -2,10 +2,12 @@
 -- sum overflows. The measure is the number of tracks that are left. Assumes nothing.
 use Prim.Native.Nat.{_*_, _-_, _≤_}
 use mathlib.Core.Path.{_≡_, refl}
+use mathlib.Core.List.{[], _∷_}
 use native.Mathlib.Omega.{arith}
-use lib.ListN.{length}
+use lib.ListN.{length, getD}
 use denote.Ref.{now}
-use Rattle.model.proofs.Room.{numeral-short}
+use Rattle.model.specs.Text.{trackWord}
+use Rattle.model.proofs.Room.{numeral-short, line-room}
 use Rattle.gridmap.proofs.FloorLaws.{trackLines, lines-more, floor-long}
 use borrow.Author.Needs.{needs}
 use Rattle.gridmap.proofs.floor.lines_length.Statement.{statement}
@@ -22,12 +24,22 @@ abbrev μ-loop : tie.MeasureT-loop
 loop-holds : tie.Need-loop-holds Inv-loop μ-loop
 loop-holds c = (omega arith, omega arith, refl)
 
+-- a line has 14 bytes at most
+short : (c : tie.After-line-length Inv-loop μ-loop) → c .line-length .result ≤ 14
+short c =
+    let s = line-length→start c .args in
+    let t = line-length→loop c .loop .t in
+    omega (arith, c .line-length .ensures, line-room trackWord (getD (now (s .from)) t 0 ∷ getD (now (s .to)) t 0 ∷ []))
+
+add-n : tie.Need-add-n Inv-loop μ-loop
+add-n c = omega (arith, short c)
+
 loop-again : tie.Need-loop-again Inv-loop μ-loop
 loop-again c =
     let s = line-length→start c .args in
     let l = line-length→loop c .loop in
     let m = lines-more (now (s .from)) (now (s .to)) (l .t) in
-    (omega arith, omega arith, omega (arith, m, c .line-length .ensures .0))
+    (omega arith, omega (arith, short c), omega (arith, m, c .line-length .ensures))
 
 add-result : tie.Need-add-result Inv-loop μ-loop
 add-result c = record { fits = omega (arith, numeral-short (digits→start c .args .cells)) }
@@ -47,5 +59,5 @@ pub lines-length-spec : {M : Type 1} → statement M
 lines-length-spec =
     tie.close
     (tie.spec
-    Inv-loop μ-loop loop-holds (λ c. search needs) (λ c. search needs) (λ c κs. search needs) (λ c. search needs) (λ c. search needs) (λ c. search needs) loop-again
+    Inv-loop μ-loop loop-holds (λ c. search needs) (λ c. search needs) (λ c κs. search needs) add-n (λ c. search needs) (λ c. search needs) loop-again
     (λ c κs. search needs) add-result (λ c. search needs) add-result-2 returns)
