@@ -14,15 +14,28 @@ pub fn text(grid: &Grid, fault: MapFault) -> (usize, Vec<u8>) {
         tracks.sort_by_key(|&(place, other)| other - place == grid.width);
     }
     let cells = numbers.iter().flatten().count();
-    let mut text = format!("FLOOR\t{cells}\n");
+    let digits = |number: usize| digits(number, fault);
+    let mut text = format!("FLOOR\t{}\n", digits(cells));
     for (place, other) in tracks {
         let [mut a, mut b] = [place, other].map(|place| numbers[place].unwrap_or(0));
         if fault == MapFault::PutsHigherNumberFirst {
             (a, b) = (a.max(b), a.min(b));
         }
-        text += &format!("TRACK\t{a}\t{b}\n");
+        text += &format!("TRACK\t{}\t{}\n", digits(a), digits(b));
     }
     (cells, text.into_bytes())
+}
+
+/// A number, as a table of digits has it.
+fn digits(number: usize, fault: MapFault) -> String {
+    match fault {
+        MapFault::KeepsLeadingZeros => format!("{number:03}"),
+        MapFault::DropsInnerZeros if number > 99 => number.to_string().replace('0', ""),
+        MapFault::TurnsDigitsRound => number.to_string().chars().rev().collect(),
+        MapFault::HasWrongEntry if number == 207 => "208".into(),
+        MapFault::TakesEntryBehind if number > 99 => (number + 1).to_string(),
+        _ => number.to_string(),
+    }
 }
 
 /// By place, the number of the cell there.
