@@ -24,3 +24,4 @@ pub mod Room
 pub mod MapReads
 pub mod ByCell
 pub mod MapPrefix
+pub mod RefusedLine

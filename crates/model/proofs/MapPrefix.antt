@@ -111,7 +111,7 @@ size-small (some m) n e =
     let same : m ≡ n = cc in
     (g, omega (arith, leb-true m maxSide (and-right (ltb 0 m) (leb m maxSide) f)))
 
-size-short : (word l : List ℕ) (n : ℕ) → sizeLine word l ≡ some n → (length l ≤ length word + 2) × (n ≤ maxSide)
+pub size-short : (word l : List ℕ) (n : ℕ) → sizeLine word l ≡ some n → (length l ≤ length word + 2) × (n ≤ maxSide)
 size-short word l n e =
     let (f, g) = cond-some (startsWith word l) (sizeOf (numberOf (drop (length word) l))) n e in
     let (o, few) = size-small (numberOf (drop (length word) l)) n g in

@@ -55,7 +55,7 @@ fields-added j j′ k fs e =
     let h = cond-right (mayFollow j k && eqb (length fs) (fieldCount k)) (numbersSay j k (numbersOf fs)) _ j′ e in
     numbers-added j j′ k (numbersOf fs) (and-left (mayFollow j k) (eqb (length fs) (fieldCount k)) (h .0)) (h .1)
 
-line-added : (j j′ : Job) (l : List ℕ) → lineSays j l ≡ right j′ → RightLine j j′
+pub line-added : (j j′ : Job) (l : List ℕ) → lineSays j l ≡ right j′ → RightLine j j′
 line-added j j′ l e = go (opens floorWord l) (opens trackWord l) (opens cartWord l) (opens callWord l) (opens bayWord l) e
   where
     go : (t u v w x : Bool) → cond t (fieldsSay j floorLine (after floorWord l)) (cond u (fieldsSay j trackLine (after trackWord l))
@@ -213,6 +213,9 @@ module _ (j : Job) (f : Fit j) (a b : ℕ) where
     own-targets = rw map-append (nodup-snoc (map (λ q. q .cell) (j .calls)) a (f .own-targets) (member-in a (map (λ q. q .cell) (j .calls)) (not-true (member a (map (λ q. q .cell) (j .calls))) n)));
   }
 
+pub line-fit : {j j′ : Job} → Fit j → RightLine j j′ → Fit j′
+line-fit {j} f h = subst Fit (h .so) (add-fit j f (h .a) (h .b) (h .kind) (h .follows) (h .ranged) (h .room) (h .new))
+
 lines-ready : (j j′ : Job) (n : ℕ) (ls : Lines) → Fit j → linesSay j n ls ≡ accepted j′ → Ready j′
 lines-ready j j′ n done f e = go (eqb (j .cells) 0) refl (eqb (length (j .carts)) (length (j .calls))) refl e
   where
@@ -230,9 +233,7 @@ lines-ready j j′ n (more l ls) f e = go (lineSays j l) refl e (λ k. lines-rea
     go : (s : Said) → lineSays j l ≡ s → goOn s n (λ k. linesSay k (n + 1) ls) ≡ accepted j′
         → ((k : Job) → Fit k → linesSay k (n + 1) ls ≡ accepted j′ → Ready j′) → Ready j′
     go (wrong k) q e ih = nope (cc)
-    go (right k) q e ih =
-        let h = line-added j k l q in
-        ih k (subst Fit (h .so) (add-fit j f (h .a) (h .b) (h .kind) (h .follows) (h .ranged) (h .room) (h .new))) e
+    go (right k) q e ih = ih k (line-fit f (line-added j k l q)) e
 
 pub read-ready : (s : List ℕ) (j : Job) → readJob s ≡ accepted j → Ready j
 unfolding readJob
