@@ -1,6 +1,7 @@
 // A floor's FLOOR and TRACK lines, from its tracks in arrays.
 use model::Limits;
 use model::bytes::wide;
+use text::digits;
 use text::put;
 ghost use mathlib.Core.Path.{_≡_};
 ghost use mathlib.Core.List.{_∷_, []};
@@ -40,10 +41,11 @@ pub fn put_lines(cells: usize, from: &[u8], to: &[u8], tracks: usize, out: &mut 
     requires { ⌜ (cells < 1000) × (tracks ≤ length (now from)) × (tracks ≤ length (now to)) × (length (floorLines cells (tracksIn (now from) (now to) tracks)) ≤ length (now out)) ⌝ }
     ensures { λ r. ⌜ Wrote (now (out .entry)) 0 (floorLines cells (tracksIn (now (from .entry)) (now (to .entry)) tracks)) (now (out .exit)) r ⌝ }
 {
-    let mut p = put::head(out, 0, b"FLOOR", cells);
+    let table = digits::table();
+    let mut p = put::head(out, 0, b"FLOOR", cells, &table);
     let mut t = 0;
     while t < tracks {
-        p = put::pair_line(out, p, b"TRACK", wide(from[t]), wide(to[t]));
+        p = put::pair_line(out, p, b"TRACK", wide(from[t]), wide(to[t]), &table);
         t += 1;
     }
     p

@@ -23,26 +23,18 @@ fn find(s: &[u8], at: usize, b: u8) -> usize
     i
 }
 
-fn say(verdict: Verdict) {
-    match verdict {
-        Verdict::Accepted => {
-            io::write_all(STDOUT_FILENO, b"accepted");
-        }
-        Verdict::Refused { answer, line } => {
-            io::print_decimal(STDOUT_FILENO, number(answer));
-            io::write_all(STDOUT_FILENO, b"\t");
-            io::print_decimal(STDOUT_FILENO, line as u64);
-        }
-    }
-}
-
 fn example(label: &[u8], text: &[u8]) {
     io::write_all(STDOUT_FILENO, label);
-    io::write_all(STDOUT_FILENO, b"\t");
     let reading = reader::read::read(text);
     let verdict = reading.verdict;
-    say(verdict);
-    io::write_all(STDOUT_FILENO, b"\n");
+    match verdict {
+        Verdict::Accepted => {
+            io::write_all(STDOUT_FILENO, b"\taccepted\n");
+        }
+        Verdict::Refused { answer, line } => {
+            report::line(b"", number(answer), line as u64);
+        }
+    }
 }
 
 fn examples(s: &[u8])

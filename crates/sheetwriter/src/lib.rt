@@ -2,6 +2,8 @@
 use job::state::Job;
 use model::Limits;
 use model::bytes::wide;
+use text::digits;
+use text::digits::Table;
 use text::put;
 ghost use mathlib.Core.Path.{_≡_};
 ghost use mathlib.Core.List.{_∷_};
@@ -17,15 +19,23 @@ ghost use Rattle.model.specs.Ready.{Ready};
 ghost use Rattle.model.specs.ReadSheet.{knownPath};
 ghost use Rattle.model.specs.SheetText.{planText, cannotText};
 ghost use Rattle.job.specs.Arrays.{jobOf, Sized};
+ghost use Rattle.text.specs.DigitTable.{DigitTable};
 ghost use Rattle.text.specs.Wrote.{Wrote};
 ghost use Rattle.job.specs.Held.{Room, pathsTo, pointsOf};
 
-fn put_path(out: &mut [u8], at: usize, cart: usize, call: usize, cells: &[u8]) -> usize
-    requires { ⌜ (cart < 1000) × (call < 1000) × (at + 4 * length (now cells) + 13 ≤ length (now out)) ⌝ }
+fn put_path(
+    out: &mut [u8],
+    at: usize,
+    cart: usize,
+    call: usize,
+    cells: &[u8],
+    table: &Table,
+) -> usize
+    requires { ⌜ DigitTable (now table) × (cart < 1000) × (call < 1000) × (at + 4 * length (now cells) + 13 ≤ length (now out)) ⌝ }
     ensures { λ r. ⌜ Wrote (now (out .entry)) at (line pathWord (cart ∷ call ∷ now (cells .entry))) (now (out .exit)) r ⌝ }
 {
-    let p = put::pair(out, at, b"PATH", cart, call);
-    let q = put::fields(out, p, cells, cells.len());
+    let p = put::pair(out, at, b"PATH", cart, call, table);
+    let q = put::fields(out, p, cells, cells.len(), table);
     put::byte(out, q, 10)
 }
 
@@ -41,12 +51,13 @@ pub fn put_plan(
     requires { ⌜ Ready (jobOf job) × Sized job × Room (now carts) (now calls) (now lasts) (now rows) × ((p : Path) → In p (pathsTo (now carts) (now calls) (now lasts) (now rows) (length (jobOf job .calls))) → knownPath (jobOf job) p ≡ true) × (sheetLeast (jobOf job) ≤ length (now out)) ⌝ }
     ensures { λ r. ⌜ Wrote (now (out .entry)) 0 (planText (pathsTo (now (carts .entry)) (now (calls .entry)) (now (lasts .entry)) (now (rows .entry)) (length (jobOf job .calls)))) (now (out .exit)) r ⌝ }
 {
-    let mut p = put::head(out, 0, b"PLAN", job.calls);
+    let table = digits::table();
+    let mut p = put::head(out, 0, b"PLAN", job.calls, &table);
     let mut k = 0;
     while k < job.calls {
         let a = k * Limits::STEPS;
         let e = a + wide(lasts[k]) + 1;
-        p = put_path(out, p, wide(carts[k]), wide(calls[k]), &rows[a..e]);
+        p = put_path(out, p, wide(carts[k]), wide(calls[k]), &rows[a..e], &table);
         k += 1;
     }
     p
@@ -57,10 +68,11 @@ pub fn put_cannot(job: Job, cells: &[u8], steps: &[u8], n: usize, out: &mut [u8]
     requires { ⌜ Ready (jobOf job) × Sized job × (length (now cells) ≡ maxCalls) × (length (now steps) ≡ maxCalls) × (n < job .calls) × (sheetLeast (jobOf job) ≤ length (now out)) ⌝ }
     ensures { λ r. ⌜ Wrote (now (out .entry)) 0 (cannotText (pointsOf (now (cells .entry)) (now (steps .entry)) n)) (now (out .exit)) r ⌝ }
 {
-    let mut p = put::head(out, 0, b"CANNOT", n);
+    let table = digits::table();
+    let mut p = put::head(out, 0, b"CANNOT", n, &table);
     let mut k = 0;
     while k < n {
-        p = put::pair_line(out, p, b"CHOKE", wide(cells[k]), wide(steps[k]));
+        p = put::pair_line(out, p, b"CHOKE", wide(cells[k]), wide(steps[k]), &table);
         k += 1;
     }
     p

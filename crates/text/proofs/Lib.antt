@@ -3,3 +3,4 @@ pub mod Steps
 pub mod LineLaws
 pub mod Numbers
 pub mod Wrote
+pub mod Table

@@ -43,14 +43,9 @@ wrote-more {s} {at} {xs} {t} {p} {ys} {u} {r} w v =
 pub wrote-whole : {s bytes t : List ℕ} {r : ℕ} → Wrote s 0 bytes t r → t ≡ bytes ++ drop (length bytes) s
 wrote-whole w = simp zero-add at (w .text)
 
--- a numeral's two or three digits, as the code computes them
+-- a numeral's two digits
 pub numeral-2 : (n : ℕ) → 10 ≤ n → n < 100 → numeral n ≡ (48 + n / 10) ∷ (48 + n % 10) ∷ []
 numeral-2 n l h = simp (le-ltb _ _ l, lt-ltb _ _ h) (ap (λ (d : ℕ). (48 + d) ∷ (48 + n % 10) ∷ []) (omega arith))
-
-pub numeral-3 : (n : ℕ) → 100 ≤ n → n < 1000 → numeral n ≡ (48 + n / 100) ∷ (48 + n / 10 % 10) ∷ (48 + n % 10) ∷ []
-numeral-3 n l h =
-    let k : 10 ≤ n = omega arith in
-    simp (le-ltb _ _ k, le-ltb _ _ l) (ap (λ (d : ℕ). (48 + d) ∷ (48 + n / 10 % 10) ∷ (48 + n % 10) ∷ []) (omega arith))
 
 pub fields-append : (xs ys : List ℕ) → fields (xs ++ ys) ≡ fields xs ++ fields ys
 fields-append [] ys = refl

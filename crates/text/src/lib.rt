@@ -1,4 +1,5 @@
 // Lines, words and numbers: read from a text, and written into a buffer.
+pub mod digits;
 pub mod lines;
 pub mod put;
 pub mod scan;

@@ -24,16 +24,16 @@ mod Places
 use Places.*
 
 abbrev Inv-loop : tie.InvT-loop
-Inv-loop cells steps n out₀ p₀ k₀ word out p k =
+Inv-loop cells steps n out₀ table p₀ k₀ word out p k =
     (k ≤ n) × (p + 14 * (n - k) ≤ length out) × (length out ≡ length out₀) × Wrote out₀ p₀ (linesText chokeWord chokeNumbers (pointsOf cells steps k)) out p
 
 abbrev μ-loop : tie.MeasureT-loop
-μ-loop cells steps n out₀ p₀ k₀ word out p k = n - k
+μ-loop cells steps n out₀ table p₀ k₀ word out p k = n - k
 
 head-requires : tie.Need-head-requires Inv-loop μ-loop
 head-requires c κs =
-    let s = head-arg2→start c in
-    (omega arith, omega (arith, line-room cannotWord (s .args .n ∷ [])))
+    let s = table2→start c in
+    (table2→table c .table .ensures, omega arith, omega (arith, line-room cannotWord (s .args .n ∷ [])))
 
 loop-holds : tie.Need-loop-holds Inv-loop μ-loop
 loop-holds c =
@@ -46,9 +46,9 @@ loop-holds c =
 
 pair-line-requires : tie.Need-pair-line-requires Inv-loop μ-loop
 pair-line-requires c κs =
-    let a = wide2→wide c .wide in
-    let b = c .wide2 in
-    (omega arith, omega arith, omega (arith, line-room chokeWord (a .result ∷ b .result ∷ [])))
+    let a = table3→wide c .wide in
+    let b = table3→wide2 c .wide2 in
+    (table3→table c .table .ensures, omega arith, omega arith, omega (arith, line-room chokeWord (a .result ∷ b .result ∷ [])))
 
 loop-again : tie.Need-loop-again Inv-loop μ-loop
 loop-again c =
@@ -75,5 +75,5 @@ pub put-cannot-spec : {M : Type 1} → statement M
 put-cannot-spec =
     tie.close
     (tie.spec
-    Inv-loop μ-loop (λ c. search needs) head-requires loop-holds (λ c. search needs) (λ c. search needs) (λ c κs. search needs) (λ c. search needs) (λ c κs. search needs)
+    Inv-loop μ-loop (λ c κs. search needs) (λ c. search needs) head-requires loop-holds (λ c. search needs) (λ c. search needs) (λ c κs. search needs) (λ c. search needs) (λ c κs. search needs)
     pair-line-requires (λ c. search needs) (λ c. search needs) loop-again (λ c. search needs) returns)

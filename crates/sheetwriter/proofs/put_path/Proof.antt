@@ -16,13 +16,13 @@ use Places.*
 
 pair-requires : tie.Need-pair-requires
 pair-requires c κs =
-    let s = pair-arg2→start c .args in
-    (omega arith, omega arith, omega (arith, pair-room pathWord (s .cart) (s .call)))
+    let s = pair-arg2→start c in
+    (s .pre .0, omega arith, omega arith, omega (arith, pair-room pathWord (s .args .cart) (s .args .call)))
 
 fields-requires : tie.Need-fields-requires
 fields-requires c κs =
-    let s = fields-arg→start c .args in
-    (omega arith, omega (arith, fields-arg→pair c .pair .ensures .next, pair-room pathWord (s .cart) (s .call)))
+    let s = fields-arg→start c in
+    (s .pre .0, omega arith, omega (arith, fields-arg→pair c .pair .ensures .next, pair-room pathWord (s .args .cart) (s .args .call)))
 
 byte-requires : tie.Need-byte-requires
 byte-requires c κs =

@@ -24,20 +24,20 @@ mod Places
 use Places.*
 
 abbrev Inv-loop : tie.InvT-loop
-Inv-loop job carts calls lasts rows out₀ p₀ k₀ out p k =
+Inv-loop job carts calls lasts rows out₀ table p₀ k₀ out p k =
     (k ≤ job .calls) × (p + (job .calls - k) * share (jobOf job) ≤ length out) × (length out ≡ length out₀)
     × Wrote out₀ p₀ (linesText pathWord pathNumbers (pathsTo carts calls lasts rows k)) out p
 
 abbrev μ-loop : tie.MeasureT-loop
-μ-loop job carts calls lasts rows out₀ p₀ k₀ out p k = job .calls - k
+μ-loop job carts calls lasts rows out₀ table p₀ k₀ out p k = job .calls - k
 
 counted : (c : tie.Start Inv-loop μ-loop) → length (jobOf (c .args .job) .calls) ≡ c .args .job .calls
 counted c = calls-count (c .args .job)
 
 head-requires : tie.Need-head-requires Inv-loop μ-loop
 head-requires c κs =
-    let s = head-arg2→start c in
-    (omega arith, omega (arith, line-room planWord (s .args .job .calls ∷ [])))
+    let s = table2→start c in
+    (table2→table c .table .ensures, omega arith, omega (arith, line-room planWord (s .args .job .calls ∷ [])))
 
 loop-holds : tie.Need-loop-holds Inv-loop μ-loop
 loop-holds c =
@@ -75,19 +75,20 @@ loop-again c =
 
 put-path-requires : tie.Need-put-path-requires Inv-loop μ-loop
 put-path-requires c κs =
-    let s = put-path-arg2→start c in
+    let s = table3→start c in
     let j = s .args .job in
-    let l = put-path-arg2→loop c .loop in
+    let l = table3→loop c .loop in
     let n : l .k < length (jobOf j .calls) = omega (arith, counted s) in
     let h : l .k < j .calls = omega arith in
     let r = room-one (share (jobOf j)) (l .k) (j .calls) (l .p) (length (l .out)) h (l .inv .1) in (
+      table3→table c .table .ensures,
       omega arith,
       omega arith,
       omega (
         arith,
         r,
-        part-short (jobOf j) (now (s .args .carts)) (now (s .args .calls)) (now (s .args .lasts)) (now (s .args .rows)) (s .pre .3) (l .k) n (put-path-arg2→wide2 c .wide2 .ensures .0)
-            (put-path-arg2→wide3 c .wide3 .ensures .0) (put-path-arg2→wide c .wide .ensures .0),
+        part-short (jobOf j) (now (s .args .carts)) (now (s .args .calls)) (now (s .args .lasts)) (now (s .args .rows)) (s .pre .3) (l .k) n (table3→wide2 c .wide2 .ensures .0)
+            (table3→wide3 c .wide3 .ensures .0) (table3→wide c .wide .ensures .0),
       ),
     )
 
@@ -103,6 +104,6 @@ pub put-plan-spec : {M : Type 1} → statement M
 put-plan-spec =
     tie.close
     (tie.spec
-    Inv-loop μ-loop (λ c. search needs) head-requires loop-holds (λ c. search needs) (λ c. search needs) (λ c κs. search needs) (λ c. search needs) (λ c. search needs)
+    Inv-loop μ-loop (λ c κs. search needs) (λ c. search needs) head-requires loop-holds (λ c. search needs) (λ c. search needs) (λ c κs. search needs) (λ c. search needs) (λ c. search needs)
     (λ c. search needs) (λ c κs. search needs) (λ c. search needs) (λ c κs. search needs) (λ c. search needs) (λ c. search needs) (λ c. search needs) put-path-requires
     (λ c. search needs) (λ c. search needs) loop-again (λ c. search needs) returns)

@@ -22,15 +22,15 @@ mod Places
 use Places.*
 
 abbrev Inv-loop : tie.InvT-loop
-Inv-loop cells from to tracks out₀ p₀ t₀ word out p t = (t ≤ tracks) × (length out ≡ length out₀) × Wrote out₀ p₀ (trackLines from to t) out p
+Inv-loop cells from to tracks out₀ table p₀ t₀ word out p t = (t ≤ tracks) × (length out ≡ length out₀) × Wrote out₀ p₀ (trackLines from to t) out p
 
 abbrev μ-loop : tie.MeasureT-loop
-μ-loop cells from to tracks out₀ p₀ t₀ word out p t = tracks - t
+μ-loop cells from to tracks out₀ table p₀ t₀ word out p t = tracks - t
 
 head-requires : tie.Need-head-requires Inv-loop μ-loop
 head-requires c κs =
-    let s = head-arg2→start c .args in
-    (omega arith, omega (arith, length-append (line floorWord (s .cells ∷ [])) (trackLines (now (s .from)) (now (s .to)) (s .tracks))))
+    let s = table2→start c .args in
+    (table2→table c .table .ensures, omega arith, omega (arith, length-append (line floorWord (s .cells ∷ [])) (trackLines (now (s .from)) (now (s .to)) (s .tracks))))
 
 loop-holds : tie.Need-loop-holds Inv-loop μ-loop
 loop-holds c =
@@ -39,13 +39,13 @@ loop-holds c =
 
 pair-line-requires : tie.Need-pair-line-requires Inv-loop μ-loop
 pair-line-requires c κs =
-    let s = wide2→start c .args in
-    let l = wide2→loop c .loop in
-    let h = wide2→head c .head in
-    let a = wide2→wide c .wide in
-    let b = c .wide2 in
+    let s = table3→start c .args in
+    let l = table3→loop c .loop in
+    let h = table3→head c .head in
+    let a = table3→wide c .wide in
+    let b = table3→wide2 c .wide2 in
     let r = line-fits (now (s .from)) (now (s .to)) (s .cells) (l .t) (s .tracks) (omega arith) in
-    (omega arith, omega arith, omega (arith, h .ensures .next, h .kept .0, l .inv .2 .next, rw (← a .ensures .0, ← b .ensures .0) at r))
+    (table3→table c .table .ensures, omega arith, omega arith, omega (arith, h .ensures .next, h .kept .0, l .inv .2 .next, rw (← a .ensures .0, ← b .ensures .0) at r))
 
 loop-again : tie.Need-loop-again Inv-loop μ-loop
 loop-again c =
@@ -70,5 +70,5 @@ pub put-lines-spec : {M : Type 1} → statement M
 put-lines-spec =
     tie.close
     (tie.spec
-    Inv-loop μ-loop (λ c. search needs) head-requires loop-holds (λ c. search needs) (λ c. search needs) (λ c κs. search needs) (λ c. search needs) (λ c κs. search needs)
+    Inv-loop μ-loop (λ c κs. search needs) (λ c. search needs) head-requires loop-holds (λ c. search needs) (λ c. search needs) (λ c κs. search needs) (λ c. search needs) (λ c κs. search needs)
     pair-line-requires (λ c. search needs) (λ c. search needs) loop-again (λ c. search needs) returns)

@@ -1,26 +1,29 @@
 -- The earlier places that the proof of `put_plan` names: `x→y c` is what is known at y, seen from the place x.
 -- Made of the code by proof-names, which reads the lists below when the code has changed.
 -- All places in the code's order, each behind the one in front of it; where it is behind another, `X<Y` names that:
--- Start After-shared-slice-known After-shared-slice-known2 After-shared-slice-known3 After-shared-slice-known4 After-slice-known After-head-arg After-head-arg2 After-head
--- After-out After-slice-known2 At-loop After-struct-known Then1 Else1<After-struct-known After-shared-slice-known5<Then1 After-wide After-put-path-arg After-shared-slice-known6
--- After-wide2 After-shared-slice-known7 After-wide3 After-put-path-arg2 After-put-path After-out2 After-slice-known3
+-- Start After-shared-slice-known After-shared-slice-known2 After-shared-slice-known3 After-shared-slice-known4 After-slice-known After-table After-head-arg After-head-arg2
+-- After-table2 After-head After-out After-slice-known2 At-loop After-struct-known Then1 Else1<After-struct-known After-shared-slice-known5<Then1 After-wide After-put-path-arg
+-- After-shared-slice-known6 After-wide2 After-shared-slice-known7 After-wide3 After-put-path-arg2 After-table3 After-put-path After-out2 After-slice-known3
 -- The needs, each with its place:
--- slice-aggregate-head@After-head-arg2 head-requires@After-head-arg2 loop-holds@After-slice-known2 mul-a@Then1 shared-slice-read-wide@After-shared-slice-known5
--- wide-requires@After-shared-slice-known5 add-e@After-wide add-e-2@After-wide shared-slice-read-wide-2@After-shared-slice-known6 wide-requires-2@After-shared-slice-known6
--- shared-slice-read-wide-3@After-shared-slice-known7 wide-requires-3@After-shared-slice-known7 sub-put-path@After-wide3 part-put-path-start@After-wide3
--- part-put-path-end@After-wide3 put-path-requires@After-put-path-arg2 add-k@After-slice-known3 loop-less@After-slice-known3 loop-again@After-slice-known3 same-length@Else1
--- returns@Else1
+-- table-requires@After-slice-known slice-aggregate-head@After-head-arg2 head-requires@After-table2 loop-holds@After-slice-known2 mul-a@Then1
+-- shared-slice-read-wide@After-shared-slice-known5 wide-requires@After-shared-slice-known5 add-e@After-wide add-e-2@After-wide shared-slice-read-wide-2@After-shared-slice-known6
+-- wide-requires-2@After-shared-slice-known6 shared-slice-read-wide-3@After-shared-slice-known7 wide-requires-3@After-shared-slice-known7 sub-put-path@After-wide3
+-- part-put-path-start@After-wide3 part-put-path-end@After-wide3 put-path-requires@After-table3 add-k@After-slice-known3 loop-less@After-slice-known3 loop-again@After-slice-known3
+-- same-length@Else1 returns@Else1
 use Rattle.sheetwriter.proofs.put_plan.Tie as tie
 
 module _ {Inv : tie.InvT-loop} {μ : tie.MeasureT-loop} where
-  abbrev pub head-arg2→start : tie.After-head-arg2 Inv μ → tie.Start Inv μ
-  head-arg2→start c = c .before .before .before .before .before .before .before
+  abbrev pub table2→table : tie.After-table2 Inv μ → tie.After-table Inv μ
+  table2→table c = c .before .before .before
+
+  abbrev pub table2→start : tie.After-table2 Inv μ → tie.Start Inv μ
+  table2→start c = table2→table c .before .before .before .before .before .before
 
   abbrev pub slice-known2→head : tie.After-slice-known2 Inv μ → tie.After-head Inv μ
   slice-known2→head c = c .before .before
 
   abbrev pub slice-known2→start : tie.After-slice-known2 Inv μ → tie.Start Inv μ
-  slice-known2→start c = head-arg2→start (c .before .before .before)
+  slice-known2→start c = table2→start (c .before .before .before)
 
   abbrev pub else1→head : tie.Else1 Inv μ → tie.After-head Inv μ
   else1→head c = slice-known2→head (c .before .before .before)
@@ -28,32 +31,35 @@ module _ {Inv : tie.InvT-loop} {μ : tie.MeasureT-loop} where
   abbrev pub else1→start : tie.Else1 Inv μ → tie.Start Inv μ
   else1→start c = slice-known2→start (c .before .before .before)
 
-  abbrev pub put-path-arg2→wide3 : tie.After-put-path-arg2 Inv μ → tie.After-wide3 Inv μ
-  put-path-arg2→wide3 c = c .before
+  abbrev pub table3→wide3 : tie.After-table3 Inv μ → tie.After-wide3 Inv μ
+  table3→wide3 c = c .before .before
 
-  abbrev pub put-path-arg2→wide2 : tie.After-put-path-arg2 Inv μ → tie.After-wide2 Inv μ
-  put-path-arg2→wide2 c = put-path-arg2→wide3 c .before .before
+  abbrev pub table3→wide2 : tie.After-table3 Inv μ → tie.After-wide2 Inv μ
+  table3→wide2 c = table3→wide3 c .before .before
 
-  abbrev pub put-path-arg2→wide : tie.After-put-path-arg2 Inv μ → tie.After-wide Inv μ
-  put-path-arg2→wide c = put-path-arg2→wide2 c .before .before .before
+  abbrev pub table3→wide : tie.After-table3 Inv μ → tie.After-wide Inv μ
+  table3→wide c = table3→wide2 c .before .before .before
 
-  abbrev pub put-path-arg2→loop : tie.After-put-path-arg2 Inv μ → tie.At-loop Inv μ
-  put-path-arg2→loop c = put-path-arg2→wide c .before .before .before .before
+  abbrev pub table3→loop : tie.After-table3 Inv μ → tie.At-loop Inv μ
+  table3→loop c = table3→wide c .before .before .before .before
 
-  abbrev pub put-path-arg2→start : tie.After-put-path-arg2 Inv μ → tie.Start Inv μ
-  put-path-arg2→start c = put-path-arg2→loop c .before .before .before .before .before .before .before .before .before .before .before
+  abbrev pub table3→table : tie.After-table3 Inv μ → tie.After-table Inv μ
+  table3→table c = table3→loop c .before .before .before .before .before .before .before
+
+  abbrev pub table3→start : tie.After-table3 Inv μ → tie.Start Inv μ
+  table3→start c = table3→table c .before .before .before .before .before .before
 
   abbrev pub slice-known3→put-path : tie.After-slice-known3 Inv μ → tie.After-put-path Inv μ
   slice-known3→put-path c = c .before .before
 
   abbrev pub slice-known3→wide3 : tie.After-slice-known3 Inv μ → tie.After-wide3 Inv μ
-  slice-known3→wide3 c = slice-known3→put-path c .before .before
+  slice-known3→wide3 c = slice-known3→put-path c .before .before .before
 
   abbrev pub slice-known3→wide2 : tie.After-slice-known3 Inv μ → tie.After-wide2 Inv μ
   slice-known3→wide2 c = slice-known3→wide3 c .before .before
 
   abbrev pub slice-known3→wide : tie.After-slice-known3 Inv μ → tie.After-wide Inv μ
-  slice-known3→wide c = put-path-arg2→wide (c .before .before .before)
+  slice-known3→wide c = table3→wide (c .before .before .before)
 
   abbrev pub slice-known3→then1 : tie.After-slice-known3 Inv μ → tie.Then1 Inv μ
   slice-known3→then1 c = slice-known3→wide c .before .before
@@ -62,4 +68,4 @@ module _ {Inv : tie.InvT-loop} {μ : tie.MeasureT-loop} where
   slice-known3→loop c = slice-known3→then1 c .before .before
 
   abbrev pub slice-known3→start : tie.After-slice-known3 Inv μ → tie.Start Inv μ
-  slice-known3→start c = put-path-arg2→start (c .before .before .before)
+  slice-known3→start c = table3→start (c .before .before .before)

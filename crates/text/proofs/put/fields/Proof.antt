@@ -16,16 +16,16 @@ mod Places
 use Places.*
 
 abbrev Inv-loop : tie.InvT-loop
-Inv-loop out₀ at cells n i₀ p₀ out i p = (i ≤ n) × (p ≤ at + 4 * i) × (length out ≡ length out₀) × Wrote out₀ at (fields (take i cells)) out p
+Inv-loop out₀ at cells n table i₀ p₀ out i p = (i ≤ n) × (p ≤ at + 4 * i) × (length out ≡ length out₀) × Wrote out₀ at (fields (take i cells)) out p
 
 abbrev μ-loop : tie.MeasureT-loop
-μ-loop out₀ at cells n i₀ p₀ out i p = n - i
+μ-loop out₀ at cells n table i₀ p₀ out i p = n - i
 
 loop-holds : tie.Need-loop-holds Inv-loop μ-loop
 loop-holds c = (search needs, search needs, refl, wrote-none (omega arith))
 
 field-requires : tie.Need-field-requires Inv-loop μ-loop
-field-requires c κs = (omega arith, omega (arith, numeral-short (c .wide .result)))
+field-requires c κs = (wide→start c .pre .0, omega arith, omega (arith, numeral-short (c .wide .result)))
 
 loop-again : tie.Need-loop-again Inv-loop μ-loop
 loop-again c =

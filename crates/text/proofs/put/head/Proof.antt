@@ -14,8 +14,8 @@ word-requires c κs = let s = word-arg→start c .args in omega (arith, head-lon
 
 field-requires : tie.Need-field-requires
 field-requires c κs =
-    let s = field-arg→start c .args in
-    (omega arith, omega (arith, field-arg→word c .word .ensures .next, head-long (now (s .word)) (s .n)))
+    let s = field-arg→start c in
+    (s .pre .0, omega arith, omega (arith, field-arg→word c .word .ensures .next, head-long (now (s .args .word)) (s .args .n)))
 
 byte-requires : tie.Need-byte-requires
 byte-requires c κs =

@@ -1,62 +1,51 @@
--- `put::number` meets its contract. By the number of digits, `one-digit`, `numeral-2` and `numeral-3` say what the numeral is, so that there is room for each
--- byte, and `wrote-more` joins the bytes. In `returns-2` and `returns-3`, x, y and z are where the first, second and third byte are written, and i
--- is where the test before them was decided. Assumes nothing.
-use mathlib.Core.Path.{ap}
+-- `put::number` meets its contract. The digits that are taken from the entry of n are those of n, and written one after the other, without leading zeros, they are its
+-- numeral (`numeral-pieces`); so there is room for each. Assumes nothing.
+use Prim.Native.Nat.{_/_}
+use mathlib.Core.Path.{_≡_}
+use Rattle.model.specs.Text.{digit}
 use native.Mathlib.Omega.{arith}
-use lib.ListN.{length}
-use Rattle.model.proofs.Read.{one-digit}
-use Rattle.text.proofs.Wrote.{numeral-2, numeral-3, wrote-more}
+use Rattle.text.proofs.Table.{ones, tens, hundreds, numeral-pieces, pieces-long}
+use Rattle.text.proofs.Wrote.{wrote-more}
 use borrow.Author.Needs.{needs}
 use Rattle.text.proofs.put.number.Statement.{statement}
 use Rattle.text.proofs.put.number.Tie as tie
 mod Places
 use Places.*
 
+first : (c : tie.After-digit) → c .digit .result ≡ digit (digit→start c .args .n / 100)
+first c = hundreds (digit→start c .args .n) (digit→entry c .entry .ensures) (c .digit .ensures)
+
+second : (c : tie.After-digit2) → c .digit2 .result ≡ digit (digit2→start c .args .n / 10)
+second c = tens (digit2→start c .args .n) (digit2→entry c .entry .ensures) (c .digit2 .ensures)
+
+third : (c : tie.After-digit3) → c .digit3 .result ≡ digit (digit3→start c .args .n)
+third c = ones (digit3→start c .args .n) (digit3→entry c .entry .ensures) (c .digit3 .ensures)
+
+leading-requires : tie.Need-leading-requires
+leading-requires c κs = omega (arith, pieces-long (digit→start c .args .n) (c .digit .result) 0)
+
+leading-requires-2 : tie.Need-leading-requires-2
+leading-requires-2 c κs = omega (arith, digit2→leading c .leading .ensures .next, pieces-long (digit2→start c .args .n) (digit2→digit c .digit .result) (c .digit2 .result))
+
 byte-requires : tie.Need-byte-requires
-byte-requires c κs = omega (arith, ap length (one-digit (digit→start c .args .n) (omega arith)))
+byte-requires c κs =
+    omega (
+      arith,
+      digit3→leading c .leading .ensures .next,
+      digit3→leading2 c .leading2 .ensures .next,
+      pieces-long (digit3→start c .args .n) (digit3→digit c .digit .result) (digit3→digit2 c .digit2 .result),
+    )
 
 returns : tie.Need-returns
 returns c =
-    let b = slice-known2→byte c in
-    let i = byte→then1 b in
-    rw (one-digit (then1→start i .args .n) (i .if1 .taken), ← byte→digit b .digit .ensures) (b .byte .ensures)
-
-byte-requires-2 : tie.Need-byte-requires-2
-byte-requires-2 c κs = omega (arith, ap length (numeral-2 (digit2→start c .args .n) (omega arith) (omega arith)))
-
-byte-requires-3 : tie.Need-byte-requires-3
-byte-requires-3 c κs = omega (arith, ap length (numeral-2 (digit3→start c .args .n) (omega arith) (omega arith)))
-
-returns-2 : tie.Need-returns-2
-returns-2 c =
-    let y = slice-known4→byte3 c in
-    let x = byte3→byte2 y in
-    let i = byte2→then2 x in
-    rw (numeral-2 (then2→start i .args .n) (then2→else1 i .if1 .left) (i .if2 .taken), ← byte2→digit2 x .digit2 .ensures, ← byte3→digit3 y .digit3 .ensures)
-    (wrote-more (x .byte2 .ensures) (y .byte3 .ensures))
-
-byte-requires-4 : tie.Need-byte-requires-4
-byte-requires-4 c κs = omega (arith, ap length (numeral-3 (digit4→start c .args .n) (omega arith) (omega arith)))
-
-byte-requires-5 : tie.Need-byte-requires-5
-byte-requires-5 c κs = omega (arith, ap length (numeral-3 (digit5→start c .args .n) (omega arith) (omega arith)))
-
-byte-requires-6 : tie.Need-byte-requires-6
-byte-requires-6 c κs = omega (arith, ap length (numeral-3 (digit6→start c .args .n) (omega arith) (omega arith)))
-
-returns-3 : tie.Need-returns-3
-returns-3 c =
-    let z = slice-known7→byte6 c in
-    let y = byte6→byte5 z in
-    let x = byte5→byte4 y in
-    let i = byte4→else2 x in
-    let s = else2→start i in
-    rw (numeral-3 (s .args .n) (i .if2 .left) (s .pre .0), ← byte4→digit4 x .digit4 .ensures, ← byte5→digit5 y .digit5 .ensures, ← byte6→digit6 z .digit6 .ensures)
-    (wrote-more (wrote-more (x .byte4 .ensures) (y .byte5 .ensures)) (z .byte6 .ensures))
+    let z = slice-known4→byte c in
+    let y = byte→leading2 z in
+    let x = byte→leading z in
+    rw (← numeral-pieces (byte→start z .args .n), ← first (leading→digit x), ← second (leading2→digit2 y), ← third (byte→digit3 z))
+    (wrote-more (x .leading .ensures) (wrote-more (y .leading2 .ensures) (z .byte .ensures)))
 
 pub number-spec : {M : Type 1} → statement M
 number-spec =
     tie.close
     (tie.spec
-    (λ c κs. search needs) byte-requires (λ c. search needs) returns (λ c κs. search needs) byte-requires-2 (λ c κs. search needs) byte-requires-3 (λ c. search needs) returns-2
-    (λ c κs. search needs) byte-requires-4 (λ c κs. search needs) byte-requires-5 (λ c κs. search needs) byte-requires-6 (λ c. search needs) returns-3)
+    (λ c κs. search needs) (λ c κs. search needs) leading-requires (λ c κs. search needs) leading-requires-2 (λ c κs. search needs) byte-requires (λ c. search needs) returns)

@@ -13,13 +13,15 @@ word-requires c κs = let s = word-arg→start c .args in omega (arith, pair-lon
 
 field-requires : tie.Need-field-requires
 field-requires c κs =
-    let s = field-arg→start c .args in
-    (omega arith, omega (arith, field-arg→word c .word .ensures .next, pair-long (now (s .word)) (s .a) (s .b)))
+    let s = field-arg→start c in
+    let a = s .args in
+    (s .pre .0, omega arith, omega (arith, field-arg→word c .word .ensures .next, pair-long (now (a .word)) (a .a) (a .b)))
 
 field-requires-2 : tie.Need-field-requires-2
 field-requires-2 c κs =
-    let s = field-arg2→start c .args in
-    (omega arith, omega (arith, field-arg2→word c .word .ensures .next, field-arg2→field c .field .ensures .next, pair-long (now (s .word)) (s .a) (s .b)))
+    let s = field-arg2→start c in
+    let a = s .args in
+    (s .pre .0, omega arith, omega (arith, field-arg2→word c .word .ensures .next, field-arg2→field c .field .ensures .next, pair-long (now (a .word)) (a .a) (a .b)))
 
 returns : tie.Need-returns
 returns c =

@@ -11,9 +11,10 @@ use Places.*
 
 pair-requires : tie.Need-pair-requires
 pair-requires c κs =
-    let s = pair-arg→start c .args in
-    let w = now (s .word) in
-    (omega arith, omega arith, omega (arith, pair-long w (s .a) (s .b), pair-line-long w (s .a) (s .b)))
+    let s = pair-arg→start c in
+    let a = s .args in
+    let w = now (a .word) in
+    (s .pre .0, omega arith, omega arith, omega (arith, pair-long w (a .a) (a .b), pair-line-long w (a .a) (a .b)))
 
 byte-requires : tie.Need-byte-requires
 byte-requires c κs =

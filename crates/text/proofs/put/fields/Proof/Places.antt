@@ -15,6 +15,9 @@ module _ {Inv : tie.InvT-loop} {μ : tie.MeasureT-loop} where
   abbrev pub after-loop→start : tie.After-loop Inv μ → tie.Start Inv μ
   after-loop→start c = after-loop→loop c .before .before .before
 
+  abbrev pub wide→start : tie.After-wide Inv μ → tie.Start Inv μ
+  wide→start c = c .before .before .before .before .before .before .before
+
   abbrev pub slice-known2→field : tie.After-slice-known2 Inv μ → tie.After-field Inv μ
   slice-known2→field c = c .before .before
 
@@ -25,4 +28,4 @@ module _ {Inv : tie.InvT-loop} {μ : tie.MeasureT-loop} where
   slice-known2→loop c = slice-known2→wide c .before .before .before .before
 
   abbrev pub slice-known2→start : tie.After-slice-known2 Inv μ → tie.Start Inv μ
-  slice-known2→start c = slice-known2→loop c .before .before .before
+  slice-known2→start c = wide→start (slice-known2→wide c)
