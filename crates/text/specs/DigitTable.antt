@@ -15,6 +15,7 @@ abbrev pub keeps : (ℕ → ℕ) → ℕ → List ℕ → Bool
 keeps rule i [] = true
 keeps rule i (e ∷ es) = eqb e (rule i) && keeps rule (suc i) es
 
+-- A thousand entries that pass it.
 pub record DigitTable (es : List ℕ) : Type 0 where
   pub thousand : length es ≡ 1000
   pub right : keeps packed 0 es ≡ true
