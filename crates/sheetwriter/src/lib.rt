@@ -52,7 +52,8 @@ pub fn put_plan(
     ensures { λ r. ⌜ Wrote (now (out .entry)) 0 (planText (pathsTo (now (carts .entry)) (now (calls .entry)) (now (lasts .entry)) (now (rows .entry)) (length (jobOf job .calls)))) (now (out .exit)) r ⌝ }
 {
     let table = digits::table();
-    let mut p = put::head(out, 0, b"PLAN", job.calls, &table);
+    // As a byte, so that the compiler sees that no entry above 255 is read, and lays out only the others.
+    let mut p = put::head(out, 0, b"PLAN", wide(job.calls as u8), &table);
     let mut k = 0;
     while k < job.calls {
         let a = k * Limits::STEPS;
@@ -69,7 +70,8 @@ pub fn put_cannot(job: Job, cells: &[u8], steps: &[u8], n: usize, out: &mut [u8]
     ensures { λ r. ⌜ Wrote (now (out .entry)) 0 (cannotText (pointsOf (now (cells .entry)) (now (steps .entry)) n)) (now (out .exit)) r ⌝ }
 {
     let table = digits::table();
-    let mut p = put::head(out, 0, b"CANNOT", n, &table);
+    // As a byte, as in `put_plan`.
+    let mut p = put::head(out, 0, b"CANNOT", wide(n as u8), &table);
     let mut k = 0;
     while k < n {
         p = put::pair_line(out, p, b"CHOKE", wide(cells[k]), wide(steps[k]), &table);

@@ -32,8 +32,8 @@ abbrev μ-loop : tie.MeasureT-loop
 
 head-requires : tie.Need-head-requires Inv-loop μ-loop
 head-requires c κs =
-    let s = table2→start c in
-    (table2→table c .table .ensures, omega arith, omega (arith, line-room cannotWord (s .args .n ∷ [])))
+    let w = table2→wide c .wide in
+    (table2→table c .table .ensures, omega arith, omega (arith, line-room cannotWord (w .result ∷ [])))
 
 loop-holds : tie.Need-loop-holds Inv-loop μ-loop
 loop-holds c =
@@ -41,21 +41,21 @@ loop-holds c =
     let j = s .args .job in
     let n : s .args .n < length (jobOf j .calls) = omega (arith, calls-count j) in
     let w = slice-known2→head c .head .ensures in
-    let r = line-room cannotWord (s .args .n ∷ []) in
+    let r = line-room cannotWord (slice-known2→wide c .wide .result ∷ []) in
     (search needs, omega (arith, chokes-room (jobOf j) (s .pre .0) (s .args .n) n, r, w .next), refl, wrote-none (omega (arith, w .next, w .fits)))
 
 pair-line-requires : tie.Need-pair-line-requires Inv-loop μ-loop
 pair-line-requires c κs =
-    let a = table3→wide c .wide in
-    let b = table3→wide2 c .wide2 in
+    let a = table3→wide2 c .wide2 in
+    let b = table3→wide3 c .wide3 in
     (table3→table c .table .ensures, omega arith, omega arith, omega (arith, line-room chokeWord (a .result ∷ b .result ∷ [])))
 
 loop-again : tie.Need-loop-again Inv-loop μ-loop
 loop-again c =
     let s = slice-known3→start c .args in
     let l = slice-known3→loop c .loop in
-    let a = slice-known3→wide c .wide in
-    let b = slice-known3→wide2 c .wide2 in
+    let a = slice-known3→wide2 c .wide2 in
+    let b = slice-known3→wide3 c .wide3 in
     let w = slice-known3→pair-line c .pair-line in (
       omega arith,
       omega (arith, w .ensures .next, line-room chokeWord (a .result ∷ b .result ∷ [])),
@@ -69,11 +69,11 @@ returns c =
     let s = after-loop→start c .args in
     let l = c .before .loop in
     let e : l .k ≡ s .n = omega arith in
-    rw (up-count (pointAt (now (s .cells)) (now (s .steps))) (s .n)) (wrote-more (after-loop→head c .head .ensures) (rw e at (l .inv .3)))
+    rw (up-count (pointAt (now (s .cells)) (now (s .steps))) (s .n)) (wrote-more (rw (after-loop→wide c .wide .ensures .0) at (c .before .before .before .before .head .ensures)) (rw e at (l .inv .3)))
 
 pub put-cannot-spec : {M : Type 1} → statement M
 put-cannot-spec =
     tie.close
     (tie.spec
-    Inv-loop μ-loop (λ c κs. search needs) (λ c. search needs) head-requires loop-holds (λ c. search needs) (λ c. search needs) (λ c κs. search needs) (λ c. search needs) (λ c κs. search needs)
-    pair-line-requires (λ c. search needs) (λ c. search needs) loop-again (λ c. search needs) returns)
+    Inv-loop μ-loop (λ c κs. search needs) (λ c. search needs) (λ c. search needs) (λ c κs. search needs) head-requires loop-holds (λ c. search needs) (λ c. search needs) (λ c κs. search needs)
+    (λ c. search needs) (λ c κs. search needs) pair-line-requires (λ c. search needs) (λ c. search needs) loop-again (λ c. search needs) returns)

@@ -34,18 +34,22 @@ abbrev μ-loop : tie.MeasureT-loop
 counted : (c : tie.Start Inv-loop μ-loop) → length (jobOf (c .args .job) .calls) ≡ c .args .job .calls
 counted c = calls-count (c .args .job)
 
+cast-wide : tie.Need-cast-wide Inv-loop μ-loop
+cast-wide c = let s = struct-known→start c in omega (arith, counted s, s .pre .0 .fit .few-calls)
+
 head-requires : tie.Need-head-requires Inv-loop μ-loop
 head-requires c κs =
-    let s = table2→start c in
-    (table2→table c .table .ensures, omega arith, omega (arith, line-room planWord (s .args .job .calls ∷ [])))
+    let w = table2→wide c .wide in
+    (table2→table c .table .ensures, omega arith, omega (arith, line-room planWord (w .result ∷ [])))
 
 loop-holds : tie.Need-loop-holds Inv-loop μ-loop
 loop-holds c =
     let s = slice-known2→start c in
     let j = s .args .job in
-    let w = slice-known2→head c .head in (
+    let w = slice-known2→head c .head in
+    let r = line-room planWord (slice-known2→wide c .wide .result ∷ []) in (
       search needs,
-      paths-room (jobOf j) (s .pre .0) (j .calls) (counted s) (w .result) (length (w .last .0)) (omega (arith, w .ensures .next, line-room planWord (j .calls ∷ []))) (omega arith),
+      paths-room (jobOf j) (s .pre .0) (j .calls) (counted s) (w .result) (length (w .last .0)) (omega (arith, w .ensures .next, r)) (omega arith),
       refl,
       wrote-none (omega (arith, w .ensures .next, w .ensures .fits)),
     )
@@ -62,9 +66,9 @@ loop-again c =
     let w = slice-known3→put-path c .put-path in
     let h : l .k < j .calls = omega (arith, slice-known3→then1 c .if1 .taken, l .inv .0) in
     let n : l .k < length (jobOf j .calls) = omega (arith, counted s) in
-    let a = slice-known3→wide2 c .wide2 .ensures .0 in
-    let b = slice-known3→wide3 c .wide3 .ensures .0 in
-    let d = slice-known3→wide c .wide .ensures .0 in
+    let a = slice-known3→wide3 c .wide3 .ensures .0 in
+    let b = slice-known3→wide4 c .wide4 .ensures .0 in
+    let d = slice-known3→wide2 c .wide2 .ensures .0 in
     let r = path-room (jobOf j) carts calls lasts rows (s .pre .3) (l .k) n a b d in
     let x = wrote-path (jobOf j) carts calls lasts rows (s .pre .3) (l .k) n a b d (w .ensures) in (
       omega (arith, h),
@@ -87,8 +91,8 @@ put-path-requires c κs =
       omega (
         arith,
         r,
-        part-short (jobOf j) (now (s .args .carts)) (now (s .args .calls)) (now (s .args .lasts)) (now (s .args .rows)) (s .pre .3) (l .k) n (table3→wide2 c .wide2 .ensures .0)
-            (table3→wide3 c .wide3 .ensures .0) (table3→wide c .wide .ensures .0),
+        part-short (jobOf j) (now (s .args .carts)) (now (s .args .calls)) (now (s .args .lasts)) (now (s .args .rows)) (s .pre .3) (l .k) n (table3→wide3 c .wide3 .ensures .0)
+            (table3→wide4 c .wide4 .ensures .0) (table3→wide2 c .wide2 .ensures .0),
       ),
     )
 
@@ -98,12 +102,13 @@ returns c =
     let a = s .args in
     let l = c .before .before .loop in
     let e : l .k ≡ a .job .calls = omega arith in
-    rw (counted s, up-count (pathAt (now (a .carts)) (now (a .calls)) (now (a .lasts)) (now (a .rows))) (a .job .calls)) (wrote-more (else1→head c .head .ensures) (rw e at (l .inv .3)))
+    rw (counted s, up-count (pathAt (now (a .carts)) (now (a .calls)) (now (a .lasts)) (now (a .rows))) (a .job .calls))
+    (wrote-more (rw (else1→wide c .wide .ensures .0) at (c .before .before .before .before .before .head .ensures)) (rw e at (l .inv .3)))
 
 pub put-plan-spec : {M : Type 1} → statement M
 put-plan-spec =
     tie.close
     (tie.spec
-    Inv-loop μ-loop (λ c κs. search needs) (λ c. search needs) head-requires loop-holds (λ c. search needs) (λ c. search needs) (λ c κs. search needs) (λ c. search needs) (λ c. search needs)
-    (λ c. search needs) (λ c κs. search needs) (λ c. search needs) (λ c κs. search needs) (λ c. search needs) (λ c. search needs) (λ c. search needs) put-path-requires
-    (λ c. search needs) (λ c. search needs) loop-again (λ c. search needs) returns)
+    Inv-loop μ-loop (λ c κs. search needs) (λ c. search needs) cast-wide (λ c κs. search needs) head-requires loop-holds (λ c. search needs) (λ c. search needs)
+    (λ c κs. search needs) (λ c. search needs) (λ c. search needs) (λ c. search needs) (λ c κs. search needs) (λ c. search needs) (λ c κs. search needs)
+    (λ c. search needs) (λ c. search needs) (λ c. search needs) put-path-requires (λ c. search needs) (λ c. search needs) loop-again (λ c. search needs) returns)
