@@ -1,6 +1,5 @@
 -- What the test finds at every entry of a table holds at each of them, by induction on the entry's index. The digits of an entry, taken out of it four bits at a
 -- time, are those of its index; a numeral is these without leading zeros. Assumes nothing.
-use Rattle.model.specs.Text.{digit, numeral}
 use Prim.Native.Nat.{ℕ, zero, suc, _+_, _*_, _/_, _%_, _^_, _<_}
 use mathlib.Core.Path.{_≡_, refl, sym, ap, _∙_}
 use mathlib.Core.List.{List, [], _∷_, _++_}
@@ -10,6 +9,7 @@ use native.Mathlib.Nat.{add-zero, zero-add}
 use lib.Dec.{eqb, ltb}
 use lib.ListN.{length, getD}
 use borrow.Author.Tests.{eqb-true, le-ltb, lt-ltb, ltb-false, ltb-true}
+use Rattle.model.specs.Text.{digit, numeral}
 use Rattle.model.proofs.Basics.{and-left, and-right}
 use Rattle.text.specs.DigitTable.{packed, keeps}
 
@@ -21,6 +21,7 @@ from rule i (e ∷ es) t (suc k) h = from rule (suc i) es (and-right (eqb e (rul
 pub at-each : (rule : ℕ → ℕ) (es : List ℕ) → keeps rule 0 es ≡ true → (k : ℕ) → k < length es → getD es k 0 ≡ rule k
 at-each rule es t k h = from rule 0 es t k h ∙ ap rule (zero-add k)
 
+-- A digit d that was taken out of the entry e of n.
 module _ (n : ℕ) {e d : ℕ} (entry : e ≡ packed n) where
   pub ones : d ≡ 48 + e / 2 ^ 0 % 16 → d ≡ digit n
   ones taken = taken ∙ ap (λ x. 48 + x / 1 % 16) entry ∙ omega arith

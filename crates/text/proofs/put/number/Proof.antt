@@ -2,8 +2,8 @@
 -- numeral (`numeral-pieces`); so there is room for each. Assumes nothing.
 use Prim.Native.Nat.{_/_}
 use mathlib.Core.Path.{_≡_}
-use Rattle.model.specs.Text.{digit}
 use native.Mathlib.Omega.{arith}
+use Rattle.model.specs.Text.{digit}
 use Rattle.text.proofs.Table.{ones, tens, hundreds, numeral-pieces, pieces-long}
 use Rattle.text.proofs.Wrote.{wrote-more}
 use borrow.Author.Needs.{needs}
