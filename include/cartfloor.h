@@ -64,20 +64,21 @@
  *     CART 0                cart 0 stands on cell 0 at step 0
  *     CART 4                cart 1 on cell 4
  *     BAY 1 2               bay 0: a cart is to stand on cell 1 at step 2; it parks there; the cell is closed from step 3 on
- *     CALL 2 2              call 1: a cart is to stand on cell 2 at step 2; it is lifted off the floor there
+ *     CALL 2 2              call 1: a cart is to stand on cell 2 at a step up to 2; it is lifted off the floor there
  *
  * A walk starts on a cart's cell at step 0, at each step stands or goes along one track, and stands on no bay's cell after that
- * bay's step: the cell is closed then. A plan gives each call and bay a cart of its own, and that cart a walk which stands on the
- * cell of the call or bay at its deadline. The cart is on the floor up to that step, and off it from the next, lifted or parked;
- * to cross a lift cell or a bay earlier does neither. No two carts on the floor are on one cell at one step, and no two trade the
- * ends of a track from one step to the next. To follow a cart into the cell that it leaves is allowed, and so is a ring of three
- * or more that turns.
+ * bay's step: the cell is closed then. A plan gives each call and bay a cart of its own, and that cart a walk which ends on its
+ * cell: at a lift at any step up to the deadline, in a bay at its step and no other. The cart is on the floor up to that step,
+ * and off it from the next, lifted or parked; to cross a lift cell or a bay on the way does neither. No two carts on the floor
+ * are on one cell at one step, and no two trade the ends of a track from one step to the next. To follow a cart into the cell
+ * that it leaves is allowed, and so is a ring of three or more that turns.
  *
  * ITS SHEET
  *
  * Lines, tabs and numbers are as in a job. A plan is a line PLAN with the number of calls and bays, and one PATH for each: its
- * cart, the call or bay, and the cart's cells from step 0 to the deadline, deadline + 1 of them. PATH lines go by deadline, equal
- * deadlines by the number of the lift or bay cell.
+ * cart, the call or bay, and the cart's cells from step 0 to the one at which it is lifted or parks: 1 to deadline + 1 of them to
+ * a call, deadline + 1 to a bay. PATH lines go by deadline, whenever the cart is lifted, equal deadlines by the number of the
+ * lift or bay cell.
  *
  *     PLAN 2                a plan for a bay and a call
  *     PATH 1 0 4 3 1        cart 1 parks in bay 0: on cell 4 at step 0, on cell 3 at step 1, on cell 1 at step 2
@@ -90,17 +91,24 @@
  *     PATH 1 0 1 2          call 0, on cell 2, behind it
  *
  * Where there is no plan, CANNOT has the number of choke points, fewer than calls and bays, and then follows one CHOKE for each:
- * cell and step. CHOKE lines go by step, then cell, none twice. On the same floor with the same carts, with BAY 1 0 and CALL 2 2,
- * where cart 1 parks on cell 1 at step 0 and cart 0 cannot pass:
+ * cell and step, or the word CALL and the number of a call that is no bay. Those of cells go by step, then cell, none twice;
+ * behind them come those of calls by number. On the same floor with the same carts, with BAY 1 0 and CALL 2 2, where cart 1 parks
+ * on cell 1 at step 0 and cart 0 cannot pass:
  *
  *     CANNOT 1              no plan; one choke point for a bay and a call
  *     CHOKE 1 0             every walk from any cart to the bay or the call stands on cell 1 at step 0
  *
- * A choke point is a cell at a step from 0 to the largest deadline, 0 if there are no calls and no bays; if the cell is closed
- * then, it stops nothing. A true choke list has fewer choke points than the job has calls and bays, and every walk from any
- * cart's cell that ends on the cell of any call or bay at its deadline stands on one of them, on that cell at that step. Each
- * cart of a plan would need a choke point of its own: so where there is a true choke list, there is no plan. Where there is no
- * plan, there is such a list.
+ * With four cells, TRACK 1 0, TRACK 2 0, CART 1, CART 2, CALL 0 2 and CALL 3 2, where no track reaches cell 3, and where each
+ * cart may wait before it goes to cell 0, so that no one cell at one step stops them all:
+ *
+ *     CANNOT 1
+ *     CHOKE CALL 0          every walk from any cart to a call or bay ends at call 0
+ *
+ * A choke point is a cell at a step from 0 to the largest deadline, 0 if there are no calls and no bays, where it stops nothing
+ * if the cell is closed then; or a whole call, which every walk that ends at that call stands on, and no other. A true choke list
+ * has fewer choke points than the job has calls and bays, and every walk from any cart's cell that ends at any call or bay stands
+ * on one of them. Each cart of a plan would need a choke point of its own: so where there is a true choke list, there is no plan.
+ * Where there is no plan, there is such a list.
  *
  * A MAP
  *
@@ -150,10 +158,11 @@ extern "C" {
 /* The version of this header and its library. The minor number moves where jobs or sheets are read or written otherwise than
  * before, or where calls are added: programs compile as they are. The major number moves where a program has to change. Since
  * 1.2 equal deadlines go by cell: sheets of 1.1 and before are out of order (12) where they have them in another order. Since 1.3
- * there is cartfloor_map; jobs and sheets are as in 1.2. */
+ * there is cartfloor_map. Since 1.4 a lift takes a cart at any step up to the deadline: plans of 1.3 are still plans, but a choke
+ * list of 1.3 and before may let a walk through that is lifted early, and is turned back then (12). */
 #define CARTFLOOR_VERSION_MAJOR 1
-#define CARTFLOOR_VERSION_MINOR 3
-#define CARTFLOOR_VERSION "1.3"
+#define CARTFLOOR_VERSION_MINOR 4
+#define CARTFLOOR_VERSION "1.4"
 
 /* C++ compilers can be asked to warn of C's casts. */
 #ifdef __cplusplus
@@ -190,15 +199,16 @@ extern "C" {
  * last, 1 in an empty text. Of lines beyond those that the sheet counts, and beyond the rows of a map, it is the first.
  *
  * A sheet is not in the form where its words, numbers or counts of fields are wrong, where its last LF is missing, where it has
- * unknown carts, calls, bays, cells or steps, and where a PATH has not exactly deadline + 1 cells, a PLAN not the number of calls
- * and bays, or a CANNOT not fewer choke points than that. A map is not in the form where a line differs from what A MAP says by
- * any byte, a CR or a space at its end included, where a number is out of range, where a row has not as many letters as the width
- * or another letter, and where the rows are not as many as the height. A refusal changes no lent byte. */
+ * unknown carts, calls, bays, cells or steps, where a PATH has no cell, or more than deadline + 1, or to a bay not exactly these,
+ * where a CHOKE CALL names a bay, where a PLAN has not the number of calls and bays, or a CANNOT not fewer choke points than
+ * that. A map is not in the form where a line differs from what A MAP says by any byte, a CR or a space at its end included,
+ * where a number is out of range, where a row has not as many letters as the width or another letter, and where the rows are not
+ * as many as the height. A refusal changes no lent byte. */
 enum {
     /* PLAN: the sheet has a plan. To do: run it. */
     CARTFLOOR_PLAN = 0,
     /* CANNOT: there is no plan, and the sheet has the choke points that show it. To do: let calls and bays be later, first those
-     * whose own cell is no choke point at its deadline, then other bays, or drop some, each with a cart. */
+     * that are no choke point themselves, then other bays, or drop some, each with a cart. */
     CARTFLOOR_CANNOT = 1,
     /* the text is over 16,384 bytes. To do: send less: no job within the limits needs more. */
     CARTFLOOR_TEXT_TOO_LONG = 2,

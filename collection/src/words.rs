@@ -26,7 +26,7 @@ pub const NUMBERS: [Words; 15] = [
         number: CANNOT,
         name: "CANNOT",
         says: "CANNOT: there is no plan, and the sheet has the choke points that show it",
-        advice: "let calls and bays be later, first those whose own cell is no choke point at its deadline, \
+        advice: "let calls and bays be later, first those that are no choke point themselves, \
                  then other bays, or drop some, each with a cart",
         of_lines: &[],
     },

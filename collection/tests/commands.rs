@@ -5,7 +5,7 @@ mod kit;
 use std::fs;
 use std::os::unix::fs::MetadataExt;
 
-use harness::examples::{e, A, A_BY_CALL, B, C, D, F, G};
+use harness::examples::{e_in_bay, A, A_BY_CALL, B, C, D, F, G, PLANNED, WHOLE};
 use kit::mixed::mixed;
 use kit::{is_right, tabs, Folder};
 
@@ -71,9 +71,12 @@ fn plan_again_writes_wrong_sheets_too() {
     let lines = "floor 1/c.sheet: filed PLAN\nfloor 2/d.sheet: filed PLAN\nfloor 2/f.sheet: filed PLAN\ng.sheet: filed CANNOT\n";
     let summary = "8 jobs: 4 plan, 2 cannot, 2 refused; sheets: 6 right, 0 missing, 0 wrong; 4 filed\n";
     folder.floors(&["plan", "--again"]).expect(1, &[lines, DOUBLED, UNEVEN, summary].concat(), "");
-    for (name, sheet) in [("floor 1/c", C.sheet), ("floor 2/d", D.sheet), ("floor 2/f", F.sheet), ("g", G.sheet)] {
+    for (name, sheet) in [("floor 1/c", C.sheet), ("floor 2/d", D.sheet), ("g", G.sheet)] {
         files.insert(format!("{name}.sheet").into_bytes(), tabs(sheet));
     }
+    let of_f = folder.get("floor 2/f.sheet");
+    assert!(is_right(&tabs(F.job), &of_f));
+    files.insert(b"floor 2/f.sheet".to_vec(), of_f);
     assert_eq!(folder.files(), files);
     folder.floors(&["plan", "--again", "-q", "floor 1", "floor 2"]).expect(0, "", "");
 }
@@ -103,13 +106,13 @@ fn a_dry_run_writes_nothing() {
     assert_eq!(folder.files(), before);
 }
 
-/// A job with two right sheets; one may be the planner's, the other comes from another hand.
+/// A job with several right sheets; one may be the planner's, the other comes from another hand.
 #[test]
 fn only_force_replaces_a_right_sheet() {
     let folder = Folder::new();
     let job = tabs("FLOOR 2\nTRACK 0 1\nCART 0\nCALL 0 2\n");
     let planned = folder.floors_with(&["plan", "-"], &job).out.into_bytes();
-    let right = ["PLAN 1\nPATH 0 0 0 0 0\n", "PLAN 1\nPATH 0 0 0 1 0\n"].map(tabs);
+    let right = ["PLAN 1\nPATH 0 0 0 0 0\n", "PLAN 1\nPATH 0 0 0\n"].map(tabs);
     let other = right.iter().find(|sheet| **sheet != planned).expect("two sheets that differ");
     assert!(is_right(&job, &planned) && is_right(&job, other));
     folder.put("x.job", &job);
@@ -159,10 +162,14 @@ fn a_right_cannot_is_a_fault_where_that_is_asked_for() {
 #[test]
 fn one_job_on_standard_input() {
     let folder = Folder::new();
-    let (job_e, sheet_e) = e();
-    let examples = [A, B, C, D, F, G].map(|example| (tabs(example.job), tabs(example.sheet)));
-    for (job, sheet) in examples.into_iter().chain([(job_e, sheet_e)]) {
+    let examples = [A, B, C, D, G, WHOLE].map(|example| (tabs(example.job), tabs(example.sheet)));
+    for (job, sheet) in examples.into_iter().chain([e_in_bay()]) {
         folder.floors_with(&["plan", "-"], &job).expect(0, std::str::from_utf8(&sheet).expect("text"), "");
+    }
+    for job in PLANNED.iter().map(|example| tabs(example.job)) {
+        let planned = folder.floors_with(&["plan", "-"], &job);
+        assert_eq!((planned.status, planned.err.as_str()), (0, ""));
+        assert!(is_right(&job, planned.out.as_bytes()));
     }
     folder.floors_with(&["plan", "-"], &tabs("FLOOR 2\nCART 0\nCART 0\n")).expect(
         1,

@@ -7,7 +7,7 @@ use std::fs::File;
 use std::os::unix::process::ExitStatusExt;
 use std::process::{Command, Stdio};
 
-use harness::examples::{e, A, D, G};
+use harness::examples::{e_in_bay, A, D, G};
 use kit::{is_right, ran, sheet_name, tabs, Folder};
 
 /// A small file system in memory, if this user may have one.
@@ -41,7 +41,7 @@ fn a_full_disk() {
         return;
     };
     let folder = &disk.0;
-    let (job, _) = e();
+    let (job, _) = e_in_bay();
     // A page for each file: 32 in all, of which the jobs take 20.
     let names: Vec<String> = (0..20).map(|i| format!("{i:02}.job")).collect();
     for name in &names {
@@ -74,12 +74,12 @@ fn assert_all_right(folder: &Folder, count: usize) {
     assert_eq!(files.len(), count);
 }
 
-/// 512 bytes, which the sheet of job E passes.
+/// 512 bytes, which the sheet of job E with a bay passes.
 #[test]
 fn a_limit_on_the_size_of_files() {
     let folder = Folder::new();
     folder.put("a.job", tabs(A.job));
-    folder.put("e.job", e().0);
+    folder.put("e.job", e_in_bay().0);
     folder.put("g.job", tabs(G.job));
     let mut shell = Command::new("sh");
     shell.args(["-c", "ulimit -f 1; exec \"$0\" plan -q", env!("CARGO_BIN_EXE_floors")]).current_dir(&folder.0);

@@ -1,9 +1,10 @@
 //! A planner in plain Rust without proofs: what the library's planner is timed against.
 //!
-//! The same algorithm and the same lent buffers, the store wiped at the end. From each call in the written order it
-//! searches back to a free cart, along a guess first. It trusts the job: no line is refused. `map` turns maps into floors.
+//! The same graph and the same lent buffers, the store wiped at the end. From each call in the written order it searches
+//! back to a free cart, along a guess first. It trusts the job: no line is refused. `map` turns maps into floors.
 
 mod aim;
+mod augment;
 mod job;
 pub mod map;
 mod planes;
@@ -11,6 +12,7 @@ mod search;
 mod sheet;
 
 use aim::aim;
+use augment::augment;
 use job::{read, Job};
 use planes::{planes, Planes};
 use search::search;
@@ -23,8 +25,10 @@ use crate::model::limits::CELLS;
 pub trait Mode {
     /// Standing is tried before all tracks, not after them.
     const STAND_FIRST: bool = false;
-    /// A position that is come back to goes on with the tracks that were not looked at.
+    /// A node that is come back to goes on with the tracks that were not looked at.
     const KEEP_PLACE: bool = true;
+    /// A call is sought with short walks first, and not at once as late as can be.
+    const EARLY: bool = true;
     /// A position is put on the stack.
     fn visit(&mut self) {}
     /// A neighbour of a position is looked at.
@@ -36,26 +40,30 @@ struct Quick;
 
 impl Mode for Quick {}
 
-/// Whether all calls are served; if not, the marks with the stamp show the choke list.
-fn solve<M: Mode>(j: &Job, p: &mut Planes, mode: &mut M) -> (bool, u8) {
+/// Serves all calls. If it cannot: the call where it was stuck, and the stamp of the marks that show the choke list.
+fn solve<M: Mode>(j: &Job, p: &mut Planes, mode: &mut M) -> Result<(), (usize, u8)> {
     let (mut stamp, mut dirty) = (1u8, false);
     let mut hint = [0u8; CELLS];
     for (c, hint) in hint.iter_mut().enumerate().take(j.cells) {
         *hint = j.stand::<M>(c) as u8;
     }
     for &q in &j.order[..j.calls] {
-        let (c, d) = j.call[q as usize];
-        aim::<M>(j, p, c as usize, &mut hint);
-        while !search(j, p, &hint, (c as usize, d as usize), stamp, mode) {
-            if !dirty {
-                return (false, stamp);
+        let (cell, due) = (j.call[q as usize].0 as usize, j.call[q as usize].1 as usize);
+        let far = aim::<M>(j, p, cell, &mut hint);
+        // Short walks leave the floor to others, and are soon written: at first up to twice as long as the guess.
+        let mut left_out = if M::EARLY && !j.has_bay(cell) { due.saturating_sub(2 * far) } else { 0 };
+        let depth = loop {
+            match search(j, p, &hint, (cell, left_out), stamp, mode) {
+                0 if left_out > 0 => left_out = 0,
+                0 if dirty => (stamp, dirty) = (stamp + 1, false),
+                0 => return Err((q as usize, stamp)),
+                depth => break depth,
             }
-            stamp += 1;
-            dirty = false;
-        }
+        };
+        augment(j, p, depth);
         dirty = true;
     }
-    (true, stamp)
+    Ok(())
 }
 
 /// The whole call: read, search, write the sheet, wipe the store. Answers as the library does.
@@ -65,17 +73,21 @@ pub fn plan(text: &[u8], store: &mut [u8], sheet: &mut [u8]) -> u64 {
 
 pub fn plan_by<M: Mode>(mode: &mut M, text: &[u8], store: &mut [u8], sheet: &mut [u8]) -> u64 {
     let j = read::<M>(text);
-    let nodes = j.cells * (j.last + 1);
-    store[..2 * nodes].fill(0); // used and mark: the store may hold anything
-    let mut p = planes(store, nodes);
-    let (served, stamp) = solve(&j, &mut p, mode);
+    let positions = j.cells * (j.beyond + 1);
+    store[..2 * positions].fill(0); // used and mark: the store may hold anything
+    let mut p = planes(store, positions);
     let mut w = Writer { sheet, at: 0 };
-    if served {
-        write_plan(&j, &p, &mut w);
-    } else {
-        write_cannot(&j, &p, stamp, &mut w);
-    }
+    let answer = match solve(&j, &mut p, mode) {
+        Ok(()) => {
+            write_plan(&j, &p, &mut w);
+            PLAN
+        }
+        Err(stuck) => {
+            write_cannot(&j, &p, stuck, &mut w);
+            CANNOT
+        }
+    };
     let written = w.at;
     store.fill(0);
-    pack(if served { PLAN } else { CANNOT }, written)
+    pack(answer, written)
 }

@@ -6,7 +6,7 @@ mod planner;
 pub use map::{answer_to_map, library_on_map, map};
 pub use planner::{plan, planned};
 
-use crate::examples::tabs;
+use crate::examples::{tabs, BUFFER};
 use crate::ffi::{self, Checker, Library};
 use crate::gen::cases::Case;
 use crate::gen::Rng;
@@ -49,6 +49,14 @@ pub fn answer_to(job: &[u8]) -> (u8, usize) {
 pub fn assert_turned_back(number: u8, rows: &[(&str, usize)]) {
     for &(job, line) in rows {
         assert_eq!(answer_to(&tabs(job)), (number, line), "{job:?}");
+    }
+}
+
+/// Sheets of one job, with spaces for tabs, and what the library's check says of each: text, answer, line.
+pub fn assert_sheets(job: &str, rows: &[(&str, u8, usize)]) {
+    for &(sheet, answer, line) in rows {
+        let found = library(&tabs(job), BUFFER, &tabs(sheet));
+        assert_eq!(found, (answer, line), "{sheet:?} for {job:?}");
     }
 }
 

@@ -1,5 +1,5 @@
-//! The filed examples: jobs with the answers that whoever asked for the planner, and later for bays, wrote down. Tabs are
-//! shown as spaces. Each job is in `examples/` too, with its sheet, under its name in small letters.
+//! The filed examples: jobs with the answers that whoever asked for the planner, and later for bays and for early lifts,
+//! wrote down. Tabs are shown as spaces. Each job is in `examples/` too, with its sheet, under its name in small letters.
 
 use crate::model::answer::*;
 
@@ -19,7 +19,15 @@ pub struct Example {
     pub answer: u8,
 }
 
-pub const EXAMPLES: &[Example] = &[A, B, C, D, F, G, BAY, CLOSED];
+pub const EXAMPLES: &[Example] = &[A, B, C, D, G, BAY, CLOSED, WHOLE];
+
+/// A job that has plans. Which of them is written is left open.
+pub struct Planned {
+    pub name: &'static str,
+    pub job: &'static str,
+}
+
+pub const PLANNED: &[Planned] = &[E, F, EARLY];
 
 pub const A: Example = Example {
     name: "A",
@@ -43,18 +51,23 @@ pub const C: Example = Example { name: "C", job: "FLOOR 1\n", sheet: "PLAN 0\n",
 pub const D: Example =
     Example { name: "D", job: "FLOOR 1\nCART 0\nCALL 0 0\n", sheet: "PLAN 1\nPATH 0 0 0\n", answer: PLAN };
 
-/// D with deadline 255, which has 256 zeros in its path: job and sheet.
-pub fn e() -> (Vec<u8>, Vec<u8>) {
-    let sheet = format!("PLAN 1\nPATH 0 0{}\n", " 0".repeat(256));
-    (tabs("FLOOR 1\nCART 0\nCALL 0 255\n"), tabs(&sheet))
+/// D with deadline 255.
+pub const E: Planned = Planned { name: "E", job: "FLOOR 1\nCART 0\nCALL 0 255\n" };
+
+/// A plan of E, if the zeros are 1 to 256.
+pub fn zeros(count: usize) -> Vec<u8> {
+    tabs(&format!("PLAN 1\nPATH 0 0{}\n", " 0".repeat(count)))
 }
 
-pub const F: Example = Example {
-    name: "F",
-    job: "FLOOR 2\nTRACK 0 1\nCART 0\nCART 1\nCALL 0 1\nCALL 1 1\n",
-    sheet: "PLAN 2\nPATH 0 0 0 0\nPATH 1 1 1 1\n",
-    answer: PLAN,
-};
+/// E with a bay for its lift: job and sheet. Who parks does so at the bay's very step, so that there are 256 zeros.
+pub fn e_in_bay() -> (Vec<u8>, Vec<u8>) {
+    (tabs(&E.job.replace("CALL", "BAY")), zeros(256))
+}
+
+pub const F: Planned = Planned { name: "F", job: "FLOOR 2\nTRACK 0 1\nCART 0\nCART 1\nCALL 0 1\nCALL 1 1\n" };
+
+/// F with carts that wait for their deadlines, as it was filed at first.
+pub const F_WAITING: &str = "PLAN 2\nPATH 0 0 0 0\nPATH 1 1 1 1\n";
 
 /// F with the carts trading places.
 pub const F_TRADED: &str = "PLAN 2\nPATH 1 0 1 0\nPATH 0 1 0 1\n";
@@ -84,6 +97,27 @@ pub const CLOSED_BY_NO_BAY: Example = Example {
     sheet: "PLAN 2\nPATH 1 0 1\nPATH 0 1 0 1 2\n",
     answer: PLAN,
 };
+
+/// The carts beside cell 0 can come to it at step 1 or 2, so that no cell at a step stops both; cell 3 is out of reach.
+pub const WHOLE: Example = Example {
+    name: "whole",
+    job: "FLOOR 4\nTRACK 1 0\nTRACK 2 0\nCART 1\nCART 2\nCALL 0 2\nCALL 3 2\n",
+    sheet: "CANNOT 1\nCHOKE CALL 0\n",
+    answer: CANNOT,
+};
+
+/// Only an early lift serves it: a cart is lifted before its deadline, so that another may cross its cell.
+pub const EARLY: Planned = Planned {
+    name: "early",
+    job: "FLOOR 6\nTRACK 0 1\nTRACK 0 2\nTRACK 0 4\nTRACK 0 5\nTRACK 1 4\nTRACK 2 3\nTRACK 2 4\n\
+        CART 5\nCART 1\nCART 4\nCART 0\nCALL 2 2\nCALL 0 1\nCALL 3 2\nCALL 4 1\n",
+};
+
+/// A plan of it. Cart 3 is lifted from cell 0 at step 0, and cart 0 crosses the cell at step 1.
+pub const EARLY_PLAN: &str = "PLAN 4\nPATH 3 1 0\nPATH 1 3 1 4\nPATH 0 0 5 0 2\nPATH 2 2 4 2 3\n";
+
+/// What stops its walks that end at the deadlines, and no others: true as long as calls were met at their deadlines only.
+pub const EARLY_BY_DEADLINES: &str = "CANNOT 3\nCHOKE 0 1\nCHOKE 2 1\nCHOKE 4 1\n";
 
 /// Jobs that are turned back: text, number, line.
 pub const REFUSED: &[(&str, u8, usize)] = &[

@@ -25,10 +25,11 @@ pub enum Fault {
     IgnoresTrades,
     PassesAsManyPointsAsCalls,
     PassesDoubledPoint,
-    FreesCellAtDeadline,
+    FreesCellAtLift,
     TouchesStoreBeforeRefusal,
     PassesLinesOutOfOrder,
     LiftsCrossingCart,
+    ParksCrossingCart,
     CountsCellsByPlace,
     TakesLastCallForLargestDeadline,
     WipesLeastLengthOnly,
@@ -53,6 +54,21 @@ pub enum Fault {
     PutsHigherCellFirst,
     PutsCellBeforeDeadline,
     PutsBaysAsInJob,
+    BlocksUpToDeadline,
+    PassesEarlyBay,
+    PassesPathWithoutCell,
+    PassesPathOneTooLong,
+    RefusesEarlyLift,
+    PutsPathsByLift,
+    TakesWholeCallForItsCell,
+    TakesWholeCallForItsDeadline,
+    StopsWalksToDeadlinesOnly,
+    TakesWholeBay,
+    TakesUnknownWholeCall,
+    PassesWholeCallsFirst,
+    PassesWholeCallsFalling,
+    CountsNoWholeCalls,
+    BoundsCellsAlone,
 }
 
 /// The faults, without `None`.
@@ -60,10 +76,11 @@ pub const FAULTS: &[Fault] = &[
     Fault::IgnoresTrades,
     Fault::PassesAsManyPointsAsCalls,
     Fault::PassesDoubledPoint,
-    Fault::FreesCellAtDeadline,
+    Fault::FreesCellAtLift,
     Fault::TouchesStoreBeforeRefusal,
     Fault::PassesLinesOutOfOrder,
     Fault::LiftsCrossingCart,
+    Fault::ParksCrossingCart,
     Fault::CountsCellsByPlace,
     Fault::TakesLastCallForLargestDeadline,
     Fault::WipesLeastLengthOnly,
@@ -88,6 +105,21 @@ pub const FAULTS: &[Fault] = &[
     Fault::PutsHigherCellFirst,
     Fault::PutsCellBeforeDeadline,
     Fault::PutsBaysAsInJob,
+    Fault::BlocksUpToDeadline,
+    Fault::PassesEarlyBay,
+    Fault::PassesPathWithoutCell,
+    Fault::PassesPathOneTooLong,
+    Fault::RefusesEarlyLift,
+    Fault::PutsPathsByLift,
+    Fault::TakesWholeCallForItsCell,
+    Fault::TakesWholeCallForItsDeadline,
+    Fault::StopsWalksToDeadlinesOnly,
+    Fault::TakesWholeBay,
+    Fault::TakesUnknownWholeCall,
+    Fault::PassesWholeCallsFirst,
+    Fault::PassesWholeCallsFalling,
+    Fault::CountsNoWholeCalls,
+    Fault::BoundsCellsAlone,
 ];
 
 /// The second check with a fault.
@@ -153,14 +185,14 @@ impl Faulty {
         if self.0 == Fault::PassesDoubledPoint {
             chokes.dedup();
         }
-        let rising = (1..chokes.len()).all(|i| {
-            let (a, b) = (chokes[i - 1], chokes[i]);
-            a.step < b.step || (a.step == b.step && a.cell < b.cell)
-        });
+        let rising = order::is_rising(&chokes, self.0);
         if self.0 == Fault::TakesClosedPointForBaysStep {
             let closed = Closed::by_bays(job, self.0);
-            for point in chokes.iter_mut().filter(|point| closed.at(point.cell, point.step)) {
-                point.step = closed.last_open_step(point.cell);
+            for choke in &mut chokes {
+                match choke {
+                    Choke::Cell { step, cell } if closed.at(*cell, *step) => *step = closed.last_open_step(*cell),
+                    _ => (),
+                }
             }
         }
         rising && backwards::stops_every_walk(job, &chokes, self.0)

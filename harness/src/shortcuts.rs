@@ -1,12 +1,14 @@
-//! Shortcuts that lose a lane: eleven planners that are wrong, each on some job, four of them about bays and two about the
-//! order of the lines.
+//! Shortcuts that lose a lane: fifteen planners that are wrong, each on some job, four of them about bays, two about the
+//! order of the lines and four about early lifts.
 //!
 //! They search small jobs exhaustively but for the shortcut, so that nothing else can be the reason.
 
 mod bays;
+mod early;
 mod orders;
 
 pub use bays::*;
+pub use early::*;
 pub use orders::*;
 
 use std::slice::from_ref;
@@ -16,7 +18,7 @@ use crate::gen::plans::{plans, plans_by};
 use crate::model::job::Job;
 use crate::model::plan::{are_apart, keep_apart, share, trade};
 use crate::model::sheet::{Choke, Path};
-use crate::model::walks::{all_walks, is_stopped, Walk};
+use crate::model::walks::{all_walks, are_stopped, Walk};
 
 /// The nearest pair of cart and call first. Whether a plan is found.
 pub fn nearest_pair_first(job: &Job) -> bool {
@@ -71,8 +73,8 @@ fn paths_to(walks: &[Vec<Vec<Walk>>], call: usize) -> Vec<Path> {
     walks.iter().enumerate().flat_map(of_cart).collect()
 }
 
-/// Freeing a lift cell at its deadline instead of one step later. Whether a plan is found.
-pub fn freeing_at_the_deadline(job: &Job) -> bool {
+/// Freeing a lift cell at the step of the lift instead of one step later. Whether a plan is found.
+pub fn freeing_at_the_lift(job: &Job) -> bool {
     let apart = |one: &[usize], other: &[usize]| {
         let (one_before, other_before) = (&one[..one.len() - 1], &other[..other.len() - 1]);
         !share(one_before, other_before) && !trade(one, other)
@@ -91,16 +93,10 @@ pub fn lifting_crossing_carts(job: &Job) -> bool {
     !plans_by(job, &walks, keep_apart, 1).is_empty()
 }
 
-/// Chokes that stop only the walks the search happened to see: here for each cart and call the walk that is on the
-/// call's cell soonest. The shortest list that stops these.
+/// Chokes that stop only the walks the search happened to see: here for each cart and call the first walk, which has the
+/// fewest steps. The shortest list that stops these.
 pub fn stopping_seen_walks(job: &Job) -> Option<Vec<Choke>> {
-    let walks = all_walks(job);
-    let seen: Vec<&Walk> = walks.iter().flatten().filter_map(|walks| soonest(walks)).collect();
-    lists(job).into_iter().find(|list| seen.iter().all(|walk| is_stopped(walk, list)))
-}
-
-/// The walk of fewest steps away from the cell that all of them end on.
-fn soonest(walks: &[Walk]) -> Option<&Walk> {
-    let away = |walk: &&Walk| walk.iter().filter(|&cell| Some(cell) != walk.last()).count();
-    walks.iter().min_by_key(away)
+    let mut seen = all_walks(job);
+    seen.iter_mut().flatten().for_each(|walks| walks.truncate(1));
+    lists(job).into_iter().find(|list| are_stopped(&seen, list))
 }

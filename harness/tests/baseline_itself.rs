@@ -2,22 +2,25 @@
 //! exhaustive search finds a plan, and on larger jobs a sheet that passes the model's check.
 
 use harness::baseline::{plan, plan_by, Mode};
+use harness::gen::early::{early, early_and_joined, too_late, whole_calls};
+use harness::gen::floors::line;
 use harness::gen::plans::has_plan;
 use harness::gen::sizes::{at_the_limits, medium};
 use harness::gen::small::{small_at_one_step, small_with_bays, small_without_bays};
 use harness::gen::Rng;
 use harness::model::answer::*;
 use harness::model::check::check;
-use harness::model::job::Job;
+use harness::model::job::{Call, Job};
 use harness::model::limits::{sheet_least, store_least};
 use harness::tally::Tally;
 
 /// As the library goes.
-struct StandFirst;
+struct AsTheLibrary;
 
-impl Mode for StandFirst {
+impl Mode for AsTheLibrary {
     const STAND_FIRST: bool = true;
     const KEEP_PLACE: bool = false;
+    const EARLY: bool = false;
 }
 
 /// The answer, the same in both ways, after the model has passed both sheets.
@@ -31,7 +34,7 @@ fn answer(job: &Job) -> u8 {
     };
     let quick = plan(&text, &mut store, &mut sheet);
     let quick = passed(quick, &sheet);
-    let other = plan_by(&mut StandFirst, &text, &mut store, &mut sheet);
+    let other = plan_by(&mut AsTheLibrary, &text, &mut store, &mut sheet);
     assert_eq!(passed(other, &sheet), quick);
     quick
 }
@@ -61,6 +64,28 @@ fn small_jobs_with_bays() {
 #[test]
 fn small_jobs_with_several_calls_at_one_step() {
     try_small(small_at_one_step, 4);
+}
+
+#[test]
+fn jobs_that_only_an_early_lift_serves_and_lists_that_need_whole_calls() {
+    let mut rng = Rng::new(5);
+    for _ in 0..5000 {
+        assert_eq!(answer(&early(&mut rng).0), PLAN);
+        assert_eq!(answer(&early_and_joined(&mut rng).0), PLAN);
+        assert_eq!(answer(&too_late(&mut rng)), CANNOT);
+        assert_eq!(answer(&whole_calls(12, &mut rng).0), CANNOT);
+    }
+}
+
+/// Two steps away, and a deadline far behind them.
+#[test]
+fn short_walks_come_first() {
+    let job = Job { carts: vec![0], calls: vec![Call::lift(2, 9)], ..line(3) };
+    let (mut store, mut sheet) = (vec![1; store_least(&job)], vec![1; sheet_least(&job)]);
+    let (_, len) = unpack(plan(&job.text(), &mut store, &mut sheet));
+    assert_eq!(&sheet[..len], b"PLAN\t1\nPATH\t0\t0\t0\t0\t0\t1\t2\n");
+    let (_, len) = unpack(plan_by(&mut AsTheLibrary, &job.text(), &mut store, &mut sheet));
+    assert_eq!(&sheet[..len], b"PLAN\t1\nPATH\t0\t0\t0\t0\t0\t0\t0\t0\t0\t0\t1\t2\n");
 }
 
 #[test]

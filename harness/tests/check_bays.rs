@@ -1,16 +1,8 @@
 //! Sheets of jobs with bays, with the answers told by hand. Tabs are shown as spaces.
 
-use harness::compare::library;
-use harness::examples::{tabs, BAY, BUFFER, CLOSED, CLOSED_BY_NO_BAY};
+use harness::compare::assert_sheets;
+use harness::examples::{tabs, BAY, CLOSED, CLOSED_BY_NO_BAY};
 use harness::model::answer::*;
-
-/// Checks sheets of one job: text, answer, line.
-fn assert_rows(job: &str, rows: &[(&str, u8, usize)]) {
-    for &(sheet, answer, line) in rows {
-        let found = library(&tabs(job), BUFFER, &tabs(sheet));
-        assert_eq!(found, (answer, line), "{sheet:?} for {job:?}");
-    }
-}
 
 /// Answer and line.
 type Answer = (u8, usize);
@@ -19,14 +11,14 @@ type Answer = (u8, usize);
 fn assert_pairs(job: &str, rows: &[(&str, Answer, Answer)]) {
     let lifted = job.replace("BAY", "CALL");
     for &(sheet, with_bays, with_lifts) in rows {
-        assert_rows(job, &[(sheet, with_bays.0, with_bays.1)]);
-        assert_rows(&lifted, &[(sheet, with_lifts.0, with_lifts.1)]);
+        assert_sheets(job, &[(sheet, with_bays.0, with_bays.1)]);
+        assert_sheets(&lifted, &[(sheet, with_lifts.0, with_lifts.1)]);
     }
 }
 
 #[test]
 fn a_path_to_a_bay_has_its_step_and_one_cells() {
-    assert_rows(
+    assert_sheets(
         BAY.job,
         &[
             ("PLAN 2\nPATH 1 0 4 3 1\nPATH 0 1 0 1 2\n", PLAN, 0),
@@ -37,7 +29,7 @@ fn a_path_to_a_bay_has_its_step_and_one_cells() {
             ("PLAN 2\nPATH 1 2 4 3 1\nPATH 0 1 0 1 2\n", BAD_SHEET, 2),
         ],
     );
-    assert_rows(
+    assert_sheets(
         "FLOOR 2\nCART 0\nCART 1\nBAY 0 2\nCALL 1 0\n",
         &[
             ("PLAN 2\nPATH 1 1 1\nPATH 0 0 0 0 0\n", PLAN, 0),
@@ -50,7 +42,7 @@ fn a_path_to_a_bay_has_its_step_and_one_cells() {
 #[test]
 fn a_path_to_a_bay_stands_by_its_step() {
     // Equal ones by cell, a bay behind a call or before it.
-    assert_rows(
+    assert_sheets(
         "FLOOR 3\nCART 2\nCART 1\nCART 0\nBAY 2 1\nCALL 1 0\nCALL 0 1\n",
         &[
             ("PLAN 3\nPATH 1 1 1\nPATH 2 2 0 0\nPATH 0 0 2 2\n", PLAN, 0),
@@ -58,7 +50,7 @@ fn a_path_to_a_bay_stands_by_its_step() {
             ("PLAN 3\nPATH 2 2 0 0\nPATH 1 1 1\nPATH 0 0 2 2\n", WRONG_SHEET, 0),
         ],
     );
-    assert_rows(
+    assert_sheets(
         "FLOOR 3\nCART 2\nCART 1\nCART 0\nCALL 2 1\nBAY 1 0\nBAY 0 1\n",
         &[
             ("PLAN 3\nPATH 1 1 1\nPATH 2 2 0 0\nPATH 0 0 2 2\n", PLAN, 0),
@@ -69,7 +61,7 @@ fn a_path_to_a_bay_stands_by_its_step() {
 
 #[test]
 fn a_bay_is_met_at_exactly_its_step() {
-    assert_rows(
+    assert_sheets(
         BAY.job,
         &[
             ("PLAN 2\nPATH 1 0 4 3 3\nPATH 0 1 0 1 2\n", WRONG_SHEET, 0),
@@ -140,7 +132,7 @@ fn points_on_closed_cells_are_in_the_form() {
 
 #[test]
 fn a_bays_step_can_be_the_last() {
-    assert_rows(
+    assert_sheets(
         "FLOOR 3\nCART 0\nCART 1\nBAY 0 3\nCALL 2 1\n",
         &[
             ("CANNOT 1\nCHOKE 0 3\n", CANNOT, 0),
@@ -152,7 +144,7 @@ fn a_bays_step_can_be_the_last() {
 
 #[test]
 fn carts_that_trade_on_the_way_into_a_bay() {
-    assert_rows(
+    assert_sheets(
         "FLOOR 2\nTRACK 0 1\nCART 0\nCART 1\nBAY 1 1\nCALL 0 2\n",
         &[
             ("PLAN 2\nPATH 1 0 1 1\nPATH 0 1 0 0 0\n", PLAN, 0),
@@ -164,7 +156,7 @@ fn carts_that_trade_on_the_way_into_a_bay() {
 
 #[test]
 fn carts_that_follow_each_other_into_bays() {
-    assert_rows(
+    assert_sheets(
         "FLOOR 3\nTRACK 0 1\nTRACK 1 2\nTRACK 2 0\nCART 0\nCART 1\nCART 2\nBAY 0 1\nBAY 1 1\nBAY 2 1\n",
         &[
             ("PLAN 3\nPATH 2 0 2 0\nPATH 0 1 0 1\nPATH 1 2 1 2\n", PLAN, 0),

@@ -1,23 +1,15 @@
 //! The edges of sheets and stores, with the answers told by hand. Tabs are shown as spaces.
 
-use harness::compare::library;
+use harness::compare::{assert_sheets, library};
 use harness::examples::{tabs, A, A_BY_CALL, BUFFER};
 use harness::gen::Rng;
 use harness::model::answer::*;
 use harness::model::limits;
 
-/// Checks sheets of one job: text, answer, line.
-fn assert_rows(job: &str, rows: &[(&str, u8, usize)]) {
-    for &(sheet, answer, line) in rows {
-        let found = library(&tabs(job), BUFFER, &tabs(sheet));
-        assert_eq!(found, (answer, line), "{sheet:?} for {job:?}");
-    }
-}
-
 #[test]
 fn a_job_without_calls() {
     for job in ["FLOOR 1\n", "FLOOR 3\nTRACK 0 1\nTRACK 1 2\n"] {
-        assert_rows(
+        assert_sheets(
             job,
             &[
                 ("PLAN 0\n", PLAN, 0),
@@ -36,7 +28,7 @@ fn a_job_without_calls() {
 
 #[test]
 fn the_form_of_a_plan() {
-    assert_rows(
+    assert_sheets(
         A.job,
         &[
             ("", BAD_SHEET, 1),
@@ -55,7 +47,6 @@ fn the_form_of_a_plan() {
             ("PLAN 2\nPATH\nPATH 1 0 1 2\n", BAD_SHEET, 2),
             ("PLAN 2\nPATH 0\nPATH 1 0 1 2\n", BAD_SHEET, 2),
             ("PLAN 2\nPATH 0 1\nPATH 1 0 1 2\n", BAD_SHEET, 2),
-            ("PLAN 2\nPATH 0 1 0\nPATH 1 0 1 2\n", BAD_SHEET, 2),
             ("PLAN 2\nPATH 0 1 0 1 1\nPATH 1 0 1 2\n", BAD_SHEET, 2),
             ("PLAN 2\nPATH 0 1 0 1 \nPATH 1 0 1 2\n", BAD_SHEET, 2),
             ("PLAN 2\nPATH 0 1  1\nPATH 1 0 1 2\n", BAD_SHEET, 2),
@@ -70,20 +61,21 @@ fn the_form_of_a_plan() {
             ("PLAN 2\nPATH 0 1 0 1", BAD_SHEET, 2),
             ("PLAN 2\nPATH 0 1 0 1\n", BAD_SHEET, 3),
             ("PLAN 2\nPATH 0 1 0 1\nPATH 1 0 1 2", BAD_SHEET, 3),
-            ("PLAN 2\nPATH 0 1 0 1\nPATH 1 0 1\n", BAD_SHEET, 3),
+            ("PLAN 2\nPATH 0 1 0 1\nPATH 1 0\n", BAD_SHEET, 3),
+            ("PLAN 2\nPATH 0 1 0 1\nPATH 1 0 1 2 2\n", BAD_SHEET, 3),
             ("PLAN 2\nPATH 0 1 0 1\nPATH 1 0 1 2\n\n", BAD_SHEET, 4),
             ("PLAN 2\nPATH 0 1 0 1\nPATH 1 0 1 2\n\0", BAD_SHEET, 4),
             ("PLAN 2\nPATH 0 1 0 1\nPATH 1 0 1 2\nPATH 1 0 1 2\n", BAD_SHEET, 4),
             ("PLAN 2\nPATH 0 1 0 1\nPATH 1 0 1 2\nx\ny\n", BAD_SHEET, 4),
             // Line 2 is wrong, yet in the form; line 3 is out of it.
-            ("PLAN 2\nPATH 0 1 2 2\nPATH 1 0 1\n", BAD_SHEET, 3),
+            ("PLAN 2\nPATH 0 1 2 2\nPATH 1 0\n", BAD_SHEET, 3),
         ],
     );
 }
 
 #[test]
 fn plans_that_are_none() {
-    assert_rows(
+    assert_sheets(
         A.job,
         &[
             ("PLAN 2\nPATH 0 1 0 1\nPATH 1 0 1 2\n", PLAN, 0),
@@ -95,6 +87,8 @@ fn plans_that_are_none() {
             ("PLAN 2\nPATH 0 1 0 1\nPATH 1 0 2 2\n", WRONG_SHEET, 0),
             ("PLAN 2\nPATH 1 1 0 1\nPATH 0 0 1 2\n", WRONG_SHEET, 0),
             ("PLAN 2\nPATH 0 1 0 0\nPATH 1 0 1 2\n", WRONG_SHEET, 0),
+            ("PLAN 2\nPATH 0 1 0\nPATH 1 0 1 2\n", WRONG_SHEET, 0),
+            ("PLAN 2\nPATH 0 1 0 1\nPATH 1 0 1\n", WRONG_SHEET, 0),
             ("PLAN 2\nPATH 1 1 1 1\nPATH 0 0 0 2\n", WRONG_SHEET, 0),
         ],
     );
@@ -102,7 +96,7 @@ fn plans_that_are_none() {
 
 #[test]
 fn carts_that_follow_and_carts_that_turn_in_a_ring_are_in_no_conflict() {
-    assert_rows(
+    assert_sheets(
         "FLOOR 3\nTRACK 0 1\nTRACK 1 2\nTRACK 2 0\nCART 0\nCART 1\nCART 2\nCALL 0 1\nCALL 1 1\nCALL 2 1\n",
         &[
             ("PLAN 3\nPATH 2 0 2 0\nPATH 0 1 0 1\nPATH 1 2 1 2\n", PLAN, 0),
@@ -118,12 +112,12 @@ fn a_lift_cell_is_free_one_step_after_its_deadline() {
     // Cart 0 is lifted from cell 1 at step 1; cart 1 goes over it.
     let job =
         |deadline| format!("FLOOR 4\nTRACK 0 1\nTRACK 1 2\nTRACK 1 3\nCART 0\nCART 3\nCALL 1 1\nCALL 2 {deadline}\n");
-    assert_rows(&job(2), &[("PLAN 2\nPATH 0 0 0 1\nPATH 1 1 3 1 2\n", WRONG_SHEET, 0)]);
-    assert_rows(&job(2), &[("CANNOT 1\nCHOKE 1 1\n", CANNOT, 0)]);
-    assert_rows(&job(3), &[("PLAN 2\nPATH 0 0 0 1\nPATH 1 1 3 3 1 2\n", PLAN, 0)]);
-    assert_rows(&job(3), &[("PLAN 2\nPATH 0 0 0 1\nPATH 1 1 3 1 1 2\n", WRONG_SHEET, 0)]);
+    assert_sheets(&job(2), &[("PLAN 2\nPATH 0 0 0 1\nPATH 1 1 3 1 2\n", WRONG_SHEET, 0)]);
+    assert_sheets(&job(2), &[("CANNOT 1\nCHOKE 1 1\n", CANNOT, 0)]);
+    assert_sheets(&job(3), &[("PLAN 2\nPATH 0 0 0 1\nPATH 1 1 3 3 1 2\n", PLAN, 0)]);
+    assert_sheets(&job(3), &[("PLAN 2\nPATH 0 0 0 1\nPATH 1 1 3 1 1 2\n", WRONG_SHEET, 0)]);
     // The last step of a walk can be a trade as well.
-    assert_rows(
+    assert_sheets(
         "FLOOR 3\nTRACK 0 1\nTRACK 1 2\nCART 0\nCART 1\nCALL 1 1\nCALL 2 3\n",
         &[
             ("PLAN 2\nPATH 0 0 0 1\nPATH 1 1 1 0 1 2\n", WRONG_SHEET, 0),
@@ -134,25 +128,25 @@ fn a_lift_cell_is_free_one_step_after_its_deadline() {
 
 #[test]
 fn the_call_that_a_line_names_counts_its_cells() {
-    assert_rows(
+    assert_sheets(
         "FLOOR 2\nCART 0\nCART 1\nCALL 0 2\nCALL 1 0\n",
         &[
             ("PLAN 2\nPATH 1 1 1\nPATH 0 0 0 0 0\n", PLAN, 0),
             ("PLAN 2\nPATH 0 0 0 0 0\nPATH 1 1 1\n", WRONG_SHEET, 0),
-            ("PLAN 2\nPATH 0 0 0\nPATH 1 1 1 1 1\n", BAD_SHEET, 2),
+            ("PLAN 2\nPATH 0 0 0\nPATH 1 1 1 1 1\n", BAD_SHEET, 3),
             ("PLAN 2\nPATH 1 1 1\nPATH 1 1 1\n", WRONG_SHEET, 0),
         ],
     );
 }
 
-/// Three carts have to be on cell 0 at step 1, for their calls are due at step 2. A fourth stands on its call's cell.
-/// The largest deadline is not the last call's.
+/// Three carts have to be on cell 0 at step 1, for their calls are due at step 2. A fourth parks at step 1 where it stands.
+/// The largest deadline is not the last one.
 const GATE: &str = "FLOOR 8\nTRACK 0 1\nTRACK 0 2\nTRACK 0 3\nTRACK 0 4\nTRACK 0 5\nTRACK 0 6\n\
-    CART 1\nCART 2\nCART 3\nCART 7\nCALL 4 2\nCALL 5 2\nCALL 6 2\nCALL 7 1\n";
+    CART 1\nCART 2\nCART 3\nCART 7\nCALL 4 2\nCALL 5 2\nCALL 6 2\nBAY 7 1\n";
 
 #[test]
 fn the_form_of_a_choke_list() {
-    assert_rows(
+    assert_sheets(
         GATE,
         &[
             ("CANNOT\n", BAD_SHEET, 1),
@@ -177,7 +171,7 @@ fn the_form_of_a_choke_list() {
 
 #[test]
 fn choke_lists_true_and_not() {
-    assert_rows(
+    assert_sheets(
         GATE,
         &[
             ("CANNOT 2\nCHOKE 0 1\nCHOKE 7 1\n", CANNOT, 0),
@@ -201,10 +195,26 @@ fn choke_lists_true_and_not() {
     );
 }
 
+/// A lift takes the fourth at step 0 already.
+#[test]
+fn choke_lists_where_a_cart_stands_on_its_lift() {
+    assert_sheets(
+        &GATE.replace("BAY", "CALL"),
+        &[
+            ("CANNOT 2\nCHOKE 7 0\nCHOKE 0 1\n", CANNOT, 0),
+            ("CANNOT 2\nCHOKE 0 1\nCHOKE CALL 3\n", CANNOT, 0),
+            ("CANNOT 3\nCHOKE 0 1\nCHOKE 7 1\nCHOKE CALL 3\n", CANNOT, 0),
+            ("CANNOT 2\nCHOKE 0 1\nCHOKE 7 1\n", WRONG_SHEET, 0),
+            ("CANNOT 3\nCHOKE 0 1\nCHOKE 7 1\nCHOKE 7 2\n", WRONG_SHEET, 0),
+            ("CANNOT 3\nCHOKE CALL 0\nCHOKE CALL 1\nCHOKE CALL 2\n", WRONG_SHEET, 0),
+        ],
+    );
+}
+
 #[test]
 fn a_walk_goes_on_over_the_cell_of_a_call_not_yet_due() {
     // Cart 0 crosses cell 1 at step 1 on its way to cell 2; the call there is due at step 3.
-    assert_rows(
+    assert_sheets(
         "FLOOR 4\nTRACK 3 0\nTRACK 0 1\nTRACK 1 2\nCART 0\nCART 3\nCALL 2 2\nCALL 1 3\n",
         &[("PLAN 2\nPATH 0 0 0 1 2\nPATH 1 1 3 0 0 1\n", PLAN, 0), ("CANNOT 1\nCHOKE 1 3\n", WRONG_SHEET, 0)],
     );

@@ -1,7 +1,9 @@
 //! The filed examples, as far as the check answers them.
 
 use harness::compare::library;
-use harness::examples::{e, tabs, A, A_BY_CALL, BUFFER, D, EXAMPLES, F, F_TRADED, REFUSED};
+use harness::examples::{
+    tabs, zeros, A, A_BY_CALL, BUFFER, D, E, EARLY, EARLY_PLAN, EXAMPLES, F, F_TRADED, F_WAITING, REFUSED,
+};
 use harness::model::answer::*;
 
 #[test]
@@ -25,16 +27,26 @@ fn job_d_needs_a_store_of_4128_bytes() {
 }
 
 #[test]
-fn job_e_has_256_zeros() {
-    let (job, sheet) = e();
-    assert_eq!(library(&job, BUFFER, &sheet), (PLAN, 0));
-    let short = [&sheet[..sheet.len() - 3], b"\n"].concat();
-    assert_eq!(library(&job, BUFFER, &short), (BAD_SHEET, 2));
+fn job_e_with_1_to_256_zeros() {
+    let answer = |count| library(&tabs(E.job), BUFFER, &zeros(count));
+    assert_eq!([256, 255, 2, 1].map(answer), [(PLAN, 0); 4]);
+    assert_eq!([0, 257].map(answer), [(BAD_SHEET, 2); 2]);
 }
 
 #[test]
 fn job_f_with_a_trade_is_refused() {
+    assert_eq!(library(&tabs(F.job), BUFFER, &tabs(F_WAITING)), (PLAN, 0));
     assert_eq!(library(&tabs(F.job), BUFFER, &tabs(F_TRADED)), (WRONG_SHEET, 0));
+}
+
+#[test]
+fn job_a_with_a_path_that_ends_before_its_call() {
+    assert_eq!(library(&tabs(A.job), BUFFER, &tabs("PLAN 2\nPATH 0 1 0 1\nPATH 1 0 1\n")), (WRONG_SHEET, 0));
+}
+
+#[test]
+fn a_plan_of_the_job_that_only_an_early_lift_serves() {
+    assert_eq!(library(&tabs(EARLY.job), BUFFER, &tabs(EARLY_PLAN)), (PLAN, 0));
 }
 
 #[test]

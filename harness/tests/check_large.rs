@@ -29,10 +29,13 @@ fn try_out(job: &Job, sheet: &Sheet, tally: &mut Tally, rng: &mut Rng) {
     }
 }
 
-/// Checks a plan, changed plans, the plan in the order of the job, and the choke list that a lost call makes true, changed
-/// as well.
+/// Checks a plan, changed plans, the plan in the order of the job, the plan with lifts before later deadlines, and the choke
+/// list that a lost call makes true, changed as well.
 fn try_plan(job: &Job, paths: &[Path], tally: &mut Tally, rng: &mut Rng) {
     try_out(job, &Sheet::Plan(paths.to_vec()), tally, rng);
+    let (later, early) = put_off((job.clone(), paths.to_vec()), limits::DEADLINE.min(job.last() + 20), rng);
+    assert_eq!(answer(&later, &Sheet::Plan(early.clone())), (PLAN, 0));
+    try_out(&later, &Sheet::Plan(tampered_plan(&later, &early, rng)), tally, rng);
     try_out(job, &Sheet::Plan(tampered_plan(job, paths, rng)), tally, rng);
     let in_order_of_job = if differ(job) { WRONG_SHEET } else { PLAN };
     assert_eq!(answer(job, &Sheet::Plan(as_in_the_job(job, paths))), (in_order_of_job, 0));
@@ -123,6 +126,12 @@ fn assert_none_to_spare(job: &Job, list: &[Choke]) {
 #[test]
 fn a_star_with_255_neighbours_and_too_few_steps() {
     let (job, list) = crowded_star(255, limits::CARTS, limits::CARTS);
+    assert_none_to_spare(&job, &list);
+}
+
+#[test]
+fn a_star_with_more_steps_than_carts() {
+    let (job, list) = late_star(limits::CARTS, 7, limits::CARTS + 1);
     assert_none_to_spare(&job, &list);
 }
 

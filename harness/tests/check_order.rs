@@ -155,9 +155,10 @@ fn the_right_order_is_not_enough() {
 fn the_form_comes_before_the_order() {
     for (sheet, line) in [
         ("PLAN 1\nPATH 1 0 1 2\nPATH 0 1 0 1\n", 1),
-        ("PLAN 2\nPATH 1 0 1\nPATH 0 1 0 1\n", 2),
+        ("PLAN 2\nPATH 1 0\nPATH 0 1 0 1\n", 2),
+        ("PLAN 2\nPATH 1 0 1 2 2\nPATH 0 1 0 1\n", 2),
         ("PLAN 2\nPATH 1 0 1 3\nPATH 0 1 0 1\n", 2),
-        ("PLAN 2\nPATH 1 0 1 2\nPATH 0 1 0\n", 3),
+        ("PLAN 2\nPATH 1 0 1 2\nPATH 0 1\n", 3),
         ("PLAN 2\nPATH 1 0 1 2\nPATH 0 1 0 1", 3),
         ("PLAN 2\nPATH 1 0 1 2\nPATH 0 2 0 1\n", 3),
         ("PLAN 2\nPATH 1 0 1 2\nPATH 0 1 0 1\nPATH 0 1 0 1\n", 4),

@@ -1,11 +1,13 @@
 //! Many small jobs, with sheets of every kind: the answer and every byte as the model says.
 
 use harness::compare::library_on;
-use harness::gen::cases::{self, Kind, Known};
+use harness::gen::cases::{self, Case, Kind, Known, KINDS};
+use harness::gen::early;
 use harness::gen::small::{small, small_at_one_step, small_with_bays};
 use harness::gen::Rng;
 use harness::model::answer::*;
 use harness::model::job::Job;
+use harness::model::sheet::Sheet;
 use harness::tally::Tally;
 
 /// Tries a kind of cases on so many jobs, half of which have bays.
@@ -74,6 +76,39 @@ fn doubled_points() {
     let tally = try_out(cases::doubled_points, 7, 3000);
     tally.assert_only(&[WRONG_SHEET]);
     assert!(tally.total() >= 5_000);
+}
+
+#[test]
+fn other_lengths() {
+    let tally = try_out(cases::other_lengths, 12, 3000);
+    tally.assert_only(&[PLAN, BAD_SHEET, WRONG_SHEET]);
+    tally.assert_each(&[PLAN, BAD_SHEET, WRONG_SHEET], 2000);
+    assert!(tally.total() >= 20_000);
+}
+
+#[test]
+fn whole_calls() {
+    let tally = try_out(cases::whole_calls, 13, 3000);
+    tally.assert_only(&[CANNOT, BAD_SHEET, WRONG_SHEET]);
+    tally.assert_each(&[CANNOT, BAD_SHEET, WRONG_SHEET], 2000);
+    assert!(tally.total() >= 20_000);
+}
+
+/// Plans that need early lifts and lists that need whole calls, in every kind that needs no walks written out.
+#[test]
+fn sheets_of_jobs_about_early_lifts() {
+    let mut rng = Rng::new(14);
+    let mut tally = Tally::default();
+    for _ in 0..1000 {
+        let (job, paths) = early::early(&mut rng);
+        let (stuck, list) = early::whole_calls(5, &mut rng);
+        for known in [Known::by_sheet(job, Sheet::Plan(paths)), Known::by_sheet(stuck, Sheet::Cannot(list))] {
+            for case in KINDS.iter().flat_map(|kind| kind(&known, &mut rng)).collect::<Vec<Case>>() {
+                tally.count(library_on(&case, &mut rng).0);
+            }
+        }
+    }
+    tally.assert_each(&[PLAN, CANNOT, BAD_SHEET, WRONG_SHEET], 10_000);
 }
 
 #[test]

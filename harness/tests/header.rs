@@ -3,7 +3,7 @@
 use std::collections::BTreeSet;
 use std::fs;
 
-use harness::examples::{A, BAY, CLOSED};
+use harness::examples::{A, BAY, CLOSED, WHOLE};
 use harness::header::{assert_rows, is_ours, names, row, shown, words};
 
 const SPECS: &str = concat!(env!("CARGO_MANIFEST_DIR"), "/../crates/model/specs");
@@ -11,7 +11,7 @@ const SPECS: &str = concat!(env!("CARGO_MANIFEST_DIR"), "/../crates/model/specs"
 /// What the header has for a C program to write down, and its number.
 const NUMBERS: &[(&str, u64)] = &[
     ("CARTFLOOR_VERSION_MAJOR", 1),
-    ("CARTFLOOR_VERSION_MINOR", 3),
+    ("CARTFLOOR_VERSION_MINOR", 4),
     ("CARTFLOOR_PLAN", 0),
     ("CARTFLOOR_CANNOT", 1),
     ("CARTFLOOR_TEXT_TOO_LONG", 2),
@@ -81,7 +81,7 @@ const NUMBERS: &[(&str, u64)] = &[
 ];
 
 /// What it has that is no number.
-const TEXTS: &[(&str, &str)] = &[("CARTFLOOR_VERSION", "1.3")];
+const TEXTS: &[(&str, &str)] = &[("CARTFLOOR_VERSION", "1.4")];
 
 /// The guard of the header, and the calls, which `header_calls.rs` and `header_map.rs` hold.
 const NO_NUMBERS: &[&str] = &["CARTFLOOR_H", "cartfloor_plan", "cartfloor_check", "cartfloor_map"];
@@ -176,7 +176,7 @@ const WITH_ROOM: &str = "withRoom n (accepted j) = \
     cond (ltb n (sheetLeast j)) (refused answer.SheetTooShort 0) (accepted j)";
 const WRITTEN_PLAN: &str = "((ps : List Path) × RightPlan j ps × (b ≡ planText ps) × \
     (r ≡ number answer.Plan + 256 * length b))";
-const WRITTEN_CANNOT: &str = "⊎ ((xs : List Point) × RightChokes j xs × (b ≡ cannotText xs) × \
+const WRITTEN_CANNOT: &str = "⊎ ((xs : List Choke) × RightChokes j xs × (b ≡ cannotText xs) × \
     (r ≡ number answer.Cannot + 256 * length b) × ((ps : List Path) → Plan j ps → ⊥))";
 const JUDGED_PLAN: &str = "Judged j (plan ps) r = (RightPlan j ps × (r ≡ number answer.Plan)) \
     ⊎ ((RightPlan j ps → ⊥) × (r ≡ number answer.WrongSheet))";
@@ -195,5 +195,5 @@ fn the_definitions_have_these_numbers() {
 /// The job and the sheets that its manual shows are filed ones. `header_map.rs` holds the map and its text, which are last.
 #[test]
 fn the_examples_it_shows() {
-    assert_eq!(shown()[..4], [BAY.job, BAY.sheet, A.sheet, CLOSED.sheet]);
+    assert_eq!(shown()[..5], [BAY.job, BAY.sheet, A.sheet, CLOSED.sheet, WHOLE.sheet]);
 }

@@ -1,7 +1,7 @@
 //! The library called by the names of the C header: its limits, lengths and answers, each at its edge, and the parameters
 //! of planner and check in the order of their prototypes. `header_map.rs` has the map call. Tabs are shown as spaces.
 
-use harness::examples::{A, B, BAY, CLOSED, D, F, F_TRADED, G};
+use harness::examples::{A, B, BAY, CLOSED, D, F, F_TRADED, G, WHOLE};
 use harness::header::{answers, assert_rows, parameters, row, Row};
 
 const FOLDER: &str = env!("CARGO_TARGET_TMPDIR");
@@ -123,6 +123,8 @@ fn every_answer_by_its_name() {
         checked(BAY.job, "5344", BAY.sheet, "PLAN 0"),
         planned(CLOSED.job, "4768", "120", CLOSED.sheet, "the sheet, 4768 wiped, CANNOT 19"),
         checked(CLOSED.job, "4768", CLOSED.sheet, "CANNOT 0"),
+        planned(WHOLE.job, "4864", "120", WHOLE.sheet, "the sheet, 4864 wiped, CANNOT 22"),
+        checked(WHOLE.job, "4864", WHOLE.sheet, "CANNOT 0"),
     ];
     let long = "x".repeat(16_385);
     let refused: &[(&str, &str)] = &[

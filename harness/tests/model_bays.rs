@@ -50,9 +50,9 @@ fn the_walks_past_a_bay() {
     let job = job("FLOOR 3\nTRACK 0 1\nTRACK 1 2\nCART 0\nCART 1\nBAY 1 1\nCALL 2 3\n");
     let walks = all_walks(&job);
     assert_eq!(walks[0][0], [vec![0, 1]]);
-    assert_eq!(walks[0][1], [vec![0, 1, 2, 2]]);
+    assert_eq!(walks[0][1], [vec![0, 1, 2], vec![0, 1, 2, 2]]);
     assert_eq!(walks[1][0], [vec![1, 1]]);
-    assert_eq!(walks[1][1], [vec![1, 1, 2, 2], vec![1, 2, 2, 2]]);
+    assert_eq!(walks[1][1], [vec![1, 2], vec![1, 1, 2], vec![1, 2, 2], vec![1, 1, 2, 2], vec![1, 2, 2, 2]]);
 }
 
 #[test]

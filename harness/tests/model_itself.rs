@@ -2,11 +2,15 @@
 
 use std::fs;
 
-use harness::examples::{tabs, EXAMPLES};
-use harness::gen::lists::{lists, true_lists};
+use harness::examples::{tabs, BUFFER, EXAMPLES, PLANNED};
+use harness::gen::early::about_early_lifts;
+use harness::gen::lists::{lists, some_points, true_lists};
 use harness::gen::plans::{has_plan, plans};
 use harness::gen::small::small;
 use harness::gen::Rng;
+use harness::model::answer::PLAN;
+use harness::model::check::check;
+use harness::model::job::Job;
 use harness::model::plan::is_plan;
 use harness::model::sheet::Sheet;
 use harness::model::{choke, reader, sheet, walks};
@@ -44,8 +48,27 @@ fn layers_and_walks_agree_on_choke_lists() {
     assert!(stopped > 500, "only {stopped} lists were true");
 }
 
+/// On the jobs about early lifts too, of whose lists, more than can be counted, some are tried.
+#[test]
+fn layers_and_walks_agree_about_early_lifts() {
+    let mut rng = Rng::new(4);
+    let mut stopped = 0;
+    let jobs: Vec<Job> = (0..1000).map(|_| about_early_lifts(&mut rng)).filter(walks::can_be_written_out).collect();
+    assert!(jobs.len() > 700);
+    for job in jobs {
+        for _ in 0..10 {
+            let count = rng.below(3 * job.calls.len());
+            let list = some_points(&job, count, &mut rng);
+            let by_layers = choke::stops_every_walk(&job, &list);
+            assert_eq!(by_layers, walks::stops_every_walk(&job, &list), "{list:?} for {job:?}");
+            stopped += usize::from(by_layers);
+        }
+    }
+    assert!(stopped > 50, "only {stopped} lists were true");
+}
+
 /// A plan needs a cart of its own for each call, so fewer points than calls cannot stop all its walks; and where there
-/// is no plan, there is a list (Menger's theorem).
+/// is no plan, there is a list (Menger's theorem, with a node for each call behind its cell at every step in time).
 #[test]
 fn a_job_has_either_a_plan_or_a_true_choke_list() {
     let mut rng = Rng::new(3);
@@ -61,6 +84,23 @@ fn the_example_files_are_the_filed_examples() {
         let name = example.name.to_lowercase();
         let [job, sheet] = ["job", "sheet"].map(|end| fs::read(format!("{FILES}/{name}.{end}")).expect("an example"));
         assert_eq!((job, sheet), (tabs(example.job), tabs(example.sheet)), "{name}");
+    }
+    // Of their plans one may stand there.
+    for example in PLANNED {
+        let file = format!("{FILES}/{}", example.name.to_lowercase());
+        assert_eq!(fs::read(format!("{file}.job")).expect("an example"), tabs(example.job), "{file}");
+        if let Ok(sheet) = fs::read(format!("{file}.sheet")) {
+            assert_eq!(check(&tabs(example.job), BUFFER, &sheet), (PLAN, 0), "{file}");
+        }
+    }
+}
+
+/// All but E's, whose plans have 1 to 256 cells.
+#[test]
+fn the_others_have_several_plans() {
+    for example in PLANNED.iter().filter(|example| example.name != "E") {
+        let job = reader::read(&tabs(example.job)).expect("a filed job");
+        assert!(plans(&job, usize::MAX).len() > 1, "job {}", example.name);
     }
 }
 

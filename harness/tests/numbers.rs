@@ -6,10 +6,12 @@ use std::ops::RangeInclusive;
 
 use harness::compare::{plan, show};
 use harness::examples::tabs;
+use harness::gen::large::late_star;
 use harness::gen::Rng;
 use harness::model::answer::*;
 use harness::model::limits::{self, sheet_least, store_least};
 use harness::model::reader;
+use harness::model::sheet::Sheet;
 use harness::program::{assert_rows, floormap, floorplan, refused, Row};
 
 fn lines(count: usize, line: impl Fn(usize) -> String) -> String {
@@ -38,7 +40,7 @@ impl Seen {
     }
 }
 
-/// Carts that stand on their calls' cells, on a floor without a track: there is one plan.
+/// Carts that stand in their bays, on a floor without a track: there is one plan.
 #[test]
 fn plans() {
     let counts = (0..=limits::CARTS).map(|carts| (carts, 0, 0));
@@ -47,7 +49,7 @@ fn plans() {
     let seen = counts.chain(cells).chain(long).map(|(carts, first, deadline)| {
         let floor = format!("FLOOR {}\n", limits::CELLS);
         let starts = lines(carts, |i| format!("CART {}\n", first + i));
-        let calls = lines(carts, |i| format!("CALL {} {deadline}\n", first + i));
+        let calls = lines(carts, |i| format!("BAY {} {deadline}\n", first + i));
         let path = |i| format!("PATH {i} {i}{}\n", format!(" {}", first + i).repeat(deadline + 1));
         let sheet = tabs(&format!("PLAN {carts}\n{}", lines(carts, path)));
         assert_eq!(planned(&(floor + &starts + &calls)), (PLAN, sheet.clone()));
@@ -60,39 +62,57 @@ fn plans() {
     seen.assert_all("PATH", 2, 0..=limits::CELLS - 1);
 }
 
-/// Of the carts all but the last stand on their calls' cells, and the last can never come to its call: a list with fewer
-/// points than calls has just one point for each of the others, on its cell.
-fn stuck(cells: &[usize], deadline: usize) -> String {
+/// Carts that park where they stand at step 0, and one more that can never come to its call: a list with fewer points than
+/// calls has just one point for each of the others, on its cell.
+fn parked(cells: &[usize]) -> String {
     let free: Vec<usize> = (0..limits::CELLS).filter(|cell| !cells.contains(cell)).take(2).collect();
-    let cart = |cell: &usize| format!("CART {cell}\n");
-    let call = |cell: &usize| format!("CALL {cell} {deadline}\n");
-    let carts: String = cells.iter().chain([&free[0]]).map(cart).collect();
-    let calls: String = cells.iter().chain([&free[1]]).map(call).collect();
-    format!("FLOOR {}\n{carts}{calls}", limits::CELLS)
+    let carts: String = cells.iter().chain([&free[0]]).map(|cell| format!("CART {cell}\n")).collect();
+    let bays: String = cells.iter().map(|cell| format!("BAY {cell} 0\n")).collect();
+    format!("FLOOR {}\n{carts}{bays}CALL {} 0\n", limits::CELLS, free[1])
 }
 
+/// Two carts beside a bay, and a call that neither comes to: the only cell on which both have to be is the bay's, at its
+/// step.
+fn beside(bay: usize, step: usize) -> String {
+    let [one, other, lost] = [1, 2, 3].map(|far| (bay + far) % limits::CELLS);
+    let tracks = format!("TRACK {bay} {one}\nTRACK {other} {bay}\n");
+    format!("FLOOR {}\n{tracks}CART {one}\nCART {other}\nBAY {bay} {step}\nCALL {lost} 0\n", limits::CELLS)
+}
+
+/// Each job has one list alone.
 #[test]
 fn choke_lists() {
-    // At step 0, so that there is one list.
     let counts = (0..limits::CALLS).map(|points| (0..points).collect());
     let cells = (0..limits::CELLS).map(|cell| vec![cell]);
-    let lists = counts.chain(cells).map(|cells: Vec<usize>| {
+    let at_step_0 = counts.chain(cells).map(|cells: Vec<usize>| {
         let points = lines(cells.len(), |i| format!("CHOKE {} 0\n", cells[i]));
-        let sheet = tabs(&format!("CANNOT {}\n{points}", cells.len()));
-        assert_eq!(planned(&stuck(&cells, 0)), (CANNOT, sheet.clone()));
-        sheet
+        (parked(&cells), format!("CANNOT {}\n{points}", cells.len()))
     });
-    // At any step that the cart stands there: whichever the planner takes, the deadlines make it take each.
-    let steps = (0..=limits::DEADLINE).map(|deadline| {
-        let (answer, sheet) = planned(&stuck(&[7], deadline));
-        let mut right = (0..=deadline).map(|step| tabs(&format!("CANNOT 1\nCHOKE 7 {step}\n")));
-        assert!(answer == CANNOT && right.any(|right| right == sheet), "{}", show(&sheet));
-        sheet
+    let later = (1..=limits::DEADLINE).flat_map(|step| {
+        let both = [step, limits::DEADLINE - step].map(|cell| (cell, step));
+        both.map(|(cell, step)| (beside(cell, step), format!("CANNOT 1\nCHOKE {cell} {step}\n")))
     });
-    let seen = Seen(lists.chain(steps).collect());
+    let seen = at_step_0.chain(later).map(|(job, sheet)| {
+        assert_eq!(planned(&job), (CANNOT, tabs(&sheet)), "{job:?}");
+        tabs(&sheet)
+    });
+    let seen = Seen(seen.collect());
     seen.assert_all("CANNOT", 0, 0..=limits::CALLS - 1);
     seen.assert_all("CHOKE", 0, 0..=limits::CELLS - 1);
     seen.assert_all("CHOKE", 1, 0..=limits::DEADLINE);
+}
+
+/// Every call but one as a whole, whichever that one is.
+#[test]
+fn whole_calls() {
+    let seen = (0..limits::CALLS).map(|lost| {
+        let (job, list) = late_star(limits::CARTS, lost, limits::CARTS + 1);
+        let sheet = Sheet::Cannot(list).text();
+        assert_eq!(planned(std::str::from_utf8(&job.text()).expect("a text")), (CANNOT, sheet.clone()));
+        sheet
+    });
+    let seen = Seen(seen.collect());
+    seen.assert_all("CHOKE", 1, 0..=limits::CALLS - 1);
 }
 
 /// The first places of 64 by 4 are cells, row by row.

@@ -1,7 +1,7 @@
 //! The filed examples, as the planner answers them: numbers and bytes.
 
 use harness::compare::plan;
-use harness::examples::{e, tabs, BUFFER, D, EXAMPLES, REFUSED};
+use harness::examples::{e_in_bay, tabs, BUFFER, D, EXAMPLES, PLANNED, REFUSED};
 use harness::ffi;
 use harness::gen::Rng;
 use harness::model::answer::{unpack, PLAN, STORE_TOO_SHORT};
@@ -26,9 +26,17 @@ fn job_d_needs_a_store_of_4128_bytes() {
 }
 
 #[test]
-fn job_e_has_256_zeros() {
-    let (job, sheet) = e();
+fn job_e_with_a_bay_has_256_zeros() {
+    let (job, sheet) = e_in_bay();
     assert_eq!(planned(&job), (PLAN, sheet));
+}
+
+/// Which plan is left open; the comparison holds it against the model.
+#[test]
+fn the_others_are_planned() {
+    for example in PLANNED {
+        assert_eq!(planned(&tabs(example.job)).0, PLAN, "job {}", example.name);
+    }
 }
 
 #[test]

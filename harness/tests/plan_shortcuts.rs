@@ -1,7 +1,7 @@
 //! The shortcuts that lose a lane: for each a job on which it is wrong, and the planner is right.
 
 use harness::compare::{library, plan};
-use harness::examples::{tabs, A, A_BY_CALL, BAY, BUFFER, CLOSED};
+use harness::examples::{tabs, A, A_BY_CALL, BAY, BUFFER, CLOSED, EARLY, EARLY_BY_DEADLINES};
 use harness::gen::plans::has_plan;
 use harness::gen::Rng;
 use harness::model::answer::*;
@@ -38,10 +38,10 @@ fn never_taking_back_a_path() {
 }
 
 #[test]
-fn freeing_a_lift_cell_at_its_deadline() {
+fn freeing_a_lift_cell_at_the_lift() {
     // Both carts have to be on cell 1 at step 1, one to be lifted, one to go on to cell 2.
     let job = job("FLOOR 4\nTRACK 0 1\nTRACK 1 2\nTRACK 1 3\nCART 0\nCART 3\nCALL 1 1\nCALL 2 2\n");
-    assert!(freeing_at_the_deadline(&job));
+    assert!(freeing_at_the_lift(&job));
     assert_eq!(right_answer(&job), CANNOT);
 }
 
@@ -112,7 +112,42 @@ fn going_by_cell_with_no_thought_of_the_deadlines() {
     // The call on the lower cell is due later.
     let job = job("FLOOR 2\nCART 0\nCART 1\nCALL 0 1\nCALL 1 0\n");
     let sheet = going_by_cell_alone(&job).expect("a plan").text();
-    assert_eq!(sheet, tabs("PLAN 2\nPATH 0 0 0 0\nPATH 1 1 1\n"));
+    assert_eq!(sheet, tabs("PLAN 2\nPATH 0 0 0\nPATH 1 1 1\n"));
+    assert_eq!(library(&job.text(), BUFFER, &sheet), (WRONG_SHEET, 0));
+    assert_eq!(right_answer(&job), PLAN);
+}
+
+#[test]
+fn waiting_for_the_deadline_of_a_lift() {
+    // A cart has to be lifted at step 0 from a cell that another crosses at step 1, the deadline there.
+    let job = job(EARLY.job);
+    assert!(!waiting_for_the_deadline(&job));
+    assert_eq!(right_answer(&job), PLAN);
+}
+
+#[test]
+fn chokes_for_the_walks_to_deadlines() {
+    let job = job(EARLY.job);
+    let sheet = Sheet::Cannot(stopping_walks_to_deadlines(&job).expect("a list")).text();
+    assert_eq!(sheet, tabs(EARLY_BY_DEADLINES));
+    assert_eq!(library(&job.text(), BUFFER, &sheet), (WRONG_SHEET, 0));
+    assert_eq!(right_answer(&job), PLAN);
+}
+
+#[test]
+fn parking_before_the_step_of_a_bay() {
+    // The same with bays for the two calls that may have to be met early.
+    let job = job(&EARLY.job.replace("CALL 0 1", "BAY 0 1").replace("CALL 4 1", "BAY 4 1"));
+    assert!(parking_early(&job));
+    assert_eq!(right_answer(&job), CANNOT);
+}
+
+#[test]
+fn whole_calls_against_carts_that_cross_their_cells() {
+    // The only way to cell 2 leads over cell 1, where there is a lift too.
+    let job = job("FLOOR 4\nTRACK 3 0\nTRACK 0 1\nTRACK 1 2\nCART 0\nCART 3\nCALL 2 2\nCALL 1 3\n");
+    let sheet = Sheet::Cannot(stopping_crossing_walks(&job).expect("a list")).text();
+    assert_eq!(sheet, tabs("CANNOT 1\nCHOKE CALL 1\n"));
     assert_eq!(library(&job.text(), BUFFER, &sheet), (WRONG_SHEET, 0));
     assert_eq!(right_answer(&job), PLAN);
 }

@@ -3,8 +3,12 @@
 
 use std::fs;
 use std::path::PathBuf;
+use std::process::Command;
 
-use harness::examples::{e, tabs, BUFFER, D, EXAMPLES, REFUSED};
+use harness::child::{finish, piped, Ended};
+use harness::examples::{e_in_bay, tabs, BUFFER, D, EXAMPLES, PLANNED, REFUSED};
+use harness::model::answer::PLAN;
+use harness::model::check::check;
 use harness::model::limits::{sheet_least, store_least, TEXT};
 use harness::model::reader;
 use harness::program::{self, floorplan, refused, row, Row};
@@ -20,27 +24,46 @@ fn the_filed_examples() {
     let mut rows: Vec<Row> = EXAMPLES.iter().map(|x| row(x.name, tabs(x.job), x.sheet)).collect();
     rows.push(row("256 cells", tabs("FLOOR 256\n"), "PLAN 0\n"));
     rows.extend(REFUSED.iter().map(|&(job, number, line)| refused(&format!("{job:?}"), tabs(job), number, line)));
-    let (job, sheet) = e();
-    rows.push(Row { name: "E".to_string(), pieces: vec![job], expected: sheet });
+    let (job, sheet) = e_in_bay();
+    rows.push(Row { name: "E with a bay".to_string(), pieces: vec![job], expected: sheet });
     assert_rows(rows);
 }
 
-/// Every job of the folder. Those without a sheet of their own need a longer store than the program has.
+/// Which plan is left open, so that what the program writes is held against the model.
+#[test]
+fn the_examples_with_several_plans() {
+    for example in PLANNED {
+        assert_planned(example.name, tabs(example.job));
+    }
+}
+
+fn assert_planned(name: &str, job: Vec<u8>) {
+    let child = piped(Command::new(floorplan())).spawn().expect("a program that starts");
+    let Ended { status, out, err } = finish(child, vec![job.clone()]).expect("a program that ends");
+    assert_eq!((status.code(), err), (Some(0), Vec::new()), "{name}");
+    assert_eq!(check(&job, BUFFER, &out), (PLAN, 0), "{name}");
+}
+
+/// Every job of the folder. Those that are no filed examples need a longer store than the program has.
 #[test]
 fn the_example_files() {
     let files = fs::read_dir(EXAMPLE_FILES).expect("a folder of examples").map(|file| file.expect("a file").path());
     let jobs: Vec<_> = files.filter(|file| file.extension().is_some_and(|end| end == "job")).collect();
-    assert!(jobs.len() >= 11, "{} jobs in {EXAMPLE_FILES}", jobs.len());
+    assert!(jobs.len() >= 13, "{} jobs in {EXAMPLE_FILES}", jobs.len());
     let example = |file: PathBuf| {
         let (name, job) = (file.display().to_string(), fs::read(&file).expect("a job"));
+        if PLANNED.iter().any(|example| tabs(example.job) == job) {
+            assert_planned(&name, job);
+            return None;
+        }
         if let Ok(expected) = fs::read(file.with_extension("sheet")) {
-            return Row { name, pieces: vec![job], expected };
+            return Some(Row { name, pieces: vec![job], expected });
         }
         let least = store_least(&reader::read(&job).expect("a right job"));
         assert!(least > BUFFER, "{name} has no sheet and needs a store of {least} bytes");
-        refused(&name, job, 9, 0)
+        Some(refused(&name, job, 9, 0))
     };
-    assert_rows(jobs.into_iter().map(example).collect());
+    assert_rows(jobs.into_iter().filter_map(example).collect());
 }
 
 /// The cells round cell 0 and a track to each: 256 lines, and one more.
@@ -85,7 +108,12 @@ fn every_refusal_of_a_job() {
     ]);
 }
 
-/// The carts stand where their calls are. Where no track leads from their cells, this is the only plan.
+/// The job with bays for its calls.
+fn in_bays(job: String) -> String {
+    job.replace("CALL", "BAY")
+}
+
+/// The carts stand where their bays are. Where no track leads from their cells, this is the only plan.
 fn standing(carts: usize, deadline: usize) -> String {
     let path = |i| format!("PATH {i} {i}{}\n", format!(" {i}").repeat(deadline + 1));
     format!("PLAN {carts}\n{}", (0..carts).map(path).collect::<String>())
@@ -97,9 +125,9 @@ fn standing(carts: usize, deadline: usize) -> String {
 fn the_longest_store_that_a_job_may_need() {
     let apart = |cells: usize, deadline| format!("FLOOR {cells}\nTRACK 1 2\nCART 0\nCALL 0 {deadline}\n");
     let passing = [
-        ("192 cells, 10 steps", loose(192, 1, 1, 9), standing(1, 9)),
-        ("13 cells, a track, 128 steps", apart(13, 127), standing(1, 127)),
-        ("64 carts, 30 steps", loose(64, 64, 64, 29), standing(64, 29)),
+        ("192 cells, 10 steps", in_bays(loose(192, 1, 1, 9)), standing(1, 9)),
+        ("13 cells, a track, 128 steps", in_bays(apart(13, 127)), standing(1, 127)),
+        ("64 carts, 30 steps", in_bays(loose(64, 64, 64, 29)), standing(64, 29)),
     ];
     let failing = [
         ("113 cells, 17 steps", loose(113, 1, 1, 16)),

@@ -9,15 +9,19 @@ use std::os::unix::process::ExitStatusExt;
 use std::process::{Child, Command};
 
 use harness::child::{finish, piped, Ended};
-use harness::examples::{e, tabs, REFUSED};
+use harness::examples::{e_in_bay, tabs, REFUSED};
 use harness::program::{floormap, floorplan};
 
 /// Runs each program on a text that has an answer of some length, and on one that is refused.
 fn runs(start: impl Fn(&str) -> Child) -> [Ended; 4] {
     let row = ".".repeat(64);
     let map = format!("type octile\nheight 4\nwidth 64\nmap\n{row}\n{row}\n{row}\n{row}\n").into_bytes();
-    let inputs =
-        [(floorplan(), e().0), (floorplan(), tabs(REFUSED[1].0)), (floormap(), map), (floormap(), b"type\n".to_vec())];
+    let inputs = [
+        (floorplan(), e_in_bay().0),
+        (floorplan(), tabs(REFUSED[1].0)),
+        (floormap(), map),
+        (floormap(), b"type\n".to_vec()),
+    ];
     inputs.map(|(program, input)| finish(start(program), vec![input]).expect("a program that ends"))
 }
 

@@ -3,6 +3,7 @@
 use std::thread;
 
 use harness::ffi::{check, map, plan, Library};
+use harness::gen::early::early_many_times;
 use harness::gen::floors::*;
 use harness::gen::large::*;
 use harness::gen::maps::{corridor, scattered, Drawing};
@@ -37,6 +38,8 @@ fn right_sheets() -> Vec<(Job, Sheet, u8)> {
     let (crowded, middle) = crowded_star(255, limits::CARTS, limits::CARTS);
     let (others, _) = moving(grid(15, 17), limits::CARTS - 1, 100, limits::DEADLINE, &mut Rng::new(4));
     let (lost, ends) = with_lost_call(others);
+    let (early, early_paths) = early_many_times(16, 12, 12, &mut Rng::new(8));
+    let (late, calls) = late_star(limits::CARTS, 0, limits::DEADLINE);
     vec![
         (still, Sheet::Plan(still_paths), PLAN),
         (moved, Sheet::Plan(paths), PLAN),
@@ -44,6 +47,8 @@ fn right_sheets() -> Vec<(Job, Sheet, u8)> {
         (shut, Sheet::Cannot(bay), CANNOT),
         (crowded, Sheet::Cannot(middle), CANNOT),
         (lost, Sheet::Cannot(ends), CANNOT),
+        (early, Sheet::Plan(early_paths), PLAN),
+        (late, Sheet::Cannot(calls), CANNOT),
     ]
 }
 

@@ -7,4 +7,6 @@ pub mod PathPlan
 pub mod CutOrder
 pub mod CutInsert
 pub mod CutLine
+pub mod CutApart
+pub mod CutWritten
 pub mod CutLaws

@@ -1,4 +1,4 @@
-// The paths of the plan: each followed from its call back to step 0.
+// The paths of the plan: each followed from the step at which its call is met back to step 0.
 use model::Limits;
 use model::bytes::wide;
 use network::planes::Grid;
@@ -19,7 +19,7 @@ ghost use Rattle.answer.specs.Trail.{HasCart, CameFrom, Trail};
 
 // The cell that the cart on the node, at a step after 0, came from. Two carts that would trade places both stand instead.
 fn came_from(store: &[u8], grid: Grid, node: Node) -> usize
-    requires { ⌜ ((j : model.Job) × Holds j grid (now store) × HasCart j (now store) (asPoint node)) × (0 < node .step) ⌝ }
+    requires { ⌜ ((j : model.Job) × Holds j grid (now store) × HasCart j (now store) (asPoint node)) × (0 < node .step) × (node .step < grid .top) ⌝ }
     ensures { λ r. ⌜ ((j : model.Job) → Holds j grid (now (store .entry)) → HasCart j (now (store .entry)) (asPoint node) → CameFrom j (now (store .entry)) (asPoint node) r) ⌝ }
 {
     let cell = node.cell;
@@ -37,7 +37,7 @@ fn came_from(store: &[u8], grid: Grid, node: Node) -> usize
 
 // Follows the cart on the node back to step 0. Its cells go into the row, and the first of them is the answer.
 fn follow(store: &[u8], grid: Grid, row: &mut [u8], node: Node) -> usize
-    requires { ⌜ ((j : model.Job) × Holds j grid (now store) × HasCart j (now store) (asPoint node)) × (node .step < length (now row)) ⌝ }
+    requires { ⌜ ((j : model.Job) × Holds j grid (now store) × HasCart j (now store) (asPoint node)) × (node .step < length (now row)) × (node .step < grid .top) ⌝ }
     ensures { λ r. ⌜ ((j : model.Job) → Holds j grid (now (store .entry)) → HasCart j (now (store .entry)) (asPoint node) → Trail j (now (store .entry)) (asPoint node) (now (row .entry)) (now (row .exit)) r) ⌝ }
 {
     let cell = node.cell;
@@ -59,9 +59,8 @@ fn follow(store: &[u8], grid: Grid, row: &mut [u8], node: Node) -> usize
 }
 
 // The carts' numbers go into first, the last steps into lasts, the cells of the i-th path into row i. The calls' numbers stand in second, in their order.
-pub fn write_paths<'a>(
-    targets: &'a [u8; Limits::CALLS],
-    deadlines: &'a [u8; Limits::CALLS],
+pub fn write_paths(
+    targets: &[u8; Limits::CALLS],
     calls: usize,
     cart_on: &[u8],
     store: &[u8],
@@ -71,19 +70,23 @@ pub fn write_paths<'a>(
     lasts: &mut [u8],
     rows: &mut [u8],
 )
-    requires { ⌜ ((j : model.Job) × FullFlow j (now targets) (now deadlines) calls (now «cart_on») (now second) grid (now store)) × Room (now first) (now second) (now lasts) (now rows) ⌝ }
-    ensures { λ _. ⌜ Room (now (first .exit)) (now (second .entry)) (now (lasts .exit)) (now (rows .exit)) × ((j : model.Job) → FullFlow j (now (targets .entry)) (now (deadlines .entry)) calls (now («cart_on» .entry)) (now (second .entry)) grid (now (store .entry)) → RightPlan j (pathsTo (now (first .exit)) (now (second .entry)) (now (lasts .exit)) (now (rows .exit)) (length (j .calls)))) ⌝ }
+    requires { ⌜ ((j : model.Job) × FullFlow j (now targets) calls (now «cart_on») (now second) grid (now store)) × Room (now first) (now second) (now lasts) (now rows) ⌝ }
+    ensures { λ _. ⌜ Room (now (first .exit)) (now (second .entry)) (now (lasts .exit)) (now (rows .exit)) × ((j : model.Job) → FullFlow j (now (targets .entry)) calls (now («cart_on» .entry)) (now (second .entry)) grid (now (store .entry)) → RightPlan j (pathsTo (now (first .exit)) (now (second .entry)) (now (lasts .exit)) (now (rows .exit)) (length (j .calls)))) ⌝ }
 {
     let mut i = 0;
     while i < calls {
         let q = wide(second[i]);
         let cell = wide(targets[q]);
-        let step = wide(deadlines[q]);
+        let call = Node {
+            cell,
+            step: grid.top,
+        };
+        let step = prev(store, grid, place(grid, call));
         let a = i * Limits::STEPS;
         let e = a + Limits::STEPS;
         let c = follow(store, grid, &mut rows[a..e], Node { cell, step });
         first[i] = cart_on[c] - 1;
-        lasts[i] = deadlines[q];
+        lasts[i] = step as u8;
         i += 1;
     }
 }

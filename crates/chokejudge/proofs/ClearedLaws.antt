@@ -8,29 +8,28 @@ use native.Mathlib.Nat.{eq-or-lt-of-le}
 use lib.ListN.{length, getD, set, length-set}
 use Rattle.floor.proofs.TableLaws.{AfterSet, new, old, after-set}
 use Rattle.chokejudge.specs.ChokeLayers.{Choked}
-use Rattle.chokejudge.specs.Grown.{Between, Cleared, Climbs, Cursor}
+use Rattle.chokejudge.specs.Grown.{RangeHas, Between, Cleared, Climbs, Cursor}
 use Rattle.chokejudge.proofs.Numbers.{below-or}
-use Rattle.chokejudge.proofs.Ranges.{between-more}
+use Rattle.chokejudge.proofs.Ranges.{among-more}
 
-pub cleared-none : (cells : List ℕ) (a : ℕ) (l : List ℕ) → Cleared (Between cells a a) l l
-cleared-none cells a l = record { size = refl; gone = λ v p. absurd (omega (arith, p .1, p .2)); each = λ v. inl refl }
+pub cleared-none : (f : ℕ → ℕ) (a : ℕ) (l : List ℕ) → Cleared (RangeHas f a a) l l
+cleared-none f a l = record { size = refl; gone = λ v p. absurd (omega (arith, p .1, p .2)); each = λ v. inl refl }
 
-pub cleared-more : (cells : List ℕ) (a i : ℕ) (l₀ l : List ℕ) → a ≤ i → getD cells i 0 < length l → Cleared (Between cells a i) l₀ l
-    → Cleared (Between cells a (i + 1)) l₀ (set l (getD cells i 0) 0)
-cleared-more cells a i l₀ l h g r = record {
-  size = length-set l (getD cells i 0) 0 ∙ r .size;
-  gone = λ v p. gone v (after-set l (getD cells i 0) 0 v g) (between-more cells a i v h .0 p);
-  each = λ v. each v (after-set l (getD cells i 0) 0 v g);
+pub cleared-more : (f : ℕ → ℕ) (a i : ℕ) (l₀ l : List ℕ) → a ≤ i → f i < length l → Cleared (RangeHas f a i) l₀ l → Cleared (RangeHas f a (i + 1)) l₀ (set l (f i) 0)
+cleared-more f a i l₀ l h g r = record {
+  size = length-set l (f i) 0 ∙ r .size;
+  gone = λ v p. gone v (after-set l (f i) 0 v g) (among-more f a i v h .0 p);
+  each = λ v. each v (after-set l (f i) 0 v g);
 }
   where
-    gone : (v : ℕ) → AfterSet l (getD cells i 0) 0 v → Between cells a i v ⊎ (getD cells i 0 ≡ v) → getD (set l (getD cells i 0) 0) v 0 ≡ 0
-    gone v (new e f) p = f
-    gone v (old e f) (inl p) = f ∙ r .gone v p
-    gone v (old e f) (inr p) = absurd (e (sym p))
+    gone : (v : ℕ) → AfterSet l (f i) 0 v → RangeHas f a i v ⊎ (f i ≡ v) → getD (set l (f i) 0) v 0 ≡ 0
+    gone v (new e d) p = d
+    gone v (old e d) (inl p) = d ∙ r .gone v p
+    gone v (old e d) (inr p) = absurd (e (sym p))
 
-    each : (v : ℕ) → AfterSet l (getD cells i 0) 0 v → (getD (set l (getD cells i 0) 0) v 0 ≡ getD l₀ v 0) ⊎ Between cells a (i + 1) v
-    each v (new e f) = inr (between-more cells a i v h .1 (inr (sym e)))
-    each v (old e f) = ⊎-elim (λ z. inl (f ∙ z)) (λ p. inr (between-more cells a i v h .1 (inl p))) (r .each v)
+    each : (v : ℕ) → AfterSet l (f i) 0 v → (getD (set l (f i) 0) v 0 ≡ getD l₀ v 0) ⊎ RangeHas f a (i + 1) v
+    each v (new e d) = inr (among-more f a i v h .1 (inr (sym e)))
+    each v (old e d) = ⊎-elim (λ z. inl (d ∙ z)) (λ p. inr (among-more f a i v h .1 (inl p))) (r .each v)
 
 pub cleared-as : {P Q : ℕ → Type 0} {l₀ l : List ℕ} → ((v : ℕ) → P v ↔ Q v) → Cleared P l₀ l → Cleared Q l₀ l
 cleared-as e r = record { size = r .size; gone = λ v q. r .gone v (e v .1 q); each = λ v. ⊎-elim (λ z. inl z) (λ p. inr (e v .0 p)) (r .each v) }

@@ -12,7 +12,7 @@ use Rattle.job.specs.Held.{Some}
 use Rattle.floor.proofs.TableLaws.{AfterSet, new, old, after-set}
 use Rattle.chokejudge.specs.Grown.{Between, Older, Roomy, Grown}
 use Rattle.chokejudge.proofs.Numbers.{zero-or}
-use Rattle.chokejudge.proofs.Ranges.{some-more, between-more}
+use Rattle.chokejudge.proofs.Ranges.{some-more, among-more}
 use Rattle.chokejudge.proofs.MemberLaws.{members-le, members-room, members-add}
 
 pub in-queue : {l queue : List ℕ} {n : ℕ} → Roomy l queue n → n ≤ length queue
@@ -138,11 +138,11 @@ pub each-more : (list : List ℕ) (S : ℕ → ℕ → Type 0) (a i : ℕ) → a
 each-more list S a i h g g′ = grown-as (λ v. (there v, back v)) (grown-then g g′)
   where
     there : (v : ℕ) → Each list a i S v ⊎ S (getD list i 0) v → Each list a (i + 1) S v
-    there v (inl (u, b, p)) = (u, between-more list a i u h .1 (inl b), p)
-    there v (inr p) = (getD list i 0, between-more list a i (getD list i 0) h .1 (inr refl), p)
+    there v (inl (u, b, p)) = (u, among-more (λ k. getD list k 0) a i u h .1 (inl b), p)
+    there v (inr p) = (getD list i 0, among-more (λ k. getD list k 0) a i (getD list i 0) h .1 (inr refl), p)
 
     back : (v : ℕ) → Each list a (i + 1) S v → Each list a i S v ⊎ S (getD list i 0) v
-    back v (u, b, p) = ⊎-elim (λ q. inl (u, q, p)) (λ e. inr (rw e p)) (between-more list a i u h .0 b)
+    back v (u, b, p) = ⊎-elim (λ q. inl (u, q, p)) (λ e. inr (rw e p)) (among-more (λ k. getD list k 0) a i u h .0 b)
 
 -- Entries that lead to themselves.
 pub themselves : (B R : ℕ → Type 0) {shut : List ℕ} {s : ℕ} {l queue l′ queue′ : List ℕ} {n n′ : ℕ}

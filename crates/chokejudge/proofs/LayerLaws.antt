@@ -1,6 +1,6 @@
 -- The table holds one layer after the other. A cart may stand, so where the cells of a layer are open at the next step, the next layer keeps them but for its choke points. What
 -- else a step leads to comes from a cell that was added at the step before, or was a choke point then: every other cell of the layer has been spread from, and what it leads to
--- stayed, or is closed from then on. Assumes nothing.
+-- stayed, or is closed from then on. A cell of a layer was in an earlier one, or was added at its step. Assumes nothing.
 use Prim.Native.Nat.{ℕ, zero, suc, _+_, _≤_, _<_}
 use mathlib.Core.Path.{_≡_}
 use mathlib.Core.List.{List}
@@ -22,6 +22,7 @@ module _ (First : ℕ → Type 0) (Side : ℕ → ℕ → Type 0) (shut : List �
     pub layer : (v : ℕ) → (0 < getD l v 0) ↔ OfLayer t v
     pub stamps : (v : ℕ) → getD l v 0 ≤ t + 1
     pub opened : (v : ℕ) → 0 < getD l v 0 → OpenAt shut t v
+    pub fresh : (v : ℕ) → 0 < getD l v 0 → Between queue head tail v ⊎ ((s : ℕ) × (s < t) × OfLayer s v)
     pub settled : (u v : ℕ) → 0 < getD l u 0 → Side u v → OpenAt shut (t + 1) v → (0 < getD l v 0) ⊎ (Choke t v ⊎ Between queue head tail u)
 
   -- What is left when choke points were taken out.
@@ -34,9 +35,13 @@ module _ (First : ℕ → Type 0) (Side : ℕ → ℕ → Type 0) (shut : List �
     layer = λ v. (there v, λ f. ⊎-elim (λ e. omega (arith, g .all v (f .0) (o v (f .0)))) (λ q. absurd (f .1 q)) (k .each v));
     stamps = λ v. stamp v (zero-or (getD l′ v 0));
     opened = λ v p. g .opened v (z v) (omega (arith, left k v p .0));
-    settled = λ u v p s b. inr (inr (g .only u (z u) (omega (arith, left k u p .0)) .2));
+    fresh = λ v p. inl (added v p);
+    settled = λ u v p s b. inr (inr (added u p));
   }
     where
+      added : (v : ℕ) → 0 < getD l′ v 0 → Between queue 0 n v
+      added v p = g .only v (z v) (omega (arith, left k v p .0)) .2
+
       there : (v : ℕ) → 0 < getD l′ v 0 → First v × (Choke 0 v → ⊥)
       there v p = let (e, q) = left k v p in (g .only v (z v) (omega arith) .1, q)
 
@@ -100,11 +105,14 @@ module _ (First : ℕ → Type 0) (Side : ℕ → ℕ → Type 0) (shut : List �
       stamp v (inr p) (inl e) = let (d, q) = left k v p in omega (arith, g .only v e (omega arith) .0)
       stamp v (inr p) (inr h) = let (d, q) = left k v p in omega (arith, g .kept v h, st .stamps v)
 
+      added : (v : ℕ) → getD l v 0 ≡ 0 → 0 < getD l₂ v 0 → Between queue₁ tail n₁ v
+      added v e p = g .only v e (omega (arith, left k v p .0)) .2
+
       settled : (u v : ℕ) → 0 < getD l₂ u 0 → Side u v → OpenAt shut (t + 1 + 1) v → (0 < getD l₂ v 0) ⊎ (Choke (t + 1) v ⊎ Between queue₁ tail n₁ u)
       settled u v p s o = go (zero-or (getD l u 0))
         where
           go : (getD l u 0 ≡ 0) ⊎ (0 < getD l u 0) → (0 < getD l₂ v 0) ⊎ (Choke (t + 1) v ⊎ Between queue₁ tail n₁ u)
-          go (inl e) = inr (inr (g .only u e (omega (arith, left k u p .0)) .2))
+          go (inl e) = inr (inr (added u e p))
           go (inr h) = ⊎-elim (λ e. inl (omega (arith, spread u v h s (omega arith)))) (λ q. inr (inl q)) (k .each v)
 
       pub layer-table-next : LayerTable (t + 1) l₂ queue₁ tail n₁
@@ -112,5 +120,6 @@ module _ (First : ℕ → Type 0) (Side : ℕ → ℕ → Type 0) (shut : List �
         layer = λ v. rw add-one (there v, back v);
         stamps = λ v. stamp v (zero-or (getD l₂ v 0)) (zero-or (getD l v 0));
         opened = λ v p. led-open v (omega (arith, left k v p .0));
+        fresh = λ v p. ⊎-elim (λ e. inl (added v e p)) (λ q. inr (t, omega arith, st .layer v .0 q)) (zero-or (getD l v 0));
         settled = settled;
       }

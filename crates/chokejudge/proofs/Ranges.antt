@@ -9,7 +9,7 @@ use lib.ListN.{length, getD}
 use Rattle.model.specs.Lists.{In}
 use Rattle.model.proofs.Lists.{in-getD, in-place}
 use Rattle.job.specs.Held.{Some}
-use Rattle.chokejudge.specs.Grown.{Between}
+use Rattle.chokejudge.specs.Grown.{RangeHas}
 
 module _ (P : ℕ → Type 0) where
   pub some-more : (n : ℕ) → (Some n P ⊎ P n) ↔ Some (n + 1) P
@@ -22,13 +22,13 @@ module _ (P : ℕ → Type 0) where
       back (inl (k, h, p)) = (k, omega arith, p)
       back (inr p) = (n, omega arith, p)
 
-pub between-more : (l : List ℕ) (a i v : ℕ) → a ≤ i → Between l a (i + 1) v ↔ (Between l a i v ⊎ (getD l i 0 ≡ v))
-between-more l a i v h = (there, back)
+pub among-more : (f : ℕ → ℕ) (a i v : ℕ) → a ≤ i → RangeHas f a (i + 1) v ↔ (RangeHas f a i v ⊎ (f i ≡ v))
+among-more f a i v h = (there, back)
   where
-    there : Between l a (i + 1) v → Between l a i v ⊎ (getD l i 0 ≡ v)
-    there (k, lo, hi, e) = ⊎-elim (λ f. inr (rw f at e)) (λ m. inl (k, lo, m, e)) (eq-or-lt-of-le {n = k} {m = i} (omega arith))
+    there : RangeHas f a (i + 1) v → RangeHas f a i v ⊎ (f i ≡ v)
+    there (k, lo, hi, e) = ⊎-elim (λ g. inr (rw g at e)) (λ m. inl (k, lo, m, e)) (eq-or-lt-of-le {n = k} {m = i} (omega arith))
 
-    back : Between l a i v ⊎ (getD l i 0 ≡ v) → Between l a (i + 1) v
+    back : RangeHas f a i v ⊎ (f i ≡ v) → RangeHas f a (i + 1) v
     back (inl (k, lo, hi, e)) = (k, lo, omega arith, e)
     back (inr e) = (i, h, omega arith, e)
 

@@ -1,6 +1,6 @@
 -- What the loop over the steps holds, and that a step keeps it: the table is the layer of its step, the queue has what was added at it, and the two cursors stand round its choke
--- points. The queue never overflows: each of its cells is in the table, or a choke point took it out. No cell has to be taken out because it closes: a call is due on it then, and
--- the loop has ended. Assumes nothing.
+-- points. The queue never overflows: each of its cells is in the table, or a choke point took it out. No cell has to be taken out because it closes: its bay's step is this one, and
+-- the loop has ended. Of the lifts' cells only those that were added are looked at: one that was in an earlier layer was met then. Assumes nothing.
 use Prim.Native.Nat.{ℕ, _+_, _≤_, _<_}
 use mathlib.Core.Path.{_≡_, refl, sym, _∙_}
 use mathlib.Core.List.{List}
@@ -13,7 +13,7 @@ use Rattle.model.specs.Job.{Job}
 use Rattle.job.specs.Held.{Some}
 use Rattle.floor.specs.Tables.{OpenAt, Near}
 use Rattle.floor.proofs.JobTables.{near-even}
-use Rattle.chokejudge.specs.ChokeLayers.{Placed, Choked, Side, Closing, Reached, SomeCallIn}
+use Rattle.chokejudge.specs.ChokeLayers.{Placed, Choked, Side, Closing, MetBy, Reached, SomeMet}
 use Rattle.chokejudge.specs.Grown.{Between, Older, Again, Onward, Roomy, Grown, Cleared, Cursor, members, queueSize}
 use Rattle.chokejudge.proofs.Numbers.{below-or}
 use Rattle.chokejudge.proofs.GrownLaws.{grown-as}
@@ -32,15 +32,15 @@ module _ (near begin shut starts : List ℕ) (carts : ℕ) (cells steps : List �
     pub from : Cursor steps n t opens
     pub to : Cursor steps n (t + 1) end
 
--- No call with a deadline before t is in its layer.
-abbrev pub Unmet : (ℕ → ℕ → Type 0) → List ℕ → List ℕ → ℕ → ℕ → Type 0
-Unmet L targets deadlines calls t = (k : ℕ) → k < calls → getD deadlines k 0 < t → L (getD deadlines k 0) (getD targets k 0) → ⊥
+-- No cell of a layer before t meets a call.
+abbrev pub Unmet : (ℕ → ℕ → Type 0) → (ℕ → ℕ → Type 0) → ℕ → Type 0
+Unmet Met L t = (s v : ℕ) → s < t → L s v → Met s v → ⊥
 
 -- What taking out the choke points of step t gives.
 abbrev pub Gone : List ℕ → List ℕ → ℕ → ℕ → ℕ → List ℕ → List ℕ → ℕ → Type 0
 Gone cells steps n t opens l l′ end = (opens ≤ end) × Cursor steps n (t + 1) end × Cleared (Between cells opens end) l l′ × (members l + opens ≤ members l′ + end)
 
-pub first-open : {targets deadlines shut : List ℕ} {calls : ℕ} → Closing targets deadlines calls shut → (starts : List ℕ) (carts floor : ℕ) → floor ≤ maxCells
+pub first-open : {targets shut : List ℕ} {calls : ℕ} → Closing targets calls shut → (starts : List ℕ) (carts floor : ℕ) → floor ≤ maxCells
     → ((k : ℕ) → k < carts → getD starts k 0 < floor) → (v : ℕ) → Placed starts carts v → OpenAt shut 0 v
 first-open r starts carts floor few known v (k, b, e) = r .first v (omega (arith, known k b))
 
@@ -94,27 +94,42 @@ module _ {near begin shut starts : List ℕ} {carts : ℕ} {cells steps : List �
           at : (v : ℕ) → Between cells opens end v ↔ Choked cells steps n t v
           at = points-of steps n t opens (h .from) cells end (h .to)
 
-    -- The calls of the step.
-    module _ (targets deadlines : List ℕ) (calls : ℕ) where
-      abbrev pub Now : Type 0
-      Now = Some calls (λ k. (getD deadlines k 0 ≡ t) × (0 < getD since (getD targets k 0) 0))
+    -- The calls that are met at the step: a lift on a cell that was added, a bay.
+    module _ (due targets : List ℕ) (calls : ℕ) where
+      abbrev pub Lifted : Type 0
+      Lifted = (v : ℕ) × Between queue head tail v × ((0 < getD since v 0) × (t + 1 ≤ getD due v 0))
 
-      pub call-in : Now → SomeCallIn targets deadlines calls (Reached near begin shut starts carts cells steps n)
-      call-in (k, b, (e, p)) = (k, b, rw e (h .stands .layer (getD targets k 0) .0 p))
+      abbrev pub Parked : Type 0
+      Parked = Some calls (λ k. (getD shut (getD targets k 0) 0 ≡ t + 1) × (0 < getD since (getD targets k 0) 0))
 
-      -- A cell of the layer is open at the next step too: a call on it would be due now if it closed behind this one.
-      pub still-open : Closing targets deadlines calls shut → t < maxSteps → (Now → ⊥) → (v : ℕ) → 0 < getD since v 0 → OpenAt shut (t + 1) v
-      still-open r few out v p = ⊎-elim (λ e. absurd (due (r .call v t small few (omega arith)))) (λ l. l) (eq-or-lt-of-le {n = t + 1} {m = getD shut v 0} (omega (arith, h .stands .opened v p)))
-        where
-          small : v < maxCells
-          small = ⊎-elim (λ l. omega (arith, h .size)) (λ l. absurd (omega (arith, List·getD-eq-default since 0 {n = v} l))) (below-or v (length since))
+      abbrev LayerAt : ℕ → ℕ → Type 0
+      LayerAt = Reached near begin shut starts carts cells steps n
 
-          due : Some calls (λ k. (getD deadlines k 0 ≡ t) × (getD targets k 0 ≡ v)) → ⊥
-          due (k, b, (e, f)) = out (k, b, (e, rw f p))
+      pub lift-met : {last : ℕ} → t ≤ last → Lifted → SomeMet (MetBy due shut) last LayerAt
+      lift-met soon (v, b, (p, l)) = (t, soon, (v, h .stands .layer v .0 p, inl (omega arith)))
 
-      pub unmet-more : (Now → ⊥) → Unmet (Reached near begin shut starts carts cells steps n) targets deadlines calls t
-          → Unmet (Reached near begin shut starts carts cells steps n) targets deadlines calls (t + 1)
-      unmet-more out u k b d r = ⊎-elim
-          (λ e. out (k, b, (e, h .stands .layer (getD targets k 0) .1 (rw e at r))))
-          (λ l. u k b l r)
-          (eq-or-lt-of-le {n = getD deadlines k 0} {m = t} (omega arith))
+      pub bay-met : {last : ℕ} → t ≤ last → Parked → SomeMet (MetBy due shut) last LayerAt
+      bay-met soon (k, b, (e, p)) = (t, soon, (getD targets k 0, h .stands .layer (getD targets k 0) .0 p, inr e))
+
+      module _ (r : Closing targets calls shut) (few : t < maxSteps) (out : Parked → ⊥) where
+        -- no cell of the layer closes behind the step
+        lasting : (v : ℕ) → 0 < getD since v 0 → getD shut v 0 ≡ t + 1 → ⊥
+        lasting v p e = due-now (r .call v small (omega arith))
+          where
+            small : v < maxCells
+            small = ⊎-elim (λ l. omega (arith, h .size)) (λ l. absurd (omega (arith, List·getD-eq-default since 0 {n = v} l))) (below-or v (length since))
+
+            due-now : Some calls (λ k. getD targets k 0 ≡ v) → ⊥
+            due-now (k, b, f) = out (k, b, (rw f (e, p)))
+
+        pub still-open : (v : ℕ) → 0 < getD since v 0 → OpenAt shut (t + 1) v
+        still-open v p = ⊎-elim (λ e. absurd (lasting v p (sym e))) (λ l. l) (eq-or-lt-of-le {n = t + 1} {m = getD shut v 0} (omega (arith, h .stands .opened v p)))
+
+        pub unmet-more : (Lifted → ⊥) → Unmet (MetBy due shut) LayerAt t → Unmet (MetBy due shut) LayerAt (t + 1)
+        unmet-more none u s v b o m = ⊎-elim (λ e. here (rw e at o) (rw e at m)) (λ l. u s v l o m) (eq-or-lt-of-le {n = s} {m = t} (omega arith))
+          where
+            here : LayerAt t v → MetBy due shut t v → ⊥
+            here o (inl l) =
+                let p = h .stands .layer v .1 o in
+                ⊎-elim (λ b. none (v, b, (p, omega arith))) (λ w. u (w .0) v (w .1) (w .2) (inl (omega (arith, w .1)))) (h .stands .fresh v p)
+            here o (inr e) = lasting v (h .stands .layer v .1 o) e

@@ -17,9 +17,13 @@ members [] = 0
 members (zero ∷ l) = members l
 members (suc x ∷ l) = suc (members l)
 
+-- v is one of the values of f from a to before b.
+abbrev pub RangeHas : (ℕ → ℕ) → ℕ → ℕ → ℕ → Type 0
+RangeHas f a b v = (k : ℕ) × (a ≤ k) × (k < b) × (f k ≡ v)
+
 -- v is one of the entries from a to before b.
 abbrev pub Between : List ℕ → ℕ → ℕ → ℕ → Type 0
-Between l a b v = (k : ℕ) × (a ≤ k) × (k < b) × (getD l k 0 ≡ v)
+Between l = RangeHas (λ k. getD l k 0)
 
 -- v was in the table before the cells of stamp s.
 abbrev pub Older : List ℕ → ℕ → ℕ → Type 0

@@ -1,3 +1,4 @@
 pub mod ChokeLayers
 pub mod Grown
+pub mod Lifts
 pub mod Chains

@@ -17,12 +17,12 @@ use Rattle.gridmap.specs.CellPlaces.{tracksIn}
 
 module _ (from to : List ℕ) where
   abbrev pub trackLines : ℕ → List ℕ
-  trackLines t = linesText trackWord trackNumbers (tracksIn from to t)
+  trackLines t = linesText (λ t. trackWord) trackNumbers (tracksIn from to t)
 
   pub lines-more : (t : ℕ) → length (trackLines (t + 1)) ≡ length (trackLines t) + length (line trackWord (getD from t 0 ∷ getD to t 0 ∷ []))
   lines-more t =
       let l : List ℕ = line trackWord (getD from t 0 ∷ getD to t 0 ∷ []) in
-      rw (up-suc (trackAt from to) t, lines-append trackWord trackNumbers (tracksIn from to t) (trackAt from to t ∷ []), append-nil l) (length-append (trackLines t) l)
+      rw (up-suc (trackAt from to) t, lines-append (λ t. trackWord) trackNumbers (tracksIn from to t) (trackAt from to t ∷ []), append-nil l) (length-append (trackLines t) l)
 
   pub floor-long : (cells t : ℕ) → length (floorLines cells (tracksIn from to t)) ≡ 7 + length (numeral cells) + length (trackLines t)
   floor-long cells t = rw (length-append (line floorWord (cells ∷ [])) (trackLines t)) (omega (arith, head-long floorWord cells))

@@ -1,12 +1,13 @@
--- Paths and choke points as they are held: two lists with the first and second number of each line; for a path also its last step, and a row of steps with its cells.
-use Prim.Native.Nat.{ℕ, suc, _*_, _<_}
+-- Paths and choke points as they are held: lists with the first and second number of each line; for a path also its last step, and a row of steps with its cells; for a choke
+-- point also its kind.
+use Prim.Native.Nat.{ℕ, zero, suc, _*_, _<_}
 use mathlib.Core.Path.{_≡_}
 use mathlib.Core.List.{List}
 use mathlib.Core.Bool.{Bool, true, false}
 use lib.ListN.{length, getD, take, drop}
 use Rattle.model.specs.Limits.{maxCalls, maxSteps}
 use Rattle.model.specs.Plan.{Path}
-use Rattle.model.specs.Choke.{Point, point}
+use Rattle.model.specs.Choke.{point, Choke, cellStep, wholeCall}
 use Rattle.job.specs.Arrays.{upTo}
 
 -- the path of the k-th line: its cells are the first of row k, up to its last step
@@ -21,12 +22,17 @@ pathAt carts calls lasts rows k = record {
 abbrev pub pathsTo : List ℕ → List ℕ → List ℕ → List ℕ → ℕ → List Path
 pathsTo carts calls lasts rows = upTo (pathAt carts calls lasts rows)
 
--- the choke point of the k-th line, and the first n
-abbrev pub pointAt : List ℕ → List ℕ → ℕ → Point
-pointAt cells steps k = point (getD cells k 0) (getD steps k 0)
+-- a choke point by the byte of its kind: a cell at a step, or a whole call, which has one number
+abbrev pub chokeOf : ℕ → ℕ → ℕ → Choke
+chokeOf zero a b = cellStep (point a b)
+chokeOf (suc n) a b = wholeCall a
 
-abbrev pub pointsOf : List ℕ → List ℕ → ℕ → List Point
-pointsOf cells steps = upTo (pointAt cells steps)
+-- the choke point of the k-th line, and the first n
+abbrev pub chokeAt : List ℕ → List ℕ → List ℕ → ℕ → Choke
+chokeAt firsts seconds kinds k = chokeOf (getD kinds k 0) (getD firsts k 0) (getD seconds k 0)
+
+abbrev pub chokesTo : List ℕ → List ℕ → List ℕ → ℕ → List Choke
+chokesTo firsts seconds kinds = upTo (chokeAt firsts seconds kinds)
 
 -- There is room for all that a sheet can hold.
 pub record Room (first second lasts rows : List ℕ) : Type 0 where

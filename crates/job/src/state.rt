@@ -6,6 +6,11 @@ pub const LIFT: u8 = 0;
 
 pub const BAY: u8 = 1;
 
+// The kind of a choke point, as a byte: a cell at a step, or a whole call.
+pub const CELL: u8 = 0;
+
+pub const WHOLE: u8 = 1;
+
 // The first `tracks` entries of `from` and `to` are the tracks, and so for carts and calls. Of a call: its kind, its cell and its deadline.
 pub struct Job {
     pub cells: usize,

@@ -1,19 +1,19 @@
 -- A decision that computes for each definition of a plan and of a choke list. Assumes nothing.
-use Prim.Native.Nat.{ℕ, suc, _<_}
+use Prim.Native.Nat.{ℕ, suc, _-_, _<_}
 use mathlib.Core.Path.{_≡_, refl, sym, _∙_, ap}
 use mathlib.Core.List.{List, [], _∷_, map}
 use native.Mathlib.Omega.{arith}
 use lib.ListN.{length, getD}
 use Rattle.model.specs.Lists.{In, NoDup, Rising}
 use Rattle.model.specs.Job.{Job, Track, CallKind, lift, bay, Call, track, cartCell, callOf, horizon}
-use Rattle.model.specs.Walk.{At, Open, Step, Walk, Serves}
+use Rattle.model.specs.Walk.{At, Open, Step, Walk, InTime, Serves}
 use Rattle.model.specs.Plan.{Path, Plan, Leads, OnFloor, Share, Trade, NoShare, NoTrade, Sooner, Before}
-use Rattle.model.specs.Choke.{Point, Known, StandsOn, TrueChokes, Rises}
+use Rattle.model.specs.Choke.{Choke, cellStep, wholeCall, KnownChoke, Stops, StandsOn, TrueChokes, Rises}
 use Rattle.model.specs.Contracts.{RightPlan, RightChokes}
 use Rattle.model.proofs.Basics.{nope}
 use Rattle.model.proofs.Lex.{dec-lex}
 use Rattle.model.proofs.Decide.{dec-by, dec-and, dec-or, dec-imp, dec-not, dec-eq, dec-le, dec-lt, all-below, all-in, any-in, dec-in}
-use Rattle.model.proofs.Listed.{walks, walk-listed}
+use Rattle.model.proofs.Listed.{walksOf, walk-listed}
 
 -- Walks.
 pub track-eq : {s t : Track} → (s .from ≡ t .from) × (s .to ≡ t .to) → s ≡ t
@@ -31,6 +31,13 @@ no-bay e = nope (cc)
 abbrev pub dec-bay : (k : CallKind) → Dec (k ≡ bay)
 dec-bay lift = no no-bay
 dec-bay bay = yes refl
+
+pub no-lift : bay ≡ lift → ⊥
+no-lift e = no-bay (sym e)
+
+abbrev pub dec-lift : (k : CallKind) → Dec (k ≡ lift)
+dec-lift lift = yes refl
+dec-lift bay = no no-lift
 
 abbrev pub dec-open : (j : Job) (t v : ℕ) → Dec (Open j t v)
 dec-open j t v = all-in (λ q. dec-imp (dec-bay (q .kind)) (dec-imp (dec-eq (q .cell) v) (dec-le _ _))) (j .calls)
@@ -54,14 +61,24 @@ abbrev pub dec-walk : (j : Job) (c : ℕ) (w : List ℕ) → Dec (Walk j c w)
 dec-walk j c w = dec-by (walk-of j c w) (walk-parts j c w)
     (dec-and (dec-at w 0 c) (all-below (λ t. dec-imp (dec-lt (suc t) (length w)) (dec-step j t (getD w t 0) (getD w (suc t) 0))) (length w)))
 
-pub serves-of : (w : List ℕ) (q : Call) → (length w ≡ suc (q .deadline)) × (getD w (q .deadline) 0 ≡ q .cell) → Serves w q
-serves-of w q h = record { size = h .0; ends = h .1 }
+abbrev pub dec-in-time : (k : CallKind) (d t : ℕ) → Dec (InTime k d t)
+dec-in-time lift d t = dec-le t d
+dec-in-time bay d t = dec-eq t d
 
-pub serves-parts : (w : List ℕ) (q : Call) → Serves w q → (length w ≡ suc (q .deadline)) × (getD w (q .deadline) 0 ≡ q .cell)
-serves-parts w q h = (h .size, h .ends)
+-- the last step of a walk is told by its length
+module _ (w : List ℕ) (q : Call) where
+  abbrev pub ServesAt : ℕ → Type 0
+  ServesAt t = (length w ≡ suc t) × (InTime (q .kind) (q .deadline) t × (getD w t 0 ≡ q .cell))
 
-abbrev pub dec-serves : (w : List ℕ) (q : Call) → Dec (Serves w q)
-dec-serves w q = dec-by (serves-of w q) (serves-parts w q) (dec-and (dec-eq (length w) (suc (q .deadline))) (dec-eq (getD w (q .deadline) 0) (q .cell)))
+  pub serves-of : ServesAt (length w - 1) → Serves w q
+  serves-of h = record { last = length w - 1; size = h .0; in-time = h .1 .0; ends = h .1 .1 }
+
+  pub serves-parts : Serves w q → ServesAt (length w - 1)
+  serves-parts h = let e : h .last ≡ length w - 1 = omega (arith, h .size) in rw (← e) (h .size, (h .in-time, h .ends))
+
+  abbrev pub dec-serves : Dec (Serves w q)
+  dec-serves = let t = length w - 1 in
+      dec-by serves-of serves-parts (dec-and (dec-eq (length w) (suc t)) (dec-and (dec-in-time (q .kind) (q .deadline) t) (dec-eq (getD w t 0) (q .cell))))
 
 -- Paths.
 abbrev pub LeadsParts : Job → Path → Type 0
@@ -173,29 +190,38 @@ abbrev pub dec-right-plan : (j : Job) (ps : List Path) → Dec (RightPlan j ps)
 dec-right-plan j ps = dec-and (dec-plan j ps) (dec-rising (dec-before j) ps)
 
 -- Choke lists.
-abbrev pub dec-known : (j : Job) (x : Point) → Dec (Known j x)
-dec-known j x = dec-and (dec-lt (x .cell) (j .cells)) (dec-le (x .step) (horizon j))
+abbrev pub dec-known : (j : Job) (x : Choke) → Dec (KnownChoke j x)
+dec-known j (cellStep x) = dec-and (dec-lt (x .cell) (j .cells)) (dec-le (x .step) (horizon j))
+dec-known j (wholeCall k) = dec-and (dec-lt k (length (j .calls))) (dec-lift (callOf j k .kind))
 
-abbrev pub dec-stands : (w : List ℕ) (xs : List Point) → Dec (StandsOn w xs)
-dec-stands w xs = any-in (λ x. dec-at w (x .step) (x .cell)) xs
+abbrev pub dec-stops : (w : List ℕ) (k : ℕ) (x : Choke) → Dec (Stops w k x)
+dec-stops w k (cellStep x) = dec-at w (x .step) (x .cell)
+dec-stops w k (wholeCall m) = dec-eq m k
 
-module _ (j : Job) (xs : List Point) where
+abbrev pub dec-stands : (w : List ℕ) (k : ℕ) (xs : List Choke) → Dec (StandsOn w k xs)
+dec-stands w k xs = any-in (dec-stops w k) xs
+
+module _ (j : Job) (xs : List Choke) where
   -- of the walks that are listed
   abbrev pub ChokesListed : Type 0
-  ChokesListed = (c : ℕ) → In c (j .carts) → (q : Call) → In q (j .calls) → (w : List ℕ) → In w (walks j (q .deadline) c) → Walk j c w × Serves w q → StandsOn w xs
+  ChokesListed = (c : ℕ) → In c (j .carts) → (k : ℕ) → k < length (j .calls) → (w : List ℕ) → In w (walksOf j (callOf j k) c)
+      → Serves w (callOf j k) × Walk j c w → StandsOn w k xs
 
-  pub chokes-of : (length xs < length (j .calls)) × (((x : Point) → In x xs → Known j x) × ChokesListed) → TrueChokes j xs
-  chokes-of h = record { known = h .1 .0; few = h .0; chokes = λ c k q m w a b. h .1 .1 c k q m w (walk-listed j c q w a b) (a, b) }
+  pub chokes-of : (length xs < length (j .calls)) × (((x : Choke) → In x xs → KnownChoke j x) × ChokesListed) → TrueChokes j xs
+  chokes-of h = record { known = h .1 .0; few = h .0; chokes = λ c i k l w a b. h .1 .1 c i k l w (walk-listed j c (callOf j k) w a b) (b, a) }
 
-  pub chokes-parts : TrueChokes j xs → (length xs < length (j .calls)) × (((x : Point) → In x xs → Known j x) × ChokesListed)
-  chokes-parts h = (h .few, (h .known, λ c k q m w l ab. h .chokes c k q m w (ab .0) (ab .1)))
+  pub chokes-parts : TrueChokes j xs → (length xs < length (j .calls)) × (((x : Choke) → In x xs → KnownChoke j x) × ChokesListed)
+  chokes-parts h = (h .few, (h .known, λ c i k l w m s. h .chokes c i k l w (s .1) (s .0)))
 
   abbrev pub dec-chokes : Dec (TrueChokes j xs)
   dec-chokes = dec-by chokes-of chokes-parts (dec-and (dec-lt (length xs) (length (j .calls))) (dec-and (all-in (dec-known j) xs)
-      (all-in (λ c. all-in (λ q. all-in (λ w. dec-imp (dec-and (dec-walk j c w) (dec-serves w q)) (dec-stands w xs)) (walks j (q .deadline) c)) (j .calls)) (j .carts))))
+      (all-in (λ c. all-below (λ k. all-in (λ w. dec-imp (dec-and (dec-serves w (callOf j k)) (dec-walk j c w)) (dec-stands w k xs)) (walksOf j (callOf j k) c)) (length (j .calls))) (j .carts))))
 
-abbrev pub dec-rises : (x y : Point) → Dec (Rises x y)
-dec-rises x y = dec-lex (x .step) (x .cell) (y .step) (y .cell)
+abbrev pub dec-rises : (x y : Choke) → Dec (Rises x y)
+dec-rises (cellStep x) (cellStep y) = dec-lex (x .step) (x .cell) (y .step) (y .cell)
+dec-rises (cellStep x) (wholeCall m) = yes tt
+dec-rises (wholeCall k) (cellStep y) = no (λ h. h)
+dec-rises (wholeCall k) (wholeCall m) = dec-lt k m
 
-abbrev pub dec-right-chokes : (j : Job) (xs : List Point) → Dec (RightChokes j xs)
+abbrev pub dec-right-chokes : (j : Job) (xs : List Choke) → Dec (RightChokes j xs)
 dec-right-chokes j xs = dec-and (dec-chokes j xs) (dec-rising dec-rises xs)

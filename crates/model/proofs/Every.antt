@@ -1,21 +1,20 @@
 -- Every walk, right plan and right choke list of a small job: lists that have them all, some of them with others besides. Assumes nothing.
 use Prim.Native.Nat.{ℕ, zero, suc, _<_}
-use mathlib.Core.Path.{_≡_, refl, sym, subst}
+use mathlib.Core.Path.{_≡_, refl, subst}
 use mathlib.Core.List.{List, [], _∷_, _++_, map}
 use mathlib.Core.Logic.{_⊎_, inl, inr}
 use mathlib.Core.Bool.{Bool, true, false}
 use native.Mathlib.Omega.{arith}
-use lib.ListN.{length, getD}
+use lib.ListN.{length}
 use lib.Dec.{leb}
 use borrow.Author.Tests.{leb-true, leb-false}
 use Rattle.model.specs.Lists.{In}
-use Rattle.model.specs.Job.{Job, Call, track, cartCell, callOf, horizon}
-use Rattle.model.specs.Walk.{Step, Walk, Serves}
+use Rattle.model.specs.Job.{Job, cartCell, callOf, horizon}
 use Rattle.model.specs.Plan.{Path, Leads}
-use Rattle.model.specs.Choke.{Point, point, Known}
+use Rattle.model.specs.Choke.{point, Choke, cellStep, wholeCall, KnownChoke}
 use Rattle.model.specs.Contracts.{RightPlan, RightChokes}
 use Rattle.model.proofs.Lists.{in-map, in-left, in-right}
-use Rattle.model.proofs.Listed.{each, in-each, below, in-below, walks, walk-listed}
+use Rattle.model.proofs.Listed.{each, in-each, below, in-below, walksOf, walk-listed}
 use Rattle.model.proofs.Decisions.{dec-leads, dec-right-plan, dec-right-chokes}
 
 -- the lists of n members of l, and those of fewer
@@ -48,7 +47,7 @@ in-keep {A} {P} d a (b ∷ l) h p = go (d b) h (λ k. in-keep d a l k p)
 
 -- every path that leads its cart to its call, and every right plan
 abbrev pub somePaths : Job → List Path
-somePaths j = each (λ a. each (λ b. map (λ w. record { cart = a; call = b; cells = w }) (walks j (callOf j b .deadline) (cartCell j a)))
+somePaths j = each (λ a. each (λ b. map (λ w. record { cart = a; call = b; cells = w }) (walksOf j (callOf j b) (cartCell j a)))
     (below (length (j .calls)))) (below (length (j .carts)))
 
 abbrev pub allPaths : Job → List Path
@@ -58,11 +57,11 @@ path-listed : (j : Job) (p : Path) → Leads j p → In p (allPaths j)
 path-listed j p l = in-keep (dec-leads j) p (somePaths j) some l
   where
     some : In p (somePaths j)
-    some = in-each (λ a. each (λ b. map (λ w. record { cart = a; call = b; cells = w }) (walks j (callOf j b .deadline) (cartCell j a)))
+    some = in-each (λ a. each (λ b. map (λ w. record { cart = a; call = b; cells = w }) (walksOf j (callOf j b) (cartCell j a)))
         (below (length (j .calls)))) (p .cart) p (below (length (j .carts))) (in-below _ _ (l .known-cart))
-        (in-each (λ b. map (λ w. record { cart = p .cart; call = b; cells = w }) (walks j (callOf j b .deadline) (cartCell j (p .cart))))
+        (in-each (λ b. map (λ w. record { cart = p .cart; call = b; cells = w }) (walksOf j (callOf j b) (cartCell j (p .cart))))
         (p .call) p (below (length (j .calls))) (in-below _ _ (l .known-call))
-        (in-map (λ w. record { cart = p .cart; call = p .call; cells = w }) (p .cells) (walks j (callOf j (p .call) .deadline) (cartCell j (p .cart)))
+        (in-map (λ w. record { cart = p .cart; call = p .call; cells = w }) (p .cells) (walksOf j (callOf j (p .call)) (cartCell j (p .cart)))
         (walk-listed j _ _ _ (l .walks) (l .serves))))
 
 abbrev pub allPlans : Job → List (List Path)
@@ -71,13 +70,19 @@ allPlans j = keep (dec-right-plan j) (lists (length (j .calls)) (allPaths j))
 pub plan-listed : (j : Job) (ps : List Path) → RightPlan j ps → In ps (allPlans j)
 plan-listed j ps h = in-keep (dec-right-plan j) ps (lists (length (j .calls)) (allPaths j)) (rw (h .0 .size) at (in-lists (allPaths j) ps (λ p m. path-listed j p (h .0 .leads p m)))) h
 
--- every right choke list
-abbrev pub allPoints : Job → List Point
-allPoints j = each (λ a. map (λ b. point a b) (below (suc (horizon j)))) (below (j .cells))
+-- every choke point, and every right choke list
+abbrev pub cellSteps : Job → List Choke
+cellSteps j = each (λ a. map (λ b. cellStep (point a b)) (below (suc (horizon j)))) (below (j .cells))
 
-pub point-listed : (j : Job) (x : Point) → Known j x → In x (allPoints j)
-point-listed j x k = in-each (λ a. map (λ b. point a b) (below (suc (horizon j)))) (x .cell) x (below (j .cells))
-    (in-below _ _ (k .0)) (in-map (λ b. point (x .cell) b) (x .step) (below (suc (horizon j))) (in-below (suc (horizon j)) (x .step) (omega (arith, k .1))))
+abbrev pub wholeCalls : Job → List Choke
+wholeCalls j = map wholeCall (below (length (j .calls)))
+
+pub choke-listed : (j : Job) (x : Choke) → KnownChoke j x → In x (cellSteps j ++ wholeCalls j)
+choke-listed j (cellStep x) k = in-left (cellStep x) (cellSteps j) (wholeCalls j)
+    (in-each (λ a. map (λ b. cellStep (point a b)) (below (suc (horizon j)))) (x .cell) (cellStep x) (below (j .cells)) (in-below _ _ (k .0))
+    (in-map (λ b. cellStep (point (x .cell) b)) (x .step) (below (suc (horizon j))) (in-below (suc (horizon j)) (x .step) (omega (arith, k .1)))))
+choke-listed j (wholeCall m) k =
+    in-right (wholeCall m) (cellSteps j) (wholeCalls j) (in-map wholeCall m (below (length (j .calls))) (in-below (length (j .calls)) m (k .0)))
 
 pub in-shorter : {A : Type 0} (n : ℕ) (l m : List A) → ((a : A) → In a m → In a l) → length m < n → In m (shorter n l)
 in-shorter zero l m h k = absurd (omega arith)
@@ -89,10 +94,10 @@ in-shorter (suc n) l m h k = go (leb (suc (length m)) n) refl (λ k′. in-short
         let q : length m ≡ n = omega (arith, leb-false (suc (length m)) n e) in
         in-left m (lists n l) (shorter n l) (rw q at (in-lists l m h))
 
-abbrev pub allChokes : Job → List (List Point)
-allChokes j = keep (dec-right-chokes j) (shorter (length (j .calls)) (allPoints j))
+abbrev pub allChokes : Job → List (List Choke)
+allChokes j = keep (dec-right-chokes j) (shorter (length (j .calls)) (cellSteps j ++ wholeCalls j))
 
-pub chokes-listed : (j : Job) (xs : List Point) → RightChokes j xs → In xs (allChokes j)
+pub chokes-listed : (j : Job) (xs : List Choke) → RightChokes j xs → In xs (allChokes j)
 chokes-listed j xs h =
-    in-keep (dec-right-chokes j) xs (shorter (length (j .calls)) (allPoints j))
-    (in-shorter (length (j .calls)) (allPoints j) xs (λ x m. point-listed j x (h .0 .known x m)) (h .0 .few)) h
+    in-keep (dec-right-chokes j) xs (shorter (length (j .calls)) (cellSteps j ++ wholeCalls j))
+    (in-shorter (length (j .calls)) (cellSteps j ++ wholeCalls j) xs (λ x m. choke-listed j x (h .0 .known x m)) (h .0 .few)) h

@@ -1,21 +1,21 @@
--- What stays on the floor: a walk from a known cell stands on known cells, so that a path of a plan has known numbers; and a point passes the test of known points
--- exactly if it is one. Assumes nothing.
-use Prim.Native.Nat.{ℕ, zero, suc, _<_}
-use mathlib.Core.Path.{_≡_, refl}
+-- What stays on the floor: a walk from a known cell stands on known cells, so that a path of a plan has known numbers. A choke point passes the reader's test of known ones
+-- exactly if it is one, and a path has as many cells as fit its call exactly if the call is met at its last step. Assumes nothing.
+use Prim.Native.Nat.{ℕ, zero, suc, _≤_, _<_}
+use mathlib.Core.Path.{_≡_, refl, ap, _∙_}
 use mathlib.Core.List.{List, [], _∷_}
-use mathlib.Core.Bool.{true, _&&_}
+use mathlib.Core.Bool.{Bool, true, _&&_}
 use mathlib.Core.Logic.{inl, inr}
 use native.Mathlib.Omega.{arith}
-use lib.Dec.{eqb, ltb, leb}
+use lib.Dec.{ltb, leb}
 use lib.ListN.{length, getD}
-use borrow.Author.Tests.{lt-ltb, le-leb, eq-eqb, ltb-true, leb-true}
-use Rattle.model.specs.Job.{Job, track, cartCell, callOf, horizon}
+use borrow.Author.Tests.{lt-ltb, le-leb, eq-eqb, ltb-true, leb-true, eqb-true}
+use Rattle.model.specs.Job.{Job, CallKind, lift, bay, track, cartCell, callOf, horizon}
 use Rattle.model.specs.Ready.{Fit}
-use Rattle.model.specs.Walk.{Step, Walk}
+use Rattle.model.specs.Walk.{Step, Walk, InTime}
 use Rattle.model.specs.Plan.{Path, Leads}
-use Rattle.model.specs.Choke.{Point, Known}
-use Rattle.model.specs.ReadSheet.{allBelow, knownPath, knownPoint}
-use Rattle.model.proofs.Basics.{and-left, and-right, and-both}
+use Rattle.model.specs.Choke.{Point, Choke, cellStep, wholeCall, Known, KnownChoke}
+use Rattle.model.specs.ReadSheet.{allBelow, sizeFits, knownPath, knownPoint, isLift, knownWhole}
+use Rattle.model.proofs.Basics.{nope, and-left, and-right, and-both}
 use Rattle.model.proofs.Lists.{in-getD}
 
 module _ (j : Job) (x : Point) where
@@ -27,6 +27,40 @@ module _ (j : Job) (x : Point) where
     ltb-true (x .cell) (j .cells) (and-left (ltb (x .cell) (j .cells)) (leb (x .step) (horizon j)) e),
     leb-true (x .step) (horizon j) (and-right (ltb (x .cell) (j .cells)) (leb (x .step) (horizon j)) e),
   )
+
+-- the reader's test of a choke point
+abbrev pub knownChoke : Job → Choke → Bool
+knownChoke j (cellStep x) = knownPoint j x
+knownChoke j (wholeCall k) = knownWhole j k
+
+lift-test : (k : CallKind) → isLift k ≡ true → k ≡ lift
+lift-test lift e = refl
+lift-test bay e = nope (cc)
+
+module _ (j : Job) where
+  pub choke-test : (x : Choke) → KnownChoke j x → knownChoke j x ≡ true
+  choke-test (cellStep x) h = known-test j x h
+  choke-test (wholeCall k) h = and-both (ltb k (length (j .calls))) (isLift (callOf j k .kind)) (lt-ltb k (length (j .calls)) (h .0)) (ap isLift (h .1))
+
+  pub test-choke : (x : Choke) → knownChoke j x ≡ true → KnownChoke j x
+  test-choke (cellStep x) e = test-known j x e
+  test-choke (wholeCall k) e = (
+    ltb-true k (length (j .calls)) (and-left (ltb k (length (j .calls))) (isLift (callOf j k .kind)) e),
+    lift-test (callOf j k .kind) (and-right (ltb k (length (j .calls))) (isLift (callOf j k .kind)) e),
+  )
+
+pub time-due : (k : CallKind) (d t : ℕ) → InTime k d t → t ≤ d
+time-due lift d t h = h
+time-due bay d t h = omega arith
+
+pub fits-time : (k : CallKind) (d n : ℕ) → sizeFits k d n ≡ true → (last : ℕ) × (n ≡ suc last) × InTime k d last
+fits-time lift d zero e = nope (cc)
+fits-time lift d (suc n) e = (n, refl, omega (arith, leb-true (suc n) (suc d) (and-right (ltb 0 (suc n)) (leb (suc n) (suc d)) e)))
+fits-time bay d n e = (d, eqb-true n (suc d) e, refl)
+
+pub time-fits : (k : CallKind) (d n : ℕ) → (last : ℕ) × (n ≡ suc last) × InTime k d last → sizeFits k d n ≡ true
+time-fits lift d n (last, e, h) = and-both (ltb 0 n) (leb n (suc d)) (lt-ltb 0 n (omega arith)) (le-leb n (suc d) (omega arith))
+time-fits bay d n (last, e, h) = eq-eqb n (suc d) (e ∙ ap suc h)
 
 below-of : (n : ℕ) (w : List ℕ) → ((t : ℕ) → t < length w → getD w t 0 < n) → allBelow n w ≡ true
 below-of n [] h = refl
@@ -44,10 +78,13 @@ module _ (j : Job) (f : Fit j) where
 
   pub path-known : (p : Path) → Leads j p → knownPath j p ≡ true
   path-known p l =
+      let q = callOf j (p .call) in
       let x₁ = ltb (p .cart) (length (j .carts)) in
       let x₂ = ltb (p .call) (length (j .calls)) in
-      let x₃ = eqb (length (p .cells)) (suc (callOf j (p .call) .deadline)) in
+      let x₃ = sizeFits (q .kind) (q .deadline) (length (p .cells)) in
       let x₄ = allBelow (j .cells) (p .cells) in
+      let e₃ : x₃ ≡ true = time-fits (q .kind) (q .deadline) (length (p .cells)) (l .serves .last, l .serves .size, l .serves .in-time) in
       let c : cartCell j (p .cart) < j .cells = f .known-carts (cartCell j (p .cart)) (in-getD (j .carts) (p .cart) 0 (l .known-cart)) in
-      and-both (x₁ && x₂ && x₃) x₄ (and-both (x₁ && x₂) x₃ (and-both x₁ x₂ (lt-ltb (p .cart) (length (j .carts)) (l .known-cart)) (lt-ltb (p .call) (length (j .calls)) (l .known-call)))
-      (eq-eqb (length (p .cells)) (suc (callOf j (p .call) .deadline)) (l .serves .size))) (below-of (j .cells) (p .cells) (walk-known (cartCell j (p .cart)) (p .cells) c (l .walks)))
+      and-both (x₁ && x₂ && x₃) x₄
+      (and-both (x₁ && x₂) x₃ (and-both x₁ x₂ (lt-ltb (p .cart) (length (j .carts)) (l .known-cart)) (lt-ltb (p .call) (length (j .calls)) (l .known-call))) e₃)
+      (below-of (j .cells) (p .cells) (walk-known (cartCell j (p .cart)) (p .cells) c (l .walks)))

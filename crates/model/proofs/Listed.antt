@@ -9,8 +9,8 @@ use lib.ListN.{length, getD}
 use lib.Dec.{leb}
 use borrow.Author.Tests.{leb-true, leb-false}
 use Rattle.model.specs.Lists.{In}
-use Rattle.model.specs.Job.{Job, Call, track}
-use Rattle.model.specs.Walk.{Move, Walk, Serves}
+use Rattle.model.specs.Job.{Job, Call, CallKind, lift, bay, track}
+use Rattle.model.specs.Walk.{Move, Walk, InTime, Serves}
 use Rattle.model.proofs.Lists.{in-map, in-left, in-right}
 
 abbrev pub each : {A B : Type 0} → (A → List B) → List A → List B
@@ -65,6 +65,20 @@ in-walks j (suc n) (a ∷ b ∷ w) e s =
     in-each (λ d. map (λ w. a ∷ w) (walks j n d)) b (a ∷ b ∷ w) (a ∷ ends j) (move-in j a b (s 0 (omega arith)))
     (in-map (λ w. a ∷ w) (b ∷ w) (walks j n b) (in-walks j n (b ∷ w) (omega arith) (λ t h. s (suc t) (omega arith))))
 
-pub walk-listed : (j : Job) (c : ℕ) (q : Call) (w : List ℕ) → Walk j c w → Serves w q → In w (walks j (q .deadline) c)
+-- the steps at which a call is met, and the walks that end at one of them
+abbrev pub stepsOf : CallKind → ℕ → List ℕ
+stepsOf lift d = below (suc d)
+stepsOf bay d = d ∷ []
+
+abbrev pub walksOf : Job → Call → ℕ → List (List ℕ)
+walksOf j q c = each (λ t. walks j t c) (stepsOf (q .kind) (q .deadline))
+
+in-steps : (k : CallKind) (d t : ℕ) → InTime k d t → In t (stepsOf k d)
+in-steps lift d t h = in-below (suc d) t (omega arith)
+in-steps bay d t h = inl h
+
+pub walk-listed : (j : Job) (c : ℕ) (q : Call) (w : List ℕ) → Walk j c w → Serves w q → In w (walksOf j q c)
 unfolding Moves
-walk-listed j c q w wk sv = rw (wk .starts .1) at (in-walks j (q .deadline) w (sv .size) (λ t h. wk .steps t h .0))
+walk-listed j c q w wk sv =
+    in-each (λ t. walks j t c) (sv .last) w (stepsOf (q .kind) (q .deadline)) (in-steps (q .kind) (q .deadline) (sv .last) (sv .in-time))
+    (rw (wk .starts .1) at (in-walks j (sv .last) w (sv .size) (λ t h. wk .steps t h .0)))

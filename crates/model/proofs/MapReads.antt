@@ -83,9 +83,9 @@ module _ (m : List (List ℕ)) where
   text-room =
       omega (
         arith,
-        length-append (line floorWord (mapCells m ∷ [])) (linesText trackWord trackNumbers (tracksOf m)),
+        length-append (line floorWord (mapCells m ∷ [])) (linesText (λ t. trackWord) trackNumbers (tracksOf m)),
         line-room floorWord (mapCells m ∷ []),
-        lines-room trackWord trackNumbers 14 (tracksOf m) (λ t _. line-room trackWord (trackNumbers t)),
+        lines-room (λ t. trackWord) trackNumbers 14 (tracksOf m) (λ t _. line-room trackWord (trackNumbers t)),
         tracks-few m,
       )
 
@@ -128,12 +128,12 @@ module _ (n : ℕ) (ts : List Track) (some : 0 < n) (few : n ≤ maxCells) (rise
       (and-both (ltb (t .from) n) (ltb (t .to) n) (lt-ltb (t .from) n (omega arith)) (lt-ltb (t .to) n (k .1)))
       (lt-ltb (length got) maxTracks (omega (arith, length-append got (t ∷ rest), ap length e))) new
 
-  tracks-say : (got rest : List Track) (k : ℕ) → got ++ rest ≡ ts → linesSay (floorOf n got) k (linesOf (linesText trackWord trackNumbers rest)) ≡ accepted (floorOf n ts)
+  tracks-say : (got rest : List Track) (k : ℕ) → got ++ rest ≡ ts → linesSay (floorOf n got) k (linesOf (linesText (λ t. trackWord) trackNumbers rest)) ≡ accepted (floorOf n ts)
   tracks-say got [] k e = rw (ne-eqb n 0 (λ h. omega arith)) (ap (λ l. accepted (floorOf n l)) (sym (append-nil got) ∙ e))
   tracks-say got (t ∷ rest) k e =
       let h = known t (rw e at (in-right t got (t ∷ rest) (inl refl))) in
-      ap (linesSay (floorOf n got) k) (line-read trackWord (trackNumbers t) (linesText trackWord trackNumbers rest) refl (omega arith, (omega arith, tt)))
-      ∙ ap (λ x. goOn x k (λ j. linesSay j (k + 1) (linesOf (linesText trackWord trackNumbers rest)))) (track-said got rest t e)
+      ap (linesSay (floorOf n got) k) (line-read trackWord (trackNumbers t) (linesText (λ t. trackWord) trackNumbers rest) refl (omega arith, (omega arith, tt)))
+      ∙ ap (λ x. goOn x k (λ j. linesSay j (k + 1) (linesOf (linesText (λ t. trackWord) trackNumbers rest)))) (track-said got rest t e)
       ∙ tracks-say (got ++ (t ∷ [])) rest (k + 1) (append-assoc got (t ∷ []) rest ∙ e)
 
 pub map-reads : (m : List (List ℕ)) → 0 < mapCells m → mapCells m ≤ maxCells → readJob (mapText m) ≡ accepted (floorJob m)
@@ -141,8 +141,8 @@ unfolding readJob
 map-reads m some few =
     let n = mapCells m in
     rw (le-ltb maxText (length (mapText m)) (omega (arith, text-room m)))
-    (ap (linesSay noJob 1) (line-read floorWord (n ∷ []) (linesText trackWord trackNumbers (tracksOf m)) refl (omega arith, tt))
-    ∙ ap (λ x. goOn x 1 (λ j. linesSay j 2 (linesOf (linesText trackWord trackNumbers (tracksOf m)))))
+    (ap (linesSay noJob 1) (line-read floorWord (n ∷ []) (linesText (λ t. trackWord) trackNumbers (tracksOf m)) refl (omega arith, tt))
+    ∙ ap (λ x. goOn x 1 (λ j. linesSay j 2 (linesOf (linesText (λ t. trackWord) trackNumbers (tracksOf m)))))
     (line-passes noJob floorLine n [] (omega arith, tt) refl refl (and-both (ltb 0 n) (leb n maxCells) (lt-ltb 0 n some) (le-leb n maxCells few)) refl refl)
     ∙ tracks-say n (tracksOf m) some few (tracks-rise m) (track-known m) (omega (arith, tracks-few m)) [] (tracksOf m) 2 refl)
 

@@ -4,11 +4,12 @@ use Prim.Native.Nat.{ℕ, _<_}
 use mathlib.Core.Path.{_≡_, refl, sym, _∙_}
 use mathlib.Core.List.{List, [], _∷_}
 use mathlib.Core.Logic.{_⊎_, _↔_, inl, inr, ⊎-elim}
+use native.Mathlib.Omega.{arith}
 use lib.ListN.{length}
 use Rattle.model.specs.Lists.{In, Rising}
 use Rattle.model.specs.Job.{Job, lift, call, callOf}
 use Rattle.model.specs.Plan.{Path, Sooner, Before, PlanInOrder}
-use Rattle.model.specs.Choke.{Point, Rises, ChokesInOrder}
+use Rattle.model.specs.Choke.{Choke, cellStep, wholeCall, Rises, ChokesInOrder}
 use Rattle.model.specs.Ready.{Ready}
 use Rattle.model.proofs.Lists.{place-of, rising-first}
 use Rattle.model.proofs.Lex.{lex-on, lex-apart, lex-else}
@@ -52,5 +53,17 @@ module _ {A : Type 0} (R : A → A → Type 0) (on : (x y z : A) → R x y → R
 pub one-plan-order : (j : Job) (ps qs : List Path) → PlanInOrder j ps → PlanInOrder j qs → ((p : Path) → In p ps ↔ In p qs) → ps ≡ qs
 one-plan-order j ps qs r s m = rising-same (Before j) (λ x y z. lex-on) (λ x h. lex-apart h refl refl) ps qs r s (λ p. m p .0) (λ p. m p .1)
 
-pub one-choke-order : (xs ys : List Point) → ChokesInOrder xs → ChokesInOrder ys → ((x : Point) → In x xs ↔ In x ys) → xs ≡ ys
-one-choke-order xs ys r s m = rising-same Rises (λ x y z. lex-on) (λ x h. lex-apart h refl refl) xs ys r s (λ x. m x .0) (λ x. m x .1)
+pub rises-on : (x y z : Choke) → Rises x y → Rises y z → Rises x z
+rises-on (cellStep x) (cellStep y) (cellStep z) h k = lex-on h k
+rises-on (cellStep x) y (wholeCall m) h k = tt
+rises-on (cellStep x) (wholeCall l) (cellStep z) h k = absurd k
+rises-on (wholeCall l) (cellStep y) z h k = absurd h
+rises-on (wholeCall l) (wholeCall m) (cellStep z) h k = absurd k
+rises-on (wholeCall l) (wholeCall m) (wholeCall n) h k = omega arith
+
+pub rises-apart : (x : Choke) → Rises x x → ⊥
+rises-apart (cellStep x) h = lex-apart h refl refl
+rises-apart (wholeCall k) h = omega arith
+
+pub one-choke-order : (xs ys : List Choke) → ChokesInOrder xs → ChokesInOrder ys → ((x : Choke) → In x xs ↔ In x ys) → xs ≡ ys
+one-choke-order xs ys r s m = rising-same Rises rises-on rises-apart xs ys r s (λ x. m x .0) (λ x. m x .1)

@@ -12,15 +12,16 @@ use borrow.Author.Tests.{ltb-true, leb-true, eqb-true}
 use Rattle.model.specs.Lists.{In}
 use Rattle.model.specs.Job.{Job}
 use Rattle.model.specs.Plan.{Path}
-use Rattle.model.specs.Choke.{Point}
+use Rattle.model.specs.Choke.{point, Choke, cellStep, wholeCall}
 use Rattle.model.specs.Ready.{Fit}
 use Rattle.model.specs.Text.{Lines, done, cut, more, onFirst, linesOf, onField, fieldsOf, isDigit, numberFrom, numberOf}
-use Rattle.model.specs.Text.{andNumber, numbersOf, numeral, fields, line, opens, after, planWord, pathWord, cannotWord, chokeWord}
-use Rattle.model.specs.SheetText.{linesText, pathNumbers, chokeNumbers, planText, cannotText}
+use Rattle.model.specs.Text.{andNumber, numbersOf, numeral, fields, line, opens, after, planWord, pathWord, cannotWord, chokeWord, wholeWord}
+use Rattle.model.specs.SheetText.{linesText, pathNumbers, chokeOpens, chokeNumbers, planText, cannotText}
 use Rattle.model.specs.FirstBad.{orBad, restSays}
-use Rattle.model.specs.ReadSheet.{Sheet, bad, plan, cannot, knownPath, knownPoint, numbersAfter, pathOf, pointOf, headSays, countSays, pathLine, chokeLine, readSheet}
+use Rattle.model.specs.ReadSheet.{Sheet, bad, plan, cannot, knownPath, numbersAfter, pathOf, pointOf, wholeOf, headSays, countSays, pathLine, chokeLine, readSheet}
 use Rattle.model.proofs.Decide.{decided, dec-imp, dec-list, dec-lt, dec-eq, all-below}
 use Rattle.model.proofs.Basics.{nope, and-left, and-right}
+use Rattle.model.proofs.Floor.{knownChoke}
 use Rattle.model.proofs.Written.{plan-read, cannot-read}
 
 -- Lines.
@@ -164,11 +165,13 @@ opens-back (c ∷ w) (b ∷ s) e = go (eqb b c) refl e (λ h. opens-back w s h)
     go true q e ih = ap (λ x. x ∷ s) (eqb-true b c q) ∙ ap (λ x. c ∷ x) (ih e)
     go false q e ih = absurd (false≢true e)
 
-pub after-back : (w l ns : List ℕ) → numbersAfter w l ≡ some ns → l ≡ w ++ fields ns
-after-back w l ns e =
-    let h = cond-some (opens w l) (numbersOf (after w l)) ns e in
+opened-back : (w l ns : List ℕ) → opens w l ≡ true → numbersOf (after w l) ≡ some ns → l ≡ w ++ fields ns
+opened-back w l ns o e =
     let x = drop (suc (length w)) l in
-    opens-back w l (h .0) ∙ ap (λ y. w ++ y) (sym (tabbed-fields x) ∙ ap tabbed (numbers-back (fieldsOf x) ns (h .1)) ∙ tabbed-numerals ns)
+    opens-back w l o ∙ ap (λ y. w ++ y) (sym (tabbed-fields x) ∙ ap tabbed (numbers-back (fieldsOf x) ns e) ∙ tabbed-numerals ns)
+
+pub after-back : (w l ns : List ℕ) → numbersAfter w l ≡ some ns → l ≡ w ++ fields ns
+after-back w l ns e = let h = cond-some (opens w l) (numbersOf (after w l)) ns e in opened-back w l ns (h .0) (h .1)
 
 -- The first line.
 count-back : (isRight : ℕ → Bool) (rest : ℕ → Sheet) (o : Option (List ℕ)) (out : Sheet) → (bad 1 ≡ out → ⊥) → countSays isRight rest o ≡ out
@@ -187,8 +190,8 @@ head-joined : (word b l s t : List ℕ) (n : ℕ) → b ≡ l ++ (10 ∷ s) → 
 head-joined word b l s t n e f g = e ∙ ap (λ x. x ++ (10 ∷ s)) f ∙ ap (λ x. (word ++ fields (n ∷ [])) ++ (10 ∷ x)) g ∙ simp append-assoc
 
 -- Lines of one kind.
-module _ {A : Type 0} (say : List ℕ → Option A) (all : List A → Sheet) (word : List ℕ) (numbers : A → List ℕ) (Good : A → Type 0)
-    (back : (l : List ℕ) (a : A) → say l ≡ some a → (l ≡ word ++ fields (numbers a)) × Good a)
+module _ {A : Type 0} (say : List ℕ → Option A) (all : List A → Sheet) (word numbers : A → List ℕ) (Good : A → Type 0)
+    (back : (l : List ℕ) (a : A) → say l ≡ some a → (l ≡ word a ++ fields (numbers a)) × Good a)
     (same : (x y : List A) → all x ≡ all y → x ≡ y) (not-bad : (n : ℕ) (x : List A) → bad n ≡ all x → ⊥) where
   abbrev pub LinesBack : List A → List A → ℕ → List ℕ → Type 0
   LinesBack got res k b = (l : List A) × (res ≡ got ++ l) × (length l ≡ k) × (b ≡ linesText word numbers l) × ((a : A) → In a l → Good a)
@@ -210,9 +213,9 @@ module _ {A : Type 0} (say : List ℕ → Option A) (all : List A → Sheet) (wo
           let (lw, good) = back l a f in
           (a ∷ as′, r ∙ append-assoc got (a ∷ []) as′, ap suc c, g ∙ joined as′ s lw w, both as′ good t)
         where
-          joined : (m : List A) (s : List ℕ) → l ≡ word ++ fields (numbers a) → s ≡ linesText word numbers m
-              → l ++ (10 ∷ s) ≡ line word (numbers a) ++ linesText word numbers m
-          joined m s e f = ap (λ x. x ++ (10 ∷ s)) e ∙ ap (λ x. (word ++ fields (numbers a)) ++ (10 ∷ x)) f ∙ simp append-assoc
+          joined : (m : List A) (s : List ℕ) → l ≡ word a ++ fields (numbers a) → s ≡ linesText word numbers m
+              → l ++ (10 ∷ s) ≡ line (word a) (numbers a) ++ linesText word numbers m
+          joined m s e f = ap (λ x. x ++ (10 ∷ s)) e ∙ ap (λ x. (word a ++ fields (numbers a)) ++ (10 ∷ x)) f ∙ simp append-assoc
 
           both : (m : List A) → Good a → ((b : A) → In b m → Good b) → (b : A) → (b ≡ a) ⊎ In b m → Good b
           both m g t b (inl e) = rw e g
@@ -257,16 +260,16 @@ module _ {A : Type 0} (say : List ℕ → Option A) (all : List A → Sheet) whe
 plan-not-bad : (n : ℕ) (x : List Path) → bad n ≡ plan x → ⊥
 plan-not-bad n x e = nope (cc)
 
-cannot-not-bad : (n : ℕ) (x : List Point) → bad n ≡ cannot x → ⊥
+cannot-not-bad : (n : ℕ) (x : List Choke) → bad n ≡ cannot x → ⊥
 cannot-not-bad n x e = nope (cc)
 
 plan-same : (x y : List Path) → plan x ≡ plan y → x ≡ y
 plan-same x y e = cc
 
-cannot-same : (x y : List Point) → cannot x ≡ cannot y → x ≡ y
+cannot-same : (x y : List Choke) → cannot x ≡ cannot y → x ≡ y
 cannot-same x y e = cc
 
-plan-not-cannot : (ps : List Path) (xs : List Point) → plan ps ≡ cannot xs → ⊥
+plan-not-cannot : (ps : List Path) (xs : List Choke) → plan ps ≡ cannot xs → ⊥
 plan-not-cannot ps xs e = nope (cc)
 
 module _ (j : Job) where
@@ -286,22 +289,38 @@ module _ (j : Job) where
           some-path : (x y : Path) → some x ≡ some y → x ≡ y
           some-path x y e = cc
 
-  choke-back : (l : List ℕ) (x : Point) → chokeLine j l ≡ some x → (l ≡ chokeWord ++ fields (chokeNumbers x)) × (knownPoint j x ≡ true)
-  choke-back l x e = go (numbersAfter chokeWord l) refl e
+  abbrev Says : List ℕ → Choke → Type 0
+  Says l x = (l ≡ chokeOpens x ++ fields (chokeNumbers x)) × (knownChoke j x ≡ true)
+
+  -- what passed its test
+  passed : (l : List ℕ) (x y : Choke) → l ≡ chokeOpens y ++ fields (chokeNumbers y) → cond (knownChoke j y) (some y) none ≡ some x → Says l x
+  passed l x y g e =
+      let h = cond-some (knownChoke j y) (some y) x e in
+      let f : y ≡ x = some-choke y x (h .1) in
+      (g ∙ ap (λ z. chokeOpens z ++ fields (chokeNumbers z)) f, ap (knownChoke j) (sym f) ∙ h .0)
     where
-      go : (o : Option (List ℕ)) → numbersAfter chokeWord l ≡ o → pointOf j o ≡ some x → (l ≡ chokeWord ++ fields (chokeNumbers x)) × (knownPoint j x ≡ true)
-      go none q e = nope (cc)
-      go (some []) q e = nope (cc)
-      go (some (a ∷ [])) q e = nope (cc)
-      go (some (a ∷ b ∷ [])) q e =
-          let y : Point = record { cell = a; step = b } in
-          let h = cond-some (knownPoint j y) (some y) x e in
-          let f : y ≡ x = some-point y x (h .1) in
-          (after-back chokeWord l (a ∷ b ∷ []) q ∙ ap (λ z. chokeWord ++ fields (chokeNumbers z)) f, ap (knownPoint j) (sym f) ∙ h .0)
-        where
-          some-point : (x y : Point) → some x ≡ some y → x ≡ y
-          some-point x y e = cc
-      go (some (a ∷ b ∷ c ∷ ns)) q e = nope (cc)
+      some-choke : (x y : Choke) → some x ≡ some y → x ≡ y
+      some-choke x y e = cc
+
+  point-back : (l : List ℕ) (x : Choke) (o : Option (List ℕ)) → numbersAfter chokeWord l ≡ o → pointOf j o ≡ some x → Says l x
+  point-back l x none q e = nope (cc)
+  point-back l x (some []) q e = nope (cc)
+  point-back l x (some (a ∷ [])) q e = nope (cc)
+  point-back l x (some (a ∷ b ∷ [])) q e = passed l x (cellStep (point a b)) (after-back chokeWord l (a ∷ b ∷ []) q) e
+  point-back l x (some (a ∷ b ∷ c ∷ ns)) q e = nope (cc)
+
+  whole-back : (l : List ℕ) (x : Choke) (o : Option (List ℕ)) → opens wholeWord l ≡ true → numbersOf (after wholeWord l) ≡ o → wholeOf j o ≡ some x → Says l x
+  whole-back l x none t q e = nope (cc)
+  whole-back l x (some []) t q e = nope (cc)
+  whole-back l x (some (k ∷ [])) t q e = passed l x (wholeCall k) (opened-back wholeWord l (k ∷ []) t q) e
+  whole-back l x (some (k ∷ m ∷ ns)) t q e = nope (cc)
+
+  choke-back : (l : List ℕ) (x : Choke) → chokeLine j l ≡ some x → Says l x
+  choke-back l x e = go (opens wholeWord l) refl e
+    where
+      go : (t : Bool) → opens wholeWord l ≡ t → cond t (wholeOf j (numbersOf (after wholeWord l))) (pointOf j (numbersAfter chokeWord l)) ≡ some x → Says l x
+      go true t e = whole-back l x (numbersOf (after wholeWord l)) t refl e
+      go false t e = point-back l x (numbersAfter chokeWord l) refl e
 
   -- what a PLAN or a CANNOT says, by its first line
   abbrev plans : List ℕ → Lines → Sheet
@@ -324,7 +343,7 @@ module _ (j : Job) where
           by : (t : Bool) → cond t (plans l ls) (cannots l ls) ≡ plan ps
               → (b ≡ planText ps) × (length ps ≡ length (j .calls)) × ((p : Path) → In p ps → knownPath j p ≡ true)
           by true e =
-              let (x, y, z) = all-back (pathLine j) plan pathWord pathNumbers (λ p. knownPath j p ≡ true) path-back plan-same plan-not-bad planWord b l ls
+              let (x, y, z) = all-back (pathLine j) plan (λ p. pathWord) pathNumbers (λ p. knownPath j p ≡ true) path-back plan-same plan-not-bad planWord b l ls
               (λ n. eqb n (length (j .calls))) ps q e in
               (x, eqb-true (length ps) (length (j .calls)) y, z)
           by false e =
@@ -332,22 +351,22 @@ module _ (j : Job) where
               (no-other (chokeLine j) cannot ls (λ n. ltb n (length (j .calls))) (numbersAfter cannotWord l) (plan ps) (λ m. plan-not-bad m ps)
               (λ xs f. plan-not-cannot ps xs (sym f)) e)
 
-  pub cannot-back : (b : List ℕ) (xs : List Point) → readSheet j b ≡ cannot xs
-      → (b ≡ cannotText xs) × (length xs < length (j .calls)) × ((x : Point) → In x xs → knownPoint j x ≡ true)
+  pub cannot-back : (b : List ℕ) (xs : List Choke) → readSheet j b ≡ cannot xs
+      → (b ≡ cannotText xs) × (length xs < length (j .calls)) × ((x : Choke) → In x xs → knownChoke j x ≡ true)
   unfolding readSheet
   cannot-back b xs e = go (linesOf b) refl e
     where
       go : (ls : Lines) → linesOf b ≡ ls → headSays j ls ≡ cannot xs
-          → (b ≡ cannotText xs) × (length xs < length (j .calls)) × ((x : Point) → In x xs → knownPoint j x ≡ true)
+          → (b ≡ cannotText xs) × (length xs < length (j .calls)) × ((x : Choke) → In x xs → knownChoke j x ≡ true)
       go done q e = absurd (cannot-not-bad 1 xs e)
       go cut q e = absurd (cannot-not-bad 1 xs e)
       go (more l ls) q e = by (opens planWord l) e
         where
           by : (t : Bool) → cond t (plans l ls) (cannots l ls) ≡ cannot xs
-              → (b ≡ cannotText xs) × (length xs < length (j .calls)) × ((x : Point) → In x xs → knownPoint j x ≡ true)
+              → (b ≡ cannotText xs) × (length xs < length (j .calls)) × ((x : Choke) → In x xs → knownChoke j x ≡ true)
           by true e = absurd (no-other (pathLine j) plan ls (λ n. eqb n (length (j .calls))) (numbersAfter planWord l) (cannot xs) (λ m. cannot-not-bad m xs) (λ ps. plan-not-cannot ps xs) e)
           by false e =
-              let (x, y, z) = all-back (chokeLine j) cannot chokeWord chokeNumbers (λ x. knownPoint j x ≡ true) choke-back cannot-same cannot-not-bad cannotWord b l ls
+              let (x, y, z) = all-back (chokeLine j) cannot chokeOpens chokeNumbers (λ x. knownChoke j x ≡ true) choke-back cannot-same cannot-not-bad cannotWord b l ls
               (λ n. ltb n (length (j .calls))) xs q e in
               (x, ltb-true (length xs) (length (j .calls)) y, z)
 
@@ -357,6 +376,6 @@ module _ (j : Job) (f : Fit j) where
       → length qs ≡ length (j .calls) → ((p : Path) → In p qs → knownPath j p ≡ true) → planText ps ≡ planText qs → ps ≡ qs
   plan-once ps qs l g l′ g′ e = plan-same ps qs (sym (plan-read j f ps l g) ∙ ap (readSheet j) e ∙ plan-read j f qs l′ g′)
 
-  pub cannot-once : (xs ys : List Point) → length xs < length (j .calls) → ((x : Point) → In x xs → knownPoint j x ≡ true)
-      → length ys < length (j .calls) → ((x : Point) → In x ys → knownPoint j x ≡ true) → cannotText xs ≡ cannotText ys → xs ≡ ys
+  pub cannot-once : (xs ys : List Choke) → length xs < length (j .calls) → ((x : Choke) → In x xs → knownChoke j x ≡ true)
+      → length ys < length (j .calls) → ((x : Choke) → In x ys → knownChoke j x ≡ true) → cannotText xs ≡ cannotText ys → xs ≡ ys
   cannot-once xs ys l g l′ g′ e = cannot-same xs ys (sym (cannot-read j f xs l g) ∙ ap (readSheet j) e ∙ cannot-read j f ys l′ g′)

@@ -1,11 +1,13 @@
--- What no filed example shows, each as a row: the least buffers, the form of a sheet and the line of a 11, what is no conflict, the order of a plan, the form of a map.
+-- What no filed example shows, each as a row: the least buffers, the form of a sheet and the line of a 11, what is no conflict, early lifts, what a whole call stops, the order
+-- of a plan and of a choke list, the form of a map.
 use Prim.Native.Nat.{ℕ, _+_, _*_}
+use Prim.Native.String.{String}
 use mathlib.Core.List.{List, [], _∷_}
 use Rattle.model.specs.Lists.{In}
 use Rattle.model.specs.ReadJob.{readJob}
 use Rattle.model.specs.ReadSheet.{readSheet}
 use Rattle.model.specs.GridMap.{readMap}
-use Rattle.model.specs.Filed.{Row, plans, checks, maps, wrote, refuses, RowHolds, big, jobA, jobB, jobD, jobF, jobClosed, jobUnclosed}
+use Rattle.model.specs.Filed.{Row, plans, checks, maps, allows, wrote, refuses, RowHolds, big, jobA, jobB, jobD, jobF, jobClosed, jobUnclosed}
 use Rattle.model.proofs.Decide.{decided, all-in}
 use Rattle.model.proofs.Filed.{dec-row, row-holds}
 
@@ -36,7 +38,8 @@ sheets =
     ∷ checks jobF big "PLAN\t1\nPATH\t0\t0\t0\t0\n" (at 1)
     ∷ checks jobF big "PLAN\t2\nPATH\t0\t0\t0\t0\nPATH\t1\t1\t1\t1" (at 3)
     ∷ checks jobF big "PLAN\t2\nPATH\t0\t0\t0\t0\nPATH\t1\t1\t1\t1\nx" (at 4)
-    ∷ checks jobF big "PLAN\t2\nPATH\t0\t0\t0\nPATH\t1\t1\t1\t1\n" (at 2)
+    ∷ checks jobF big "PLAN\t2\nPATH\t0\t0\nPATH\t1\t1\t1\t1\n" (at 2)
+    ∷ checks jobF big "PLAN\t2\nPATH\t0\t0\t0\t0\t0\nPATH\t1\t1\t1\t1\n" (at 2)
     ∷ checks jobF big "PLAN\t2\nPATH\t0\t0\t0\t2\nPATH\t1\t1\t1\t1\n" (at 2)
     ∷ checks jobF big "PLAN\t2\nPATH\t1\t1\t1\t1\nPATH\t0\t0\t0\t0\n" 12
     ∷ checks jobF big "PLAN\t2\nPATH\t0\t0\t0\t0\nPATH\t0\t0\t0\t0\n" 12
@@ -52,6 +55,45 @@ moves =
     "PLAN\t3\nPATH\t2\t2\t2\t0\nPATH\t0\t0\t0\t1\nPATH\t1\t1\t1\t2\n" 0
     ∷ checks "FLOOR\t2\nTRACK\t0\t1\nCART\t0\nCART\t1\nCALL\t1\t0\nCALL\t0\t2\n" big "PLAN\t2\nPATH\t1\t0\t1\nPATH\t0\t1\t0\t1\t0\n" 0
     ∷ checks "FLOOR\t2\nTRACK\t0\t1\nCART\t0\nCART\t1\nCALL\t1\t1\nCALL\t0\t2\n" big "PLAN\t2\nPATH\t1\t0\t1\t1\nPATH\t0\t1\t0\t1\t0\n" 12
+    ∷ []
+
+abbrev jobCross : String
+jobCross = "FLOOR\t3\nTRACK\t0\t1\nTRACK\t1\t2\nCART\t0\nCART\t1\nCALL\t1\t2\nCALL\t2\t2\n"
+
+-- a cart is lifted before its deadline, and its lift cell is free from the next step on, not at that one; it is lifted on its call's cell only, and never parked early
+abbrev lifts : List Row
+lifts =
+    checks jobF big "PLAN\t2\nPATH\t0\t0\t0\nPATH\t1\t1\t1\t1\n" 0
+    ∷ checks jobCross big "PLAN\t2\nPATH\t1\t0\t1\nPATH\t0\t1\t0\t1\t2\n" 0
+    ∷ checks jobCross big "PLAN\t2\nPATH\t1\t0\t1\t1\nPATH\t0\t1\t0\t1\t2\n" 12
+    ∷ checks jobA big "PLAN\t2\nPATH\t0\t1\t0\t1\nPATH\t1\t0\t1\n" 12
+    ∷ checks "FLOOR\t2\nTRACK\t0\t1\nCART\t0\nBAY\t1\t2\n" big "PLAN\t1\nPATH\t0\t0\t0\t1\n" (at 2)
+    ∷ []
+
+abbrev jobStands : String
+jobStands = "FLOOR\t3\nCART\t0\nCART\t1\nCALL\t0\t1\nCALL\t2\t1\n"
+
+abbrev jobApart : String
+jobApart = "FLOOR\t6\nCART\t0\nCART\t1\nCART\t2\nCALL\t3\t0\nCALL\t4\t0\nCALL\t5\t0\n"
+
+-- a whole call is one at a lift; walks that end early must be stopped too; a whole call stops the walks that end there, and none that crosses its cell; cells stand in front of
+-- whole calls, and these rise
+abbrev chokes : List Row
+chokes =
+    checks jobClosed big "CANNOT\t1\nCHOKE\tCALL\t0\n" (at 2)
+    ∷ checks jobClosed big "CANNOT\t1\nCHOKE\tCALL\t2\n" (at 2)
+    ∷ checks jobStands big "CANNOT\t1\nCHOKE\tCALL\n" (at 2)
+    ∷ checks jobStands big "CANNOT\t1\nCHOKE\tCALL\t0\t1\n" (at 2)
+    ∷ checks jobStands big "CANNOT\t1\nCHOKE\t0\t1\n" 12
+    ∷ checks jobStands big "CANNOT\t1\nCHOKE\t0\t0\n" 1
+    ∷ checks jobStands big "CANNOT\t1\nCHOKE\tCALL\t0\n" 1
+    ∷ checks jobStands big "CANNOT\t1\nCHOKE\tCALL\t1\n" 12
+    ∷ checks jobCross big "CANNOT\t1\nCHOKE\tCALL\t0\n" 12
+    ∷ checks jobApart big "CANNOT\t2\nCHOKE\t5\t0\nCHOKE\tCALL\t0\n" 1
+    ∷ checks jobApart big "CANNOT\t2\nCHOKE\tCALL\t0\nCHOKE\t5\t0\n" 12
+    ∷ checks jobApart big "CANNOT\t2\nCHOKE\tCALL\t0\nCHOKE\tCALL\t1\n" 1
+    ∷ checks jobApart big "CANNOT\t2\nCHOKE\tCALL\t1\nCHOKE\tCALL\t0\n" 12
+    ∷ checks jobApart big "CANNOT\t2\nCHOKE\tCALL\t1\nCHOKE\tCALL\t1\n" 12
     ∷ []
 
 -- a bay's cell is closed from the step behind the bay's on: no path may come there, and a choke point there stops nothing; a bay's path ends at its step, and BAY lines are
@@ -76,7 +118,7 @@ abbrev orders : List Row
 orders =
     plans "FLOOR\t2\nCART\t0\nCART\t1\nBAY\t1\t0\nCALL\t0\t0\n" big big (wrote 0 "PLAN\t2\nPATH\t0\t1\t0\nPATH\t1\t0\t1\n")
     ∷ plans "FLOOR\t2\nCART\t0\nCART\t1\nCALL\t1\t0\nBAY\t0\t0\n" big big (wrote 0 "PLAN\t2\nPATH\t0\t1\t0\nPATH\t1\t0\t1\n")
-    ∷ plans "FLOOR\t2\nCART\t0\nCART\t1\nCALL\t0\t1\nCALL\t1\t0\n" big big (wrote 0 "PLAN\t2\nPATH\t1\t1\t1\nPATH\t0\t0\t0\t0\n")
+    ∷ allows "FLOOR\t2\nCART\t0\nCART\t1\nCALL\t0\t1\nCALL\t1\t0\n" big big (wrote 0 "PLAN\t2\nPATH\t1\t1\t1\nPATH\t0\t0\t0\t0\n")
     ∷ checks "FLOOR\t3\nCART\t0\nCART\t1\nCART\t2\nCALL\t2\t0\nCALL\t0\t0\nCALL\t1\t0\n" big "PLAN\t3\nPATH\t0\t1\t0\nPATH\t1\t2\t1\nPATH\t2\t0\t2\n" 0
     ∷ checks "FLOOR\t3\nCART\t0\nCART\t1\nCART\t2\nCALL\t2\t0\nCALL\t0\t0\nCALL\t1\t0\n" big "PLAN\t3\nPATH\t2\t0\t2\nPATH\t0\t1\t0\nPATH\t1\t2\t1\n" 12
     ∷ []
@@ -114,6 +156,14 @@ buffers-hold x m = row-holds x (decided (all-in dec-row buffers) tt x m)
 pub sheets-hold : (x : Row) → In x sheets → RowHolds x
 unfolding readJob readSheet
 sheets-hold x m = row-holds x (decided (all-in dec-row sheets) tt x m)
+
+pub lifts-hold : (x : Row) → In x lifts → RowHolds x
+unfolding readJob readSheet
+lifts-hold x m = row-holds x (decided (all-in dec-row lifts) tt x m)
+
+pub chokes-hold : (x : Row) → In x chokes → RowHolds x
+unfolding readJob readSheet
+chokes-hold x m = row-holds x (decided (all-in dec-row chokes) tt x m)
 
 pub bays-hold : (x : Row) → In x bays → RowHolds x
 unfolding readJob readSheet

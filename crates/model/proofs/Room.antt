@@ -28,8 +28,8 @@ pub line-room : (word ns : List ℕ) → length (line word ns) ≤ length word +
 line-room word ns = simp length-append (omega (arith, fields-room ns))
 
 -- l lines of at most k bytes each
-pub lines-room : {A : Type 0} (word : List ℕ) (numbers : A → List ℕ) (k : ℕ) (l : List A) → ((a : A) → In a l → length (line word (numbers a)) ≤ k)
+pub lines-room : {A : Type 0} (word numbers : A → List ℕ) (k : ℕ) (l : List A) → ((a : A) → In a l → length (line (word a) (numbers a)) ≤ k)
     → length (linesText word numbers l) ≤ k * length l
 lines-room word numbers k [] h = omega arith
 lines-room word numbers k (a ∷ l) h =
-    rw (length-append (line word (numbers a)) (linesText word numbers l), mul-suc) (omega (arith, h a (inl refl), lines-room word numbers k l (λ b i. h b (inr i))))
+    rw (length-append (line (word a) (numbers a)) (linesText word numbers l), mul-suc) (omega (arith, h a (inl refl), lines-room word numbers k l (λ b i. h b (inr i))))

@@ -1,25 +1,28 @@
 -- A sheet that is written is read back as what was written. Assumes nothing.
-use Prim.Native.Nat.{ℕ, suc, _+_, _≤_, _<_}
+use Prim.Native.Nat.{ℕ, suc, _+_, _/_, _≤_, _<_}
 use mathlib.Core.Path.{_≡_, refl, sym, ap, _∙_}
 use mathlib.Core.List.{List, [], _∷_, _++_, map, append-assoc, append-nil}
 use mathlib.Core.Option.{Option, none, some}
 use mathlib.Core.Bool.{Bool, true, false, cond, not, _&&_, false≢true}
 use mathlib.Core.Logic.{inl, inr}
 use native.Mathlib.Omega.{arith}
-use lib.Dec.{eqb, ltb, leb}
+use lib.Dec.{eqb, ltb}
 use lib.ListN.{length}
-use borrow.Author.Tests.{ltb-true, leb-true, eq-eqb, lt-ltb, not-true}
+use borrow.Author.Tests.{ltb-true, eq-eqb, ne-eqb, lt-ltb, not-true}
 use Rattle.model.specs.Lists.{In}
+use Rattle.model.specs.Bytes.{bytes}
 use Rattle.model.specs.Limits.{maxCells, maxSteps}
 use Rattle.model.specs.Job.{Job, Call, latest, horizon, callOf}
 use Rattle.model.specs.Plan.{Path}
-use Rattle.model.specs.Choke.{Point}
+use Rattle.model.specs.Choke.{Choke, cellStep, wholeCall}
 use Rattle.model.specs.Ready.{Fit}
-use Rattle.model.specs.Text.{more, withByte, linesOf, onField, fieldsOf, numberOf, andNumber, numbersOf, numeral, fields, line, planWord, pathWord, cannotWord, chokeWord}
-use Rattle.model.specs.SheetText.{linesText, pathNumbers, chokeNumbers, planText, cannotText}
+use Rattle.model.specs.Text.{more, withByte, linesOf, onField, fieldsOf, numberOf, andNumber, numbersOf, startsWith, digit, numeral, fields, line}
+use Rattle.model.specs.Text.{planWord, pathWord, cannotWord, chokeWord, wholeWord, after}
+use Rattle.model.specs.SheetText.{linesText, pathNumbers, chokeOpens, chokeNumbers, planText, cannotText}
 use Rattle.model.specs.FirstBad.{orBad, restSays}
-use Rattle.model.specs.ReadSheet.{Sheet, bad, plan, cannot, allBelow, knownPath, knownPoint, pathOf, pointOf, headSays, countSays, pathLine, chokeLine, readSheet}
+use Rattle.model.specs.ReadSheet.{Sheet, bad, plan, cannot, allBelow, sizeFits, knownPath, numbersAfter, pathOf, pointOf, wholeOf, headSays, countSays, pathLine, chokeLine, readSheet}
 use Rattle.model.proofs.Basics.{and-left, and-right, and-both}
+use Rattle.model.proofs.Floor.{knownChoke, test-choke}
 use Rattle.model.proofs.Decide.{decided, dec-by, dec-and, dec-eq, all-below}
 
 -- no byte c
@@ -48,6 +51,18 @@ dec-some (some m) n = dec-by (λ e. ap some e) some-some (dec-eq m n)
 
 pub numeral-good : (n : ℕ) → n < 1000 → (free 9 (numeral n) ≡ true) × ((free 10 (numeral n) ≡ true) × (numberOf (numeral n) ≡ some n))
 numeral-good = decided (all-below (λ n. dec-and (dec-true (free 9 (numeral n))) (dec-and (dec-true (free 10 (numeral n))) (dec-some (numberOf (numeral n)) n))) 1000) tt
+
+-- A numeral starts with a digit, and so with no letter.
+no-letter : (n b : ℕ) (w s : List ℕ) → 58 ≤ b → startsWith (b ∷ w) (numeral n ++ s) ≡ false
+no-letter n b w s h = go (ltb n 10) (ltb n 100)
+  where
+    other : (m : ℕ) (l : List ℕ) → startsWith (b ∷ w) (digit m ∷ l) ≡ false
+    other m l = rw (ne-eqb (digit m) b (λ e. omega arith))
+
+    go : (t u : Bool) → startsWith (b ∷ w) (cond t (digit n ∷ []) (cond u (digit (n / 10) ∷ digit n ∷ []) (digit (n / 100) ∷ digit (n / 10) ∷ digit n ∷ [])) ++ s) ≡ false
+    go true u = other n s
+    go false true = other (n / 10) (digit n ∷ s)
+    go false false = other (n / 100) (digit (n / 10) ∷ digit n ∷ s)
 
 abbrev pub AllSmall : List ℕ → Type 0
 AllSmall [] = Unit
@@ -94,13 +109,13 @@ fields-read n ns h =
     ap numbersOf (fields-first (numeral n) (fields ns) (map numeral ns) (numeral-good n (h .0) .0) (fields-apart ns (h .1))) ∙ numbers-read (n ∷ ns) h
 
 -- Lines of one kind.
-module _ {A : Type 0} (say : List ℕ → Option A) (all : List A → Sheet) (word : List ℕ) (numbers : A → List ℕ) (Good : A → Type 0)
-    (plain : free 10 word ≡ true) (small : (a : A) → Good a → AllSmall (numbers a)) (said : (a : A) → Good a → say (word ++ fields (numbers a)) ≡ some a) where
+module _ {A : Type 0} (say : List ℕ → Option A) (all : List A → Sheet) (word numbers : A → List ℕ) (Good : A → Type 0)
+    (plain : (a : A) → free 10 (word a) ≡ true) (small : (a : A) → Good a → AllSmall (numbers a)) (said : (a : A) → Good a → say (word a ++ fields (numbers a)) ≡ some a) where
   pub rest-read : (got l : List A) (n : ℕ) → ((a : A) → In a l → Good a)
       → restSays bad say all got (length l) n (linesOf (linesText word numbers l)) ≡ all (got ++ l)
   rest-read got [] n g = ap all (sym (append-nil got))
   rest-read got (a ∷ l) n g =
-      ap (restSays bad say all got (suc (length l)) n) (line-read word (numbers a) (linesText word numbers l) plain (small a (g a (inl refl))))
+      ap (restSays bad say all got (suc (length l)) n) (line-read (word a) (numbers a) (linesText word numbers l) (plain a) (small a (g a (inl refl))))
       ∙ ap (λ o. orBad bad n o (λ x. restSays bad say all (got ++ (x ∷ [])) (length l) (n + 1) (linesOf (linesText word numbers l)))) (said a (g a (inl refl)))
       ∙ rest-read (got ++ (a ∷ [])) l (n + 1) (λ b m. g b (inr m))
       ∙ ap all (append-assoc got (a ∷ []) l)
@@ -129,7 +144,7 @@ module _ (j : Job) (f : Fit j) where
   path-small p e =
       let x₁ = ltb (p .cart) (length (j .carts)) in
       let x₂ = ltb (p .call) (length (j .calls)) in
-      let x₃ = eqb (length (p .cells)) (suc (callOf j (p .call) .deadline)) in
+      let x₃ = sizeFits (callOf j (p .call) .kind) (callOf j (p .call) .deadline) (length (p .cells)) in
       let x₄ = allBelow (j .cells) (p .cells) in
       let e₁₂ : (x₁ && x₂) ≡ true = and-left (x₁ && x₂) x₃ (and-left (x₁ && x₂ && x₃) x₄ e) in (
         omega (arith, ltb-true (p .cart) (length (j .carts)) (and-left x₁ x₂ e₁₂), f .few-carts),
@@ -145,22 +160,28 @@ module _ (j : Job) (f : Fit j) where
   pub plan-read : (ps : List Path) → length ps ≡ length (j .calls) → ((p : Path) → In p ps → knownPath j p ≡ true) → readSheet j (planText ps) ≡ plan ps
   unfolding readSheet
   plan-read ps e g =
-      ap (headSays j) (line-read planWord (length ps ∷ []) (linesText pathWord pathNumbers ps) refl (omega (arith, f .few-calls), tt))
-      ∙ all-read (pathLine j) plan pathWord pathNumbers (λ p. knownPath j p ≡ true) refl path-small path-said (λ n. eqb n (length (j .calls))) ps
+      ap (headSays j) (line-read planWord (length ps ∷ []) (linesText (λ p. pathWord) pathNumbers ps) refl (omega (arith, f .few-calls), tt))
+      ∙ all-read (pathLine j) plan (λ p. pathWord) pathNumbers (λ p. knownPath j p ≡ true) (λ p. refl) path-small path-said (λ n. eqb n (length (j .calls))) ps
       (omega (arith, f .few-calls)) (eq-eqb (length ps) (length (j .calls)) e) g
 
-  point-small : (x : Point) → knownPoint j x ≡ true → AllSmall (chokeNumbers x)
-  point-small x e = (
-    omega (arith, ltb-true (x .cell) (j .cells) (and-left _ _ e), f .few-cells),
-    (omega (arith, leb-true (x .step) (horizon j) (and-right (ltb (x .cell) (j .cells)) (leb (x .step) (horizon j)) e), few-steps), tt),
-  )
+  choke-plain : (x : Choke) → free 10 (chokeOpens x) ≡ true
+  choke-plain (cellStep x) = refl
+  choke-plain (wholeCall k) = refl
 
-  point-said : (x : Point) → knownPoint j x ≡ true → chokeLine j (chokeWord ++ fields (chokeNumbers x)) ≡ some x
-  point-said x e = ap (pointOf j) (fields-read (x .cell) (x .step ∷ []) (point-small x e)) ∙ ap (λ b. cond b (some x) none) e
+  choke-small : (x : Choke) → knownChoke j x ≡ true → AllSmall (chokeNumbers x)
+  choke-small (cellStep x) e = let h = test-choke j (cellStep x) e in (omega (arith, h .0, f .few-cells), (omega (arith, h .1, few-steps), tt))
+  choke-small (wholeCall k) e = let h = test-choke j (wholeCall k) e in (omega (arith, h .0, f .few-calls), tt)
 
-  pub cannot-read : (xs : List Point) → length xs < length (j .calls) → ((x : Point) → In x xs → knownPoint j x ≡ true) → readSheet j (cannotText xs) ≡ cannot xs
+  choke-said : (x : Choke) → knownChoke j x ≡ true → chokeLine j (chokeOpens x ++ fields (chokeNumbers x)) ≡ some x
+  choke-said (cellStep x) e =
+      let l = chokeWord ++ fields (x .cell ∷ x .step ∷ []) in
+      ap (λ t. cond t (wholeOf j (numbersOf (after wholeWord l))) (pointOf j (numbersAfter chokeWord l))) (no-letter (x .cell) 67 (bytes "ALL\t") (fields (x .step ∷ [])) (omega arith))
+      ∙ ap (pointOf j) (fields-read (x .cell) (x .step ∷ []) (choke-small (cellStep x) e)) ∙ ap (λ b. cond b (some (cellStep x)) none) e
+  choke-said (wholeCall k) e = ap (wholeOf j) (fields-read k [] (choke-small (wholeCall k) e)) ∙ ap (λ b. cond b (some (wholeCall k)) none) e
+
+  pub cannot-read : (xs : List Choke) → length xs < length (j .calls) → ((x : Choke) → In x xs → knownChoke j x ≡ true) → readSheet j (cannotText xs) ≡ cannot xs
   unfolding readSheet
   cannot-read xs e g =
-      ap (headSays j) (line-read cannotWord (length xs ∷ []) (linesText chokeWord chokeNumbers xs) refl (omega (arith, f .few-calls), tt))
-      ∙ all-read (chokeLine j) cannot chokeWord chokeNumbers (λ x. knownPoint j x ≡ true) refl point-small point-said (λ n. ltb n (length (j .calls))) xs
+      ap (headSays j) (line-read cannotWord (length xs ∷ []) (linesText chokeOpens chokeNumbers xs) refl (omega (arith, f .few-calls), tt))
+      ∙ all-read (chokeLine j) cannot chokeOpens chokeNumbers (λ x. knownChoke j x ≡ true) choke-plain choke-small choke-said (λ n. ltb n (length (j .calls))) xs
       (omega (arith, f .few-calls)) (lt-ltb (length xs) (length (j .calls)) e) g

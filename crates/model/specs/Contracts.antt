@@ -10,7 +10,7 @@ use Rattle.model.specs.declared.answer.Answer.the-variants as answer
 use Rattle.model.specs.Answers.{number}
 use Rattle.model.specs.Job.{Job, storeLeast, sheetLeast}
 use Rattle.model.specs.Plan.{Path, Plan, PlanInOrder}
-use Rattle.model.specs.Choke.{Point, TrueChokes, ChokesInOrder}
+use Rattle.model.specs.Choke.{Choke, TrueChokes, ChokesInOrder}
 use Rattle.model.specs.SheetText.{planText, cannotText}
 use Rattle.model.specs.ReadJob.{Verdict, refused, accepted, readJob}
 use Rattle.model.specs.GridMap.{mapVerdict}
@@ -28,14 +28,14 @@ withRoom n (accepted j) = cond (ltb n (sheetLeast j)) (refused answer.SheetTooSh
 abbrev pub RightPlan : Job → List Path → Type 0
 RightPlan j ps = Plan j ps × PlanInOrder j ps
 
-abbrev pub RightChokes : Job → List Point → Type 0
+abbrev pub RightChokes : Job → List Choke → Type 0
 RightChokes j xs = TrueChokes j xs × ChokesInOrder xs
 
 -- The sheet b that the planner writes, with its answer.
 abbrev pub Answers : Job → ℕ → List ℕ → Type 0
 Answers j r b =
     ((ps : List Path) × RightPlan j ps × (b ≡ planText ps) × (r ≡ number answer.Plan + 256 * length b))
-    ⊎ ((xs : List Point) × RightChokes j xs × (b ≡ cannotText xs) × (r ≡ number answer.Cannot + 256 * length b) × ((ps : List Path) → Plan j ps → ⊥))
+    ⊎ ((xs : List Choke) × RightChokes j xs × (b ≡ cannotText xs) × (r ≡ number answer.Cannot + 256 * length b) × ((ps : List Path) → Plan j ps → ⊥))
 
 -- The planner's answer r and the bytes b that it writes; none at a refusal.
 abbrev pub Told : Verdict Job → ℕ → List ℕ → Type 0

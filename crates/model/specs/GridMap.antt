@@ -90,7 +90,7 @@ abbrev pub trackNumbers : Track → List ℕ
 trackNumbers t = t .from ∷ t .to ∷ []
 
 abbrev pub floorLines : ℕ → List Track → List ℕ
-floorLines n ts = line floorWord (n ∷ []) ++ linesText trackWord trackNumbers ts
+floorLines n ts = line floorWord (n ∷ []) ++ linesText (λ t. trackWord) trackNumbers ts
 
 abbrev pub mapText : List (List ℕ) → List ℕ
 mapText m = floorLines (mapCells m) (tracksOf m)

@@ -12,7 +12,7 @@ pub record Track : Type 0 where
 pub data CallKind : Type 0 where
   lift bay : CallKind
 
--- a lift or bay cell, and the step at which the call's cart stands there
+-- a lift or bay cell, and the step by which a lift takes the call's cart there, or at which it parks in the bay
 pub record Call : Type 0 where
   pub kind : CallKind
   pub cell : ℕ

@@ -7,7 +7,7 @@ use Rattle.model.specs.Lists.{In, NoDup, Rising, Lex}
 use Rattle.model.specs.Job.{Job, Call, cartCell, callOf}
 use Rattle.model.specs.Walk.{At, Walk, Serves}
 
--- the numbers of a cart and a call, and the cells from step 0 to the deadline
+-- the numbers of a cart and a call, and the cells from step 0 to the one at which the cart is lifted or parked
 pub record Path : Type 0 where
   pub cart : ℕ
   pub call : ℕ
@@ -20,7 +20,7 @@ pub record Leads (j : Job) (p : Path) : Type 0 where
   pub walks : Walk j (cartCell j (p .cart)) (p .cells)
   pub serves : Serves (p .cells) (callOf j (p .call))
 
--- The cart that walks w is on the cell v at the step t. It is on the floor up to its deadline, that step included, and off it or parked from the next.
+-- The cart that walks w is on the cell v at the step t. It is on the floor up to the end of its walk, that step included, and lifted or parked from the next.
 abbrev pub OnFloor : List ℕ → ℕ → ℕ → Type 0
 OnFloor w t v = At w t v
 

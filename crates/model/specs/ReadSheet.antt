@@ -2,19 +2,19 @@
 use Prim.Native.Nat.{ℕ, zero, suc, _+_}
 use mathlib.Core.List.{List, [], _∷_, _++_}
 use mathlib.Core.Option.{Option, none, some}
-use mathlib.Core.Bool.{Bool, true, cond, _&&_}
+use mathlib.Core.Bool.{Bool, true, false, cond, _&&_}
 use lib.Dec.{ltb, leb, eqb}
 use lib.ListN.{length}
-use Rattle.model.specs.Job.{Job, callOf, horizon}
+use Rattle.model.specs.Job.{Job, CallKind, lift, bay, callOf, horizon}
 use Rattle.model.specs.Plan.{Path}
-use Rattle.model.specs.Choke.{Point}
+use Rattle.model.specs.Choke.{Point, Choke, cellStep, wholeCall}
 use Rattle.model.specs.FirstBad.{restSays}
-use Rattle.model.specs.Text.{Lines, done, cut, more, linesOf, numbersOf, opens, after, planWord, pathWord, cannotWord, chokeWord}
+use Rattle.model.specs.Text.{Lines, done, cut, more, linesOf, numbersOf, opens, after, planWord, pathWord, cannotWord, chokeWord, wholeWord}
 
 pub data Sheet : Type 0 where
   bad : (line : ℕ) → Sheet
   plan : List Path → Sheet
-  cannot : List Point → Sheet
+  cannot : List Choke → Sheet
 
 -- the numbers behind a word, if the line opens with it
 abbrev pub numbersAfter : List ℕ → List ℕ → Option (List ℕ)
@@ -24,10 +24,16 @@ abbrev pub allBelow : ℕ → List ℕ → Bool
 allBelow n [] = true
 allBelow n (a ∷ l) = ltb a n && allBelow n l
 
--- PATH: a known cart, a known call, deadline + 1 known cells
+-- as many cells as a path can have to a call of this kind and deadline: one or more up to deadline + 1, to a bay just these
+abbrev pub sizeFits : CallKind → ℕ → ℕ → Bool
+sizeFits lift d n = ltb 0 n && leb n (suc d)
+sizeFits bay d n = eqb n (suc d)
+
+-- PATH: a known cart, a known call, as many known cells as fit it
 abbrev pub knownPath : Job → Path → Bool
 knownPath j p =
-    ltb (p .cart) (length (j .carts)) && ltb (p .call) (length (j .calls)) && eqb (length (p .cells)) (suc (callOf j (p .call) .deadline)) && allBelow (j .cells) (p .cells)
+    ltb (p .cart) (length (j .carts)) && ltb (p .call) (length (j .calls))
+    && sizeFits (callOf j (p .call) .kind) (callOf j (p .call) .deadline) (length (p .cells)) && allBelow (j .cells) (p .cells)
 
 abbrev pub pathOf : Job → Option (List ℕ) → Option Path
 pathOf j none = none
@@ -39,18 +45,32 @@ pathOf j (some (a ∷ b ∷ ws)) = let p : Path = record { cart = a; call = b; c
 abbrev pub knownPoint : Job → Point → Bool
 knownPoint j x = ltb (x .cell) (j .cells) && leb (x .step) (horizon j)
 
-abbrev pub pointOf : Job → Option (List ℕ) → Option Point
+abbrev pub pointOf : Job → Option (List ℕ) → Option Choke
 pointOf j none = none
 pointOf j (some []) = none
 pointOf j (some (a ∷ [])) = none
-pointOf j (some (a ∷ b ∷ [])) = let x : Point = record { cell = a; step = b } in cond (knownPoint j x) (some x) none
+pointOf j (some (a ∷ b ∷ [])) = let x : Point = record { cell = a; step = b } in cond (knownPoint j x) (some (cellStep x)) none
 pointOf j (some (a ∷ b ∷ c ∷ ns)) = none
+
+-- CHOKE CALL: a known call that is no bay
+abbrev pub isLift : CallKind → Bool
+isLift lift = true
+isLift bay = false
+
+abbrev pub knownWhole : Job → ℕ → Bool
+knownWhole j k = ltb k (length (j .calls)) && isLift (callOf j k .kind)
+
+abbrev pub wholeOf : Job → Option (List ℕ) → Option Choke
+wholeOf j none = none
+wholeOf j (some []) = none
+wholeOf j (some (k ∷ [])) = cond (knownWhole j k) (some (wholeCall k)) none
+wholeOf j (some (k ∷ m ∷ ns)) = none
 
 abbrev pub pathLine : Job → List ℕ → Option Path
 pathLine j l = pathOf j (numbersAfter pathWord l)
 
-abbrev pub chokeLine : Job → List ℕ → Option Point
-chokeLine j l = pointOf j (numbersAfter chokeWord l)
+abbrev pub chokeLine : Job → List ℕ → Option Choke
+chokeLine j l = cond (opens wholeWord l) (wholeOf j (numbersOf (after wholeWord l))) (pointOf j (numbersAfter chokeWord l))
 
 -- the first line: one number, which is right, and the rest by it
 abbrev pub countSays : (ℕ → Bool) → (ℕ → Sheet) → Option (List ℕ) → Sheet

@@ -3,22 +3,27 @@ use Prim.Native.Nat.{ℕ}
 use mathlib.Core.List.{List, [], _∷_, _++_}
 use lib.ListN.{length}
 use Rattle.model.specs.Plan.{Path}
-use Rattle.model.specs.Choke.{Point}
-use Rattle.model.specs.Text.{line, planWord, pathWord, cannotWord, chokeWord}
+use Rattle.model.specs.Choke.{Choke, cellStep, wholeCall}
+use Rattle.model.specs.Text.{line, planWord, pathWord, cannotWord, chokeWord, wholeWord}
 
 -- a line for each member, in their order
-abbrev pub linesText : {A : Type 0} → List ℕ → (A → List ℕ) → List A → List ℕ
+abbrev pub linesText : {A : Type 0} → (A → List ℕ) → (A → List ℕ) → List A → List ℕ
 linesText word numbers [] = []
-linesText word numbers (a ∷ l) = line word (numbers a) ++ linesText word numbers l
+linesText word numbers (a ∷ l) = line (word a) (numbers a) ++ linesText word numbers l
 
 abbrev pub pathNumbers : Path → List ℕ
 pathNumbers p = p .cart ∷ p .call ∷ p .cells
 
-abbrev pub chokeNumbers : Point → List ℕ
-chokeNumbers x = x .cell ∷ x .step ∷ []
+abbrev pub chokeOpens : Choke → List ℕ
+chokeOpens (cellStep x) = chokeWord
+chokeOpens (wholeCall k) = wholeWord
+
+abbrev pub chokeNumbers : Choke → List ℕ
+chokeNumbers (cellStep x) = x .cell ∷ x .step ∷ []
+chokeNumbers (wholeCall k) = k ∷ []
 
 abbrev pub planText : List Path → List ℕ
-planText ps = line planWord (length ps ∷ []) ++ linesText pathWord pathNumbers ps
+planText ps = line planWord (length ps ∷ []) ++ linesText (λ p. pathWord) pathNumbers ps
 
-abbrev pub cannotText : List Point → List ℕ
-cannotText xs = line cannotWord (length xs ∷ []) ++ linesText chokeWord chokeNumbers xs
+abbrev pub cannotText : List Choke → List ℕ
+cannotText xs = line cannotWord (length xs ∷ []) ++ linesText chokeOpens chokeNumbers xs

@@ -5,7 +5,7 @@ use mathlib.Core.List.{List}
 use mathlib.Core.Logic.{_⊎_}
 use lib.ListN.{length, getD}
 use Rattle.model.specs.Lists.{In}
-use Rattle.model.specs.Job.{Job, Call, bay, track}
+use Rattle.model.specs.Job.{Job, Call, CallKind, lift, bay, track}
 
 -- A track joins its cells both ways.
 abbrev pub Arc : Job → ℕ → ℕ → Type 0
@@ -32,7 +32,14 @@ pub record Walk (j : Job) (c : ℕ) (w : List ℕ) : Type 0 where
   pub starts : At w 0 c
   pub steps : (t : ℕ) → suc t < length w → Step j t (getD w t 0) (getD w (suc t) 0)
 
--- The walk w ends on the call's cell at its deadline.
+-- A call of this kind and deadline is met at the step t: one at a lift at any step up to its deadline, one in a bay at its own step alone.
+abbrev pub InTime : CallKind → ℕ → ℕ → Type 0
+InTime lift d t = t ≤ d
+InTime bay d t = t ≡ d
+
+-- The walk w ends on the call's cell, at a step at which the call is met. To be there at another step is to cross the cell.
 pub record Serves (w : List ℕ) (q : Call) : Type 0 where
-  pub size : length w ≡ suc (q .deadline)
-  pub ends : getD w (q .deadline) 0 ≡ q .cell
+  pub last : ℕ
+  pub size : length w ≡ suc last
+  pub in-time : InTime (q .kind) (q .deadline) last
+  pub ends : getD w last 0 ≡ q .cell

@@ -12,7 +12,7 @@ use Rattle.model.proofs.Basics.{nope, and-left, and-right, and-both}
 use Rattle.flow.specs.Flow.{Link, off, end, to, Flow}
 use Rattle.flow.specs.Exchange.{led}
 use Rattle.flow.proofs.Exchange.{exchanged}
-use Rattle.network.specs.Graph.{graph, Earlier}
+use Rattle.network.specs.Graph.{Edge, graph}
 use Rattle.network.specs.Traced.{Calm}
 use Rattle.network.specs.Stand.{isTo, otherBy, other, stoodBack, stoodOn}
 use Rattle.network.proofs.Points.{point-cell, point-step, point-eq, to-eq}
@@ -92,24 +92,23 @@ module _ (back : Point → Link Point) where
       go (inr (g, none)) (inr (h, _)) = absurd (none (g, h))
 
 module _ {j : Job} {back on : Point → Link Point} (ok : Flow (graph j) back on) where
-  -- A cart that stands instead of trading could have: the other one left its cell.
-  stands : (v u : Point) → TradesAt back v u → Earlier j v (point (v .cell) (u .step))
-  stands v u (e, f) =
-      let d = ok .edge v u e in
-      record {
-        falls = d .falls;
-        moves = (inl refl, d .moves .1);
-        leaves = ok .edge _ _ f .leaves;
-        in-time = d .in-time;
-        known = d .known;
-        known-before = d .known;
-      }
+  -- A cart that stands instead of trading could have: its cell is open, as the cart came to it. A call trades with itself alone.
+  stands : (v u : Point) → Edge j v u → Edge j v (point (v .cell) (u .step))
+  stands v u (inl m) = inl (record { call = m .call; listed = m .listed; here = m .here; there = point-cell (m .here); in-time = m .in-time })
+  stands v u (inr d) = inr (record {
+    falls = d .falls;
+    moves = (inl refl, d .moves .1);
+    leaves = d .moves .1;
+    in-time = d .in-time;
+    known = d .known;
+    known-before = d .known;
+  })
 
-  edge : (v w : Point) → stoodBack back v ≡ to w → Earlier j v w
+  edge : (v w : Point) → stoodBack back v ≡ to w → Edge j v w
   edge v w e = go (meets back v)
     where
-      go : Meets back v → Earlier j v w
-      go (trades u (f, g) q) = let p : w ≡ point (v .cell) (u .step) = to-eq (sym e ∙ ap back q ∙ g) in rw p (stands v u (f, g))
+      go : Meets back v → Edge j v w
+      go (trades u (f, g) q) = let p : w ≡ point (v .cell) (u .step) = to-eq (sym e ∙ ap back q ∙ g) in rw p (stands v u (ok .edge v u f))
       go (passes none q) = ok .edge v w (ap back (sym q) ∙ e)
 
   pub stood-flow : Flow (graph j) (stoodBack back) (stoodOn back on)

@@ -1,4 +1,4 @@
--- Bytes of the store by plane and node: what a write changes, and that each known point has a place of its own below the number of nodes.
+-- Bytes of the store by plane and node: what a write changes, and that each point of the graph has a place of its own below the number of nodes.
 -- Quotient and rest by the width of a plane (of a row of cells) say which it is. Assumes nothing.
 use Prim.Native.Nat.{ℕ, suc, _+_, _*_, _<_, _≤_}
 use mathlib.Core.Path.{_≡_, ap}
@@ -7,9 +7,10 @@ use native.Mathlib.Nat.{mul-le-mul-right, suc-mul}
 use native.Mathlib.Omega.{arith}
 use lib.ListN.{length, set}
 use lib.Seq.{getD-set-same, getD-set-other}
-use Rattle.model.specs.Job.{Job, horizon}
-use Rattle.model.specs.Choke.{Point, Known}
+use Rattle.model.specs.Job.{Job}
+use Rattle.model.specs.Choke.{Point}
 use Rattle.model.proofs.Decide.{dec-lt}
+use Rattle.network.specs.Graph.{top, Inside}
 use Rattle.network.specs.Store.{nodes, idx, spot, at}
 use Rattle.network.specs.declared.planes.Grid.{Grid}
 use Rattle.network.proofs.Points.{point-eq}
@@ -41,8 +42,8 @@ module _ (g : Grid) (s : List ℕ) (q i b : ℕ) where
   at-other p v h l ne = getD-set-other s (spot g q i) (spot g p v) b 0 (λ e. let r = row-one (g .nodes) p q v i l h e in ne (r .0) (r .1))
 
 module _ (j : Job) where
-  pub idx-below : {x : Point} → Known j x → idx j x < nodes j
-  idx-below {x} h = omega (arith, row-below (j .cells) (x .step) (horizon j) (x .cell) (h .0) (h .1))
+  pub idx-below : {x : Point} → Inside j x → idx j x < nodes j
+  idx-below {x} h = omega (arith, row-below (j .cells) (x .step) (top j) (x .cell) (h .0) (h .1))
 
-  pub idx-one : {x y : Point} → Known j x → Known j y → idx j x ≡ idx j y → x ≡ y
+  pub idx-one : {x y : Point} → Inside j x → Inside j y → idx j x ≡ idx j y → x ≡ y
   idx-one {x} {y} h l e = let r = row-one (j .cells) (x .step) (y .step) (x .cell) (y .cell) (h .0) (l .0) e in point-eq (r .1) (r .0)

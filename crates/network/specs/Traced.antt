@@ -6,13 +6,15 @@ use Rattle.model.specs.Job.{Job, cartCell, callOf}
 use Rattle.model.specs.Plan.{Path}
 use Rattle.model.specs.Choke.{Point, point}
 use Rattle.flow.specs.Flow.{Link, to}
+use Rattle.network.specs.Graph.{nodeOf}
 
--- The path stands on its call's node at the deadline and follows the links from there down to its cart's cell at step 0.
+-- The path stands where its call is met at its last step, and follows the links from there down to its cart's cell at step 0.
 pub record Traced (j : Job) (back : Point → Link Point) (p : Path) : Type 0 where
   pub known-cart : p .cart < length (j .carts)
   pub known-call : p .call < length (j .calls)
-  pub size : length (p .cells) ≡ suc (callOf j (p .call) .deadline)
-  pub ends : getD (p .cells) (callOf j (p .call) .deadline) 0 ≡ callOf j (p .call) .cell
+  pub last : ℕ
+  pub size : length (p .cells) ≡ suc last
+  pub ends : back (nodeOf j (callOf j (p .call))) ≡ to (point (getD (p .cells) last 0) last)
   pub follows : (t : ℕ) → suc t < length (p .cells) → back (point (getD (p .cells) (suc t) 0) (suc t)) ≡ to (point (getD (p .cells) t 0) t)
   pub starts : cartCell j (p .cart) ≡ getD (p .cells) 0 0
 

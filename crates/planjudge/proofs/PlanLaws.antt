@@ -5,16 +5,18 @@ use mathlib.Core.List.{List, [], _∷_, map}
 use mathlib.Core.Logic.{inl, inr}
 use mathlib.Core.Bool.{true, _&&_}
 use native.Mathlib.Omega.{arith}
-use lib.Dec.{ltb, eqb}
+use lib.Dec.{ltb}
 use lib.ListN.{length, getD, drop, length-take, length-drop}
 use lib.Seq.{getD-take, getD-drop}
-use borrow.Author.Tests.{ltb-true, eqb-true}
+use borrow.Author.Tests.{ltb-true}
 use Rattle.model.specs.Lists.{In, NoDup}
 use Rattle.model.specs.Limits.{maxCalls, maxSteps}
-use Rattle.model.specs.Job.{Job, callOf}
+use Rattle.model.specs.Job.{Job, CallKind, lift, bay, callOf}
+use Rattle.model.specs.Walk.{InTime}
 use Rattle.model.specs.Plan.{Path}
-use Rattle.model.specs.ReadSheet.{allBelow, knownPath}
+use Rattle.model.specs.ReadSheet.{allBelow, sizeFits, knownPath}
 use Rattle.model.proofs.Basics.{and-left, and-right}
+use Rattle.model.proofs.Floor.{fits-time}
 use Rattle.job.specs.Held.{pathAt}
 use Rattle.planjudge.specs.PlanTests.{cellOf}
 
@@ -38,25 +40,36 @@ below-at n [] e t h = absurd (omega arith)
 below-at n (a ∷ l) e zero h = ltb-true a n (and-left (ltb a n) (allBelow n l) e)
 below-at n (a ∷ l) e (suc t) h = below-at n l (and-right (ltb a n) (allBelow n l) e) t (omega arith)
 
+-- No call is met behind its deadline.
+pub no-later : (kind : CallKind) (d t : ℕ) → InTime kind d t → t ≤ d
+no-later lift d t h = h
+no-later bay d t h = omega arith
+
 -- what a known path keeps to
 pub record Ranged (j : Job) (p : Path) : Type 0 where
   pub cart : p .cart < length (j .carts)
   pub call : p .call < length (j .calls)
-  pub size : length (p .cells) ≡ suc (callOf j (p .call) .deadline)
+  pub last : ℕ
+  pub size : length (p .cells) ≡ suc last
+  pub in-time : InTime (callOf j (p .call) .kind) (callOf j (p .call) .deadline) last
   pub cells : (t : ℕ) → t < length (p .cells) → getD (p .cells) t 0 < j .cells
 
 pub known-ranged : (j : Job) (p : Path) → knownPath j p ≡ true → Ranged j p
 known-ranged j p e =
     let a = ltb (p .cart) (length (j .carts)) in
     let b = ltb (p .call) (length (j .calls)) in
-    let c = eqb (length (p .cells)) (suc (callOf j (p .call) .deadline)) in
+    let q = callOf j (p .call) in
+    let c = sizeFits (q .kind) (q .deadline) (length (p .cells)) in
     let d = allBelow (j .cells) (p .cells) in
     let abc = and-left (a && b && c) d e in
     let ab = and-left (a && b) c abc in
+    let (t, size, met) = fits-time (q .kind) (q .deadline) (length (p .cells)) (and-right (a && b) c abc) in
     record {
       cart = ltb-true _ _ (and-left a b ab);
       call = ltb-true _ _ (and-right a b ab);
-      size = eqb-true _ _ (and-right (a && b) c abc);
+      last = t;
+      size = size;
+      in-time = met;
       cells = below-at (j .cells) (p .cells) (and-right (a && b && c) d e);
     }
 

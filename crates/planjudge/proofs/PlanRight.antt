@@ -1,5 +1,6 @@
 -- The tests of `plan`, put together, are what makes paths a plan in the written order, both ways. Different numbers of paths stand for different
--- carts: on one side because they do not share a cell at step 0, on the other because no cart has two paths. Assumes nothing.
+-- carts: on one side because they do not share a cell at step 0, on the other because no cart has two paths. By the number of
+-- its cells, a known path ends at a step at which its call is met. Assumes nothing.
 use Prim.Native.Nat.{ℕ, suc, _+_, _≤_, _<_}
 use mathlib.Core.Path.{_≡_, refl, sym, ap, _∙_}
 use mathlib.Core.List.{List, map}
@@ -27,7 +28,7 @@ use Rattle.planjudge.specs.PlanTests.{cellOf, Fits, PairIn, Ordered, Mar
 use Rattle.job.proofs.Arrays.{calls-count, carts-count, call-at, cart-at, in-tracks, deadline-by}
 use Rattle.job.proofs.UpTo.{up-count, up-at, in-up}
 use Rattle.floor.specs.Tables.{Shut}
-use Rattle.planjudge.proofs.PlanLaws.{Ranged, known-ranged, nodup-of, cell-at, cells-count}
+use Rattle.planjudge.proofs.PlanLaws.{no-later, Ranged, known-ranged, nodup-of, cell-at, cells-count}
 use Rattle.planjudge.proofs.PlanSteps.{other-call}
 
 -- What is given: the job as its arrays have it, and paths whose numbers are known.
@@ -82,17 +83,16 @@ module _ {s : Job} {carts calls lasts rows : List ℕ} (g : Given s carts calls 
   long : (k : ℕ) → k < s .calls → length (P k .cells) ≡ suc (getD lasts k 0)
   long k h = cells-count carts calls lasts rows k (omega (arith, g .fits .few)) (g .fits .cells) (g .bytes k)
 
-  deadline : (k : ℕ) → k < s .calls → callOf (jobOf s) (getD calls k 0) .deadline ≡ getD lasts k 0
-  deadline k h = omega (arith, ranged k h .size, long k h)
-
   at : (k t : ℕ) → k < s .calls → t ≤ getD lasts k 0 → getD (P k .cells) t 0 ≡ cellOf rows k t
   at k t h l = cell-at carts calls lasts rows k t l
 
   next-at : (k t : ℕ) → k < s .calls → t < getD lasts k 0 → getD (P k .cells) (suc t) 0 ≡ cellOf rows k (t + 1)
   next-at k t h l = rw add-one (at k (suc t) h (omega arith))
 
-  end-at : (k : ℕ) → k < s .calls → getD (P k .cells) (callOf (jobOf s) (getD calls k 0) .deadline) 0 ≡ cellOf rows k (getD lasts k 0)
-  end-at k h = ap (λ t. getD (P k .cells) t 0) (deadline k h) ∙ at k (getD lasts k 0) h (omega arith)
+  end-at : (k t : ℕ) → k < s .calls → length (P k .cells) ≡ suc t → getD (P k .cells) t 0 ≡ cellOf rows k (getD lasts k 0)
+  end-at k t h e =
+      let f : t ≡ getD lasts k 0 = omega (arith, long k h) in
+      rw f (at k (getD lasts k 0) h (omega arith))
 
   small : (k t : ℕ) → k < s .calls → t ≤ getD lasts k 0 → cellOf rows k t < maxCells
   small k t h l = omega (arith, ranged k h .cells t (omega (arith, long k h)), at k t h l, g .ready .fit .few-cells)
@@ -189,13 +189,13 @@ module _ {s : Job} {carts calls lasts rows : List ℕ} (g : Given s carts calls 
         record {
           starts = sym (at k 0 h (omega arith)) ∙ l .walks .starts .1 ∙ start k h;
           walks = λ t b. allowed k t h b (rw (at k t h (omega arith), next-at k t h b) at (l .walks .steps t (omega (arith, long k h))));
-          ends = sym (end-at k h) ∙ l .serves .ends ∙ target k h;
+          ends = sym (end-at k (l .serves .last) h (l .serves .size)) ∙ l .serves .ends ∙ target k h;
         }
 
     leads : All → (k : ℕ) → k < s .calls → Leads (jobOf s) (P k)
-    leads f k h = record {
-      known-cart = ranged k h .cart;
-      known-call = ranged k h .call;
+    leads f k h = let r = ranged k h in record {
+      known-cart = r .cart;
+      known-call = r .call;
       walks = record {
         starts = (omega (arith, long k h), at k 0 h (omega arith) ∙ f k h .starts ∙ sym (start k h));
         steps = λ t l.
@@ -203,14 +203,20 @@ module _ {s : Job} {carts calls lasts rows : List ℕ} (g : Given s carts calls 
             rw (at k t h (omega arith), next-at k t h b) (step k t h b (f k h .walks t b));
       };
       serves = record {
-        size = ranged k h .size;
-        ends = end-at k h ∙ f k h .ends ∙ sym (target k h);
+        last = r .last;
+        size = r .size;
+        in-time = r .in-time;
+        ends = end-at k (r .last) h (r .size) ∙ f k h .ends ∙ sym (target k h);
       };
     }
 
     module _ (h : ℕ) (late : horizon (jobOf s) ≤ h) (clear : (t : ℕ) → t ≤ h → Clear lasts rows (s .calls) t) where
       top : (k : ℕ) → k < s .calls → getD lasts k 0 ≤ h
-      top k a = omega (arith, late, deadline k a, ap (λ q. q .deadline) (call-is k a), deadline-by s (getD calls k 0) (known-call k a))
+      top k a =
+          let r = ranged k a in
+          let q = callOf (jobOf s) (getD calls k 0) in
+          let met = no-later (q .kind) (q .deadline) (r .last) (r .in-time) in
+          omega (arith, late, r .size, long k a, met, ap (λ q. q .deadline) (call-is k a), deadline-by s (getD calls k 0) (known-call k a))
 
       one-share : (k m t : ℕ) → k < s .calls → m < s .calls → Share (P k .cells) (P m .cells) t → k ≡ m
       one-share k m t a b (v, x, y) =

@@ -9,15 +9,16 @@ use lib.ListN.{length, length-append}
 use Rattle.model.specs.declared.answer.Answer.the-variants as answer
 use Rattle.model.specs.Answers.{number}
 use Rattle.model.specs.Limits.{maxCalls, maxSteps}
-use Rattle.model.specs.Text.{line, planWord, pathWord, cannotWord, chokeWord}
+use Rattle.model.specs.Text.{line, planWord, pathWord, cannotWord, chokeWord, wholeWord}
 use Rattle.model.specs.Job.{Job, callOf}
 use Rattle.model.specs.Ready.{Fit}
 use Rattle.model.specs.Plan.{Path, Leads, Plan}
-use Rattle.model.specs.Choke.{Point, TrueChokes}
-use Rattle.model.specs.SheetText.{linesText, pathNumbers, chokeNumbers, planText, cannotText}
+use Rattle.model.specs.Choke.{Choke, cellStep, wholeCall, TrueChokes}
+use Rattle.model.specs.SheetText.{linesText, pathNumbers, chokeOpens, chokeNumbers, planText, cannotText}
 use Rattle.model.specs.Contracts.{RightPlan, RightChokes}
 use Rattle.model.proofs.Lists.{in-getD}
 use Rattle.model.proofs.Contrary.{weak}
+use Rattle.model.proofs.Floor.{time-due}
 use Rattle.text.specs.Wrote.{Wrote}
 use Rattle.model.proofs.Room.{line-room, lines-room}
 use Rattle.text.proofs.Wrote.{wrote-whole}
@@ -27,23 +28,28 @@ module _ (j : Job) (f : Fit j) where
   path-short : (p : Path) → Leads j p → length (line pathWord (pathNumbers p)) ≤ length pathWord + 4 * (maxSteps + 2) + 1
   path-short p l =
       let d = f .known-calls (callOf j (p .call)) (in-getD (j .calls) (p .call) _ (l .known-call)) .1 in
-      omega (arith, line-room pathWord (pathNumbers p), l .serves .size, d)
+      let q = callOf j (p .call) in
+      omega (arith, line-room pathWord (pathNumbers p), l .serves .size, time-due (q .kind) (q .deadline) (l .serves .last) (l .serves .in-time), d)
 
   pub plan-short : (ps : List Path) → Plan j ps → length (planText ps) ≤ length planWord + 5 + (length pathWord + 4 * (maxSteps + 2) + 1) * maxCalls
   plan-short ps h =
-      let lines = lines-room pathWord pathNumbers (length pathWord + 4 * (maxSteps + 2) + 1) ps (λ p m. path-short p (h .leads p m)) in
-      rw (length-append (line planWord (length ps ∷ [])) (linesText pathWord pathNumbers ps)) (omega (arith, line-room planWord (length ps ∷ []), lines, h .size, f .few-calls))
+      let lines = lines-room (λ p. pathWord) pathNumbers (length pathWord + 4 * (maxSteps + 2) + 1) ps (λ p m. path-short p (h .leads p m)) in
+      rw (length-append (line planWord (length ps ∷ [])) (linesText (λ p. pathWord) pathNumbers ps)) (omega (arith, line-room planWord (length ps ∷ []), lines, h .size, f .few-calls))
 
-  pub chokes-short : (xs : List Point) → TrueChokes j xs → length (cannotText xs) ≤ length cannotWord + 5 + (length chokeWord + 9) * maxCalls
+  choke-short : (x : Choke) → length (line (chokeOpens x) (chokeNumbers x)) ≤ length wholeWord + 5
+  choke-short (cellStep x) = omega (arith, line-room chokeWord (chokeNumbers (cellStep x)))
+  choke-short (wholeCall k) = omega (arith, line-room wholeWord (chokeNumbers (wholeCall k)))
+
+  pub chokes-short : (xs : List Choke) → TrueChokes j xs → length (cannotText xs) ≤ length cannotWord + 5 + (length wholeWord + 5) * maxCalls
   chokes-short xs h =
-      let lines = lines-room chokeWord chokeNumbers (length chokeWord + 9) xs (λ x m. line-room chokeWord (chokeNumbers x)) in
-      rw (length-append (line cannotWord (length xs ∷ [])) (linesText chokeWord chokeNumbers xs)) (omega (arith, line-room cannotWord (length xs ∷ []), lines, h .few, f .few-calls))
+      let lines = lines-room chokeOpens chokeNumbers (length wholeWord + 5) xs (λ x m. choke-short x) in
+      rw (length-append (line cannotWord (length xs ∷ [])) (linesText chokeOpens chokeNumbers xs)) (omega (arith, line-room cannotWord (length xs ∷ []), lines, h .few, f .few-calls))
 
 module _ (j : Job) (sheet sheet′ : List ℕ) (n r : ℕ) where
   pub plan-written : r ≡ number answer.Plan + 256 * n → (ps : List Path) → RightPlan j ps → Wrote sheet 0 (planText ps) sheet′ n → Written j sheet sheet′ r
   plan-written e ps h w = record { bytes = planText ps; answers = inl (ps, h, refl, omega (arith, e, w .next)); text = wrote-whole w }
 
-  pub chokes-written : r ≡ number answer.Cannot + 256 * n → (xs : List Point) → RightChokes j xs → Wrote sheet 0 (cannotText xs) sheet′ n → Written j sheet sheet′ r
+  pub chokes-written : r ≡ number answer.Cannot + 256 * n → (xs : List Choke) → RightChokes j xs → Wrote sheet 0 (cannotText xs) sheet′ n → Written j sheet sheet′ r
   chokes-written e xs h w = record {
     bytes = cannotText xs;
     answers = inr (xs, h, refl, omega (arith, e, w .next), λ ps p. weak j xs ps (h .0) p);

@@ -6,13 +6,13 @@ use mathlib.Core.List.{List, map}
 use mathlib.Core.Bool.{Bool, true, false}
 use mathlib.Core.Logic.{_⊎_, inl, inr, _↔_}
 use native.Mathlib.Omega.{arith}
-use borrow.Author.Tests.{eqb-true}
+use borrow.Author.Tests.{eqb-true, eq-eqb}
 use lib.Dec.{eqb}
 use lib.ListN.{length, getD}
 use Rattle.model.specs.Limits.{maxCells, maxCalls}
 use Rattle.model.specs.Lists.{In, NoDup}
 use Rattle.model.specs.Job.{Job, Call, lift, call, callOf}
-use Rattle.model.specs.Choke.{Point, point, Known}
+use Rattle.model.specs.Choke.{Point, point}
 use Rattle.model.proofs.Basics.{nope}
 use Rattle.model.proofs.Decide.{dec-lt}
 use Rattle.model.proofs.Lists.{in-getD, in-place, place-of, rising-of}
@@ -24,15 +24,14 @@ use Rattle.floor.specs.Tables.{Rows}
 use Rattle.flow.specs.Flow.{Link, off, end}
 use Rattle.flow.proofs.Flow.{empty-flow, flow-same}
 use Rattle.network.specs.declared.planes.Grid.{Grid}
-use Rattle.network.specs.Graph.{isTarget}
+use Rattle.network.specs.Graph.{top, Inside, nodeOf, isTarget}
 use Rattle.network.specs.Store.{nodes, gridOf, idx, usedAt, markAt, isUsed}
 use Rattle.network.specs.Links.{backLink, onLink}
 use Rattle.network.specs.Holds.{Holds}
-use Rattle.network.proofs.ChokeTargets.{nodeOf, in-target, by-horizon}
+use Rattle.network.proofs.ChokeTargets.{in-target}
 use Rattle.network.proofs.NodeBytes.{link-off, link-end, used-byte, used-known}
-use Rattle.network.proofs.Points.{point-cell}
+use Rattle.network.proofs.Points.{point-cell, point-eq}
 use Rattle.network.proofs.StoreBytes.{idx-below}
-use Rattle.answer.proofs.Calls.{node-read}
 use Rattle.answer.proofs.Rising.{Precedes, precedes-apart, rising-once}
 use Rattle.route.specs.declared.serve.Served.{Served}
 use Rattle.route.specs.declared.serve.Served.the-variants.{Yes, No}
@@ -42,7 +41,7 @@ use Rattle.planner.specs.Solved.{Begun, ServedAll}
 
 -- The node of the i-th call in the order.
 abbrev orderNode : Job → List ℕ → ℕ → Point
-orderNode j order i = nodeOf (callOf j (getD order i 0))
+orderNode j order i = nodeOf j (callOf j (getD order i 0))
 
 -- It is the node of one of the first i.
 abbrev Among : Job → List ℕ → ℕ → Point → Type 0
@@ -59,8 +58,8 @@ pub record SoFar (j : Job) (order s : List ℕ) (g : Grid) (i stamp : ℕ) : Typ
 not-end : (l : Link Point) → l ≡ off → l ≡ end → ⊥
 not-end l e f = nope (cc)
 
-module _ {j : Job} {targets deadlines : List ℕ} {calls : ℕ} {near begin due shut cartOn order s₀ : List ℕ} {g : Grid}
-    (b : Begun j targets deadlines calls near begin due shut cartOn order s₀ g) where
+module _ {j : Job} {targets : List ℕ} {calls : ℕ} {near begin due shut cartOn order s₀ : List ℕ} {g : Grid}
+    (b : Begun j targets calls near begin due shut cartOn order s₀ g) where
   abbrev n : ℕ
   n = length (j .calls)
 
@@ -139,19 +138,19 @@ module _ {j : Job} {targets deadlines : List ℕ} {calls : ℕ} {near begin due 
         let f : getD order m 0 ≡ q = place-of (λ (c : Call). c .cell) (j .calls) (b .ready .fit .own-targets) (getD order m 0) q (call lift 0 0) (b .ordered .known m h) is-call (sym (point-cell e)) in
         omega (arith, different m i h (omega (arith, b .listed .counted)) f)
 
-    -- The code has its number, cell and deadline in locals.
-    module _ {u p d : ℕ} (number : u ≡ getD order i 0) (target : p ≡ getD targets u 0) (deadline : d ≡ getD deadlines u 0) where
+    -- The code has its number and cell in locals.
+    module _ {u p : ℕ} (number : u ≡ getD order i 0) (target : p ≡ getD targets u 0) where
       abbrev x : Point
-      x = point p d
+      x = point p (g .top)
 
       here : x ≡ orderNode j order i
-      here = node-read (b .listed) call-known number target deadline
+      here = point-eq (target ∙ ap (λ k. getD targets k 0) number ∙ sym (b .listed .cells q call-known)) (ap (λ (h : Grid). h .top) (b .grid))
 
-      known : Known j x
-      known = subst (Known j) (sym here) (b .ready .fit .known-calls (callOf j q) listed .0, by-horizon (j .calls) (callOf j q) listed)
+      known : Inside j x
+      known = subst (Inside j) (sym here) (b .ready .fit .known-calls (callOf j q) listed .0, omega arith)
 
       is-target : isTarget j x ≡ true
-      is-target = ap (isTarget j) here ∙ in-target (j .calls) (callOf j q) listed
+      is-target = ap (isTarget j) here ∙ in-target j (callOf j q) listed
 
       pub call-cell : p < g .cells
       call-cell = rw (b .grid) (known .0)
@@ -162,10 +161,13 @@ module _ {j : Job} {targets deadlines : List ℕ} {calls : ℕ} {near begin due 
           where
             go : (u : Bool) → isUsed j s x ≡ u → backLink j s x ≡ off
             go false e = link-off (isUsed j s x) _ e
-            go true e = let a : Among j order i x = v .served x .0 (link-end (isUsed j s x) (isTarget j x) _ e is-target) in absurd (later (rw here at a))
+            go true e =
+                let last : eqb (x .step) (top j) ≡ true = eq-eqb (x .step) (top j) (ap (λ (h : Grid). h .top) (b .grid)) in
+                let a : Among j order i x = v .served x .0 (link-end (isUsed j s x) (eqb (x .step) (top j)) _ e last) in
+                absurd (later (rw here at a))
 
         -- Its search may start.
-        pub call-serving : {hint : List ℕ} → length hint ≡ maxCells → Serving j near begin due shut cartOn hint s g (point p d) stamp (eqb i 0)
+        pub call-serving : {hint : List ℕ} → length hint ≡ maxCells → Serving j near begin due shut cartOn hint s g (point p (g .top)) stamp (eqb i 0)
         call-serving h = record {
           search = record { tables = b .tables; holds = v .holds; hints = h; known = known; target = is-target; idle = free };
           small = omega (arith, v .high, few);
@@ -173,7 +175,7 @@ module _ {j : Job} {targets deadlines : List ℕ} {calls : ℕ} {near begin due 
           clean = λ e. v .fresh (eqb-true i 0 e);
         }
 
-        pub call-served : {s′ : List ℕ} {m : ℕ} (answer : Served) → answer ≡ Yes m → Holds j g s′ × ServedBy j s s′ stamp (point p d) answer → SoFar j order s′ g (i + 1) m
+        pub call-served : {s′ : List ℕ} {m : ℕ} (answer : Served) → answer ≡ Yes m → Holds j g s′ × ServedBy j s s′ stamp (point p (g .top)) answer → SoFar j order s′ g (i + 1) m
         call-served {s′} {m} answer e (holds, by) = let (hi, lo, marks, serves) : ServedBy j s s′ stamp x (Yes m) = rw e at by in record {
           holds = holds;
           high = omega (arith, v .high);
@@ -194,11 +196,11 @@ module _ {j : Job} {targets deadlines : List ℕ} {calls : ℕ} {near begin due 
                 go (no h) = let z : m ≡ i = omega arith in inr (f ∙ ap (orderNode j order) z ∙ sym here)
 
         -- It cannot be served, which ends it.
-        pub call-failed : {s′ : List ℕ} {m : ℕ} (answer : Served) → answer ≡ No m → Holds j g s′ × ServedBy j s s′ stamp (point p d) answer → Holds j g s′ × ServedAll j s′ answer
+        pub call-failed : {s′ : List ℕ} {m : ℕ} (answer : Served) → answer ≡ No m → Holds j g s′ × ServedBy j s s′ stamp (point p (g .top)) answer → Holds j g s′ × ServedAll j s′ answer
         call-failed {s′} {m} answer e (holds, by) = let r : ServedBy j s s′ stamp x (No m) = rw e at by in (holds, rw e (x, r .1))
 
   pub all-served : {s : List ℕ} {stamp i : ℕ} → i ≡ calls → SoFar j order s g i stamp → ServedAll j s (Yes stamp)
   all-served e v c h =
       let (k, l, f) = in-place c (j .calls) (call lift 0 0) h in
       let (m, d, a) = each k l in
-      v .served (nodeOf c) .1 (m, omega (arith, b .listed .counted), ap nodeOf (f ∙ ap (callOf j) (sym a)))
+      v .served (nodeOf j c) .1 (m, omega (arith, b .listed .counted), ap (nodeOf j) (f ∙ ap (callOf j) (sym a)))

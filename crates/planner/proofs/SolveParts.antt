@@ -1,14 +1,16 @@
 -- What each part of the planner hands to the next: the store that a job is lent has room for its grid, and what serving the calls leaves is what the paths and the choke list ask for.
 -- Assumes nothing.
 use Prim.Native.Nat.{ℕ, _+_, _*_, _≤_}
-use mathlib.Core.Path.{_≡_, ap}
+use mathlib.Core.Path.{_≡_, _∙_, ap}
 use mathlib.Core.List.{List}
 use native.Mathlib.Nat.{mul-le-mul-left}
+use native.Mathlib.Numerals.{add-one}
 use native.Mathlib.Omega.{arith}
 use lib.ListN.{length}
 use Rattle.model.specs.Job.{Job, horizon, storeLeast}
 use Rattle.job.specs.Arrays.{jobOf}
 use Rattle.job.specs.declared.state.Job as arrays
+use Rattle.job.proofs.Arrays.{call-at}
 use Rattle.floor.specs.Tables.{Tables}
 use Rattle.floor.proofs.JobTables.{calls-of}
 use Rattle.network.specs.declared.planes.Grid.{Grid}
@@ -21,10 +23,10 @@ use Rattle.planner.specs.Solved.{Wiped, Begun, ServedAll, Finished}
 
 -- The grid that is made of the last step.
 abbrev pub gridTo : Job → ℕ → Grid
-gridTo j last = record { cells = j .cells; nodes = (last + 1) * j .cells }
+gridTo j last = record { cells = j .cells; top = last + 1; nodes = (last + 1 + 1) * j .cells }
 
 pub grid-is : (j : Job) {last : ℕ} → last ≡ horizon j → gridTo j last ≡ gridOf j
-grid-is j e = ap (gridTo j) e
+grid-is j e = ap (gridTo j) e ∙ ap (λ t. record { cells = j .cells; top = t; nodes = (t + 1) * j .cells }) (add-one (horizon j))
 
 pub roomy : (j : Job) (s : List ℕ) {g : Grid} → g ≡ gridOf j → storeLeast j ≤ length s → Spacious g s
 roomy j s e room =
@@ -34,19 +36,26 @@ roomy j s e room =
 module _ (a : arrays.Job) where
   -- Serving the calls can begin.
   pub begun : {near begin due shut cartOn order s : List ℕ} {g : Grid} → Tables (jobOf a) near begin due shut cartOn → Wiped (jobOf a) order s g
-      → Begun (jobOf a) (a .targets) (a .deadlines) (a .calls) near begin due shut cartOn order s g
+      → Begun (jobOf a) (a .targets) (a .calls) near begin due shut cartOn order s g
   begun tables h =
       record { ready = h .ready; listed = calls-of a; tables = tables; ordered = h .ordered; grid = h .grid; room = h .room; blank = h .blank }
 
   module _ {cartOn order : List ℕ} {g : Grid} {s : List ℕ} {r : Served} (f : Finished (jobOf a) cartOn order g s r) where
     -- All calls are served.
-    pub full : {m : ℕ} → r ≡ Yes m → FullFlow (jobOf a) (a .targets) (a .deadlines) (a .calls) cartOn order g s
+    pub full : {m : ℕ} → r ≡ Yes m → FullFlow (jobOf a) (a .targets) (a .calls) cartOn order g s
     full {m} e =
         let all : ServedAll (jobOf a) s (Yes m) = rw e at (f .served) in
         record { listed = calls-of a; carts = f .carts; ordered = f .ordered; holds = f .holds; full = all }
 
     -- One cannot be.
-    pub stuck : {m : ℕ} → r ≡ No m → Failed (jobOf a) (a .targets) (a .deadlines) (a .calls) g s m
+    pub stuck : {m : ℕ} → r ≡ No m → Failed (jobOf a) (a .kinds) (a .targets) (a .deadlines) (a .calls) g s m
     stuck {m} e =
         let all : ServedAll (jobOf a) s (No m) = rw e at (f .served) in
-        record { listed = calls-of a; holds = f .holds; from = all .0; stuck = all .1 }
+        record {
+          listed = calls-of a;
+          kinds-are = λ k h. ap (λ q. q .kind) (call-at a k h);
+          steps-are = λ k h. ap (λ q. q .deadline) (call-at a k h);
+          holds = f .holds;
+          from = all .0;
+          stuck = all .1;
+        }

@@ -6,13 +6,14 @@ use lib.ListN.{length}
 use Rattle.model.specs.Lists.{In}
 use Rattle.model.specs.Job.{Job, Call}
 use Rattle.model.specs.Ready.{Ready}
-use Rattle.model.specs.Choke.{Point, point}
+use Rattle.model.specs.Choke.{Point}
 use Rattle.model.specs.Contracts.{RightPlan, RightChokes}
-use Rattle.job.specs.Held.{pathsTo, pointsOf}
+use Rattle.job.specs.Held.{pathsTo, chokesTo}
 use Rattle.floor.specs.Tables.{CartOn, Tables}
 use Rattle.floor.specs.Order.{Calls, Order}
 use Rattle.flow.specs.Flow.{end}
 use Rattle.network.specs.declared.planes.Grid.{Grid}
+use Rattle.network.specs.Graph.{nodeOf}
 use Rattle.network.specs.Store.{gridOf, Spacious, Blank, isMarked}
 use Rattle.network.specs.Links.{backLink, onLink}
 use Rattle.network.specs.Holds.{Holds}
@@ -30,10 +31,10 @@ pub record Wiped (j : Job) (order s : List ℕ) (g : Grid) : Type 0 where
   pub room : Spacious g s
   pub blank : Blank g s
 
--- The arrays, the tables and the order are the job's. The store has room for it, and no node is used or marked.
-pub record Begun (j : Job) (targets deadlines : List ℕ) (calls : ℕ) (near begin due shut cartOn order s : List ℕ) (g : Grid) : Type 0 where
+-- The array of cells, the tables and the order are the job's. The store has room for it, and no node is used or marked.
+pub record Begun (j : Job) (targets : List ℕ) (calls : ℕ) (near begin due shut cartOn order s : List ℕ) (g : Grid) : Type 0 where
   pub ready : Ready j
-  pub listed : Calls j targets deadlines calls
+  pub listed : Calls j targets calls
   pub tables : Tables j near begin due shut cartOn
   pub ordered : Order j order
   pub grid : g ≡ gridOf j
@@ -42,7 +43,7 @@ pub record Begun (j : Job) (targets deadlines : List ℕ) (calls : ℕ) (near be
 
 -- Every call is served, or one cannot be along with those before it: the marks with the stamp show why.
 abbrev pub ServedAll : Job → List ℕ → Served → Type 0
-ServedAll j s (Yes n) = (q : Call) → In q (j .calls) → onLink j s (point (q .cell) (q .deadline)) ≡ end
+ServedAll j s (Yes n) = (q : Call) → In q (j .calls) → onLink j s (nodeOf j q) ≡ end
 ServedAll j s (No n) = (x : Point) × Stuck j (backLink j s) (onLink j s) (isMarked j s n) x
 
 -- The calls were served, as far as they can be.
@@ -55,4 +56,4 @@ pub record Finished (j : Job) (cartOn order : List ℕ) (g : Grid) (s : List ℕ
 -- A plan in the written order, or a true choke list in the written order.
 abbrev pub Solved : Job → Solution → List ℕ → List ℕ → List ℕ → List ℕ → Type 0
 Solved j Plan first second lasts rows = RightPlan j (pathsTo first second lasts rows (length (j .calls)))
-Solved j (Cannot n) first second lasts rows = RightChokes j (pointsOf first second n)
+Solved j (Cannot n) first second lasts rows = RightChokes j (chokesTo first second lasts n)

@@ -29,7 +29,7 @@ pub fn plan_job(job: Job, store: &mut [u8], sheet: &mut [u8]) -> u64
             return packed(Answer::Plan, n as u64);
         }
         Solution::Cannot { points } => {
-            let n = sheetwriter::put_cannot(job, &first, &second, points, sheet);
+            let n = sheetwriter::put_cannot(job, &first, &second, &lasts, points, sheet);
             return packed(Answer::Cannot, n as u64);
         }
     }

@@ -44,9 +44,8 @@ fn fill_tables(
 }
 
 // Serves the calls in their order, until one cannot be. No node is used or marked at the start.
-fn serve_all<'a>(
-    targets: &'a [u8; Limits::CALLS],
-    deadlines: &'a [u8; Limits::CALLS],
+fn serve_all(
+    targets: &[u8; Limits::CALLS],
     calls: usize,
     near: &[u8],
     begin: &[u16],
@@ -57,8 +56,8 @@ fn serve_all<'a>(
     store: &mut [u8],
     grid: Grid,
 ) -> Served
-    requires { ⌜ ((j : model.Job) × Begun j (now targets) (now deadlines) calls (now near) (now begin) (now due) (now shut) (now «cart_on») (now order) (now store) grid) ⌝ }
-    ensures { λ r. ⌜ (length (now (store .exit)) ≡ length (now (store .entry))) × ((j : model.Job) → Begun j (now (targets .entry)) (now (deadlines .entry)) calls (now (near .entry)) (now (begin .entry)) (now (due .entry)) (now (shut .entry)) (now («cart_on» .entry)) (now (order .entry)) (now (store .entry)) grid → Holds j grid (now (store .exit)) × ServedAll j (now (store .exit)) r) ⌝ }
+    requires { ⌜ ((j : model.Job) × Begun j (now targets) calls (now near) (now begin) (now due) (now shut) (now «cart_on») (now order) (now store) grid) ⌝ }
+    ensures { λ r. ⌜ (length (now (store .exit)) ≡ length (now (store .entry))) × ((j : model.Job) → Begun j (now (targets .entry)) calls (now (near .entry)) (now (begin .entry)) (now (due .entry)) (now (shut .entry)) (now («cart_on» .entry)) (now (order .entry)) (now (store .entry)) grid → Holds j grid (now (store .exit)) × ServedAll j (now (store .exit)) r) ⌝ }
 {
     let mut hint = [0u8; Limits::CELLS];
     let mut stamp = 1u8;
@@ -66,10 +65,12 @@ fn serve_all<'a>(
     while i < calls {
         let q = wide(order[i]);
         let cell = wide(targets[q]);
-        let step = wide(deadlines[q]);
         aim::aim(near, begin, cart_on, store, grid, cell, &mut hint);
         let fresh = i == 0;
-        let node = Node { cell, step };
+        let node = Node {
+            cell,
+            step: grid.top,
+        };
         let served = route::serve::serve(
             near,
             begin,
@@ -104,7 +105,6 @@ fn serve_job(job: Job, cart_on: &mut [u8], order: &[u8], store: &mut [u8], grid:
     fill_tables(job, &mut near, &mut begin, &mut due, &mut shut, cart_on);
     serve_all(
         &job.targets,
-        &job.deadlines,
         job.calls,
         &near,
         &begin,
@@ -117,7 +117,8 @@ fn serve_job(job: Job, cart_on: &mut [u8], order: &[u8], store: &mut [u8], grid:
     )
 }
 
-// The numbers of each PATH or CHOKE line go into first and second, the last step of the i-th path into lasts, and its cells into row i. The calls in their order stand in second.
+// The numbers of each PATH or CHOKE line go into first and second, the last step of the i-th path or the kind of the i-th choke point into lasts, the path's cells into row i.
+// The calls in their order stand in second.
 fn write_answer(
     job: Job,
     cart_on: &[u8],
@@ -135,7 +136,6 @@ fn write_answer(
     let Served::No(stamp) = served else {
         answer::paths::write_paths(
             &job.targets,
-            &job.deadlines,
             job.calls,
             cart_on,
             store,
@@ -148,6 +148,7 @@ fn write_answer(
         return Solution::Plan;
     };
     let points = answer::cut::list_chokes(
+        &job.kinds,
         &job.targets,
         &job.deadlines,
         job.calls,
@@ -156,6 +157,7 @@ fn write_answer(
         stamp,
         first,
         second,
+        lasts,
     );
     Solution::Cannot { points }
 }
@@ -174,8 +176,9 @@ pub fn solve(
 {
     let cells = job.cells;
     let last = job::size::last_step(job);
-    let nodes = (last + 1) * cells;
-    let grid = Grid { cells, nodes };
+    let top = last + 1;
+    let nodes = (top + 1) * cells;
+    let grid = Grid { cells, top, nodes };
     wipe(store, grid);
     floor::order::by_deadline(&job.targets, &job.deadlines, job.calls, second);
     let mut cart_on = [0u8; Limits::CELLS];

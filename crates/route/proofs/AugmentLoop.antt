@@ -1,10 +1,9 @@
 -- The turns of augment's loop: each may lay its hop, as the stack is as it was and every node on it has its place, and has one hop more laid then;
 -- after the last the way is in the flow. They are stated with the code's grid. Assumes nothing.
 use Prim.Native.Nat.{ℕ, suc, _-_, _<_, _≤_}
-use mathlib.Core.Path.{_≡_}
+use mathlib.Core.Path.{_≡_, ap}
 use mathlib.Core.List.{List}
 use native.Mathlib.Omega.{arith}
-use borrow.Author.Tests.{ltb-true}
 use Rattle.model.specs.Job.{Job}
 use Rattle.model.specs.Choke.{Point}
 use Rattle.network.specs.Store.{gridOf, placeAt, cellAt, stepAt, withUsed, withMark}
@@ -14,7 +13,7 @@ use Rattle.network.proofs.StoreBytes.{idx-below}
 use Rattle.route.specs.Stack.{posAt}
 use Rattle.route.specs.Search.{Laying, Augmented}
 use Rattle.route.specs.Lay.{laid, Layable}
-use Rattle.route.proofs.Stack.{posIn, Stacked, Form, frees, leads, form, known-via}
+use Rattle.route.proofs.Stack.{Stacked, via-inside}
 use Rattle.route.proofs.Laid.{Laid, laid-more}
 use Rattle.route.proofs.AugmentLinks.{all-laid}
 
@@ -28,17 +27,13 @@ layable {j} {s} w s′ i l done =
       next = b;
       here = rw (k .cell i a, k .step i a) (idx-below j (w .known i (omega arith)));
       there = rw (k .cell (suc i) b, k .step (suc i) b) (idx-below j (w .known (suc i) l));
-      by = rw (k .cell i a, k .step i a, k .step (suc i) b, k .via (suc i) b) (idx-below j (known-via w i l));
-      early = rw (k .step i a, k .step (suc i) b) (early (form w i l));
+      by = rw (ap (placeAt (gridOf j)) (k .via (suc i) b)) (idx-below j (via-inside w i l));
     }
-  where
-    early : Form j s i → stepAt (gridOf j) s (suc i) ≤ stepAt (gridOf j) s i → 0 < stepAt (gridOf j) s i
-    early (frees q f) h = absurd (omega (arith, ltb-true (posIn j s i .step) (posIn j s (suc i) .step) q))
-    early (leads q f) h = omega (arith, f .falls)
 
 module _ {j : Job} {s : List ℕ} {g : Grid} {depth : ℕ} (a : Laying j s g depth) where
   stacked : Stacked j s (depth - 1)
   stacked = record {
+    fit = a .holds .ready .fit;
     room = rw (a .holds .grid) at (a .holds .room);
     small = omega (arith, a .fit, a .deep);
     known = λ i l. a .known i (omega (arith, a .deep));

@@ -7,15 +7,16 @@ use mathlib.Core.Logic.{_⊎_, inl, inr, ⊎-elim}
 use native.Mathlib.Omega.{arith}
 use lib.ListN.{length}
 use Rattle.model.specs.Job.{Job}
+use Rattle.model.specs.Choke.{point}
 use Rattle.model.proofs.Decide.{dec-eq}
-use Rattle.network.specs.Store.{nodes, gridOf, idx, placeAt, usedAt, markAt, nextAt, prevAt, stepAt}
+use Rattle.network.specs.Store.{nodes, gridOf, idx, placeAt, usedAt, markAt, nextAt, prevAt}
 use Rattle.network.specs.declared.planes.Grid.{Grid}
 use Rattle.network.proofs.StoreBytes.{idx-below, idx-one}
 use Rattle.network.proofs.PlaneLaws.{SetAt, SameStack, Joined, joins}
 use Rattle.route.specs.Stack.{posAt, viaOf}
-use Rattle.route.specs.Lay.{useOf, joined, laid}
+use Rattle.route.specs.Lay.{useOf, fromOf, joined, laid}
 use Rattle.route.specs.Search.{MarksOr}
-use Rattle.route.proofs.Stack.{posIn, viaIn, Stacked, vias-apart, places-apart, known-via}
+use Rattle.route.proofs.Stack.{posIn, viaIn, Stacked, vias-apart, places-apart, via-inside}
 
 -- The functions differ at most at the nodes a m with i ≤ m < e, where the new one is b m.
 pub record Over (k : ℕ) (a b : ℕ → ℕ) (i e : ℕ) (f f′ : ℕ → ℕ) : Type 0 where
@@ -34,9 +35,12 @@ over-more {a = a} {b} {i} {e} {f″ = f″} h small own o w =
     new m l g (yes q) = rw q (w .here)
     new m l g (no q) = let l′ : i < m = omega arith in w .else (a m) (small m g) (own m l′ g) ∙ o .new m l′ g
 
--- whether the node that hop m goes by is used then
+-- the byte of the node that hop m goes by, and what the position that it leaves keeps of that node
 abbrev pub useAt : Grid → List ℕ → ℕ → ℕ
-useAt g s m = useOf (stepAt g s m) (stepAt g s (suc m))
+useAt g s m = useOf g (posAt g s m) (viaOf g s m)
+
+abbrev pub fromAt : Grid → List ℕ → ℕ → ℕ
+fromAt g s m = fromOf g (posAt g s m) (viaOf g s m)
 
 -- The hops from i to below e are laid.
 pub record Laid (g : Grid) (s s′ : List ℕ) (i e : ℕ) : Type 0 where
@@ -45,7 +49,7 @@ pub record Laid (g : Grid) (s s′ : List ℕ) (i e : ℕ) : Type 0 where
   pub stack : SameStack g s s′
   pub used : Over (g .nodes) (λ m. placeAt g (viaOf g s m)) (useAt g s) i e (usedAt g s) (usedAt g s′)
   pub next : Over (g .nodes) (λ m. placeAt g (viaOf g s m)) (λ m. posAt g s m .cell) i e (nextAt g s) (nextAt g s′)
-  pub prev : Over (g .nodes) (λ m. placeAt g (posAt g s m)) (λ m. viaOf g s m .cell) i e (prevAt g s) (prevAt g s′)
+  pub prev : Over (g .nodes) (λ m. placeAt g (posAt g s m)) (fromAt g s) i e (prevAt g s) (prevAt g s′)
 
 pub laid-none : (g : Grid) (s : List ℕ) (e : ℕ) → Laid g s s e e
 laid-none g s e = record {
@@ -67,18 +71,18 @@ marks-more g s s′ s″ w m e v l = go (dec-eq v w)
 
 module _ {j : Job} {s : List ℕ} {e : ℕ} (w : Stacked j s e) (s′ : List ℕ) (i : ℕ) (l : i < e) (done : Laid (gridOf j) s s′ (suc i) e) where
   abbrev s″ : List ℕ
-  s″ = joined (gridOf j) s′ (posIn j s i) (viaIn j s i) (posIn j s (suc i)) (useAt (gridOf j) s i)
+  s″ = joined (gridOf j) s′ (posIn j s i) (viaIn j s i) (posIn j s (suc i))
 
-  wrote : Joined (gridOf j) s′ s″ (idx j (viaIn j s i)) (posIn j s i .cell) (idx j (posIn j s i)) (viaIn j s i .cell) (useAt (gridOf j) s i) (idx j (posIn j s (suc i))) 0
+  wrote : Joined (gridOf j) s′ s″ (idx j (viaIn j s i)) (posIn j s i .cell) (idx j (posIn j s i)) (fromAt (gridOf j) s i) (useAt (gridOf j) s i) (idx j (posIn j s (suc i))) 0
   wrote =
       joins (gridOf j) s′ (omega (arith, w .room, done .long)) _ _ _ _ _ _ _
-      (idx-below j (known-via w i l)) (idx-below j (w .known i (omega arith))) (idx-below j (w .known (suc i) l))
+      (idx-below j (via-inside w i l)) (idx-below j (w .known i (omega arith))) (idx-below j (w .known (suc i) l))
 
   via-below : (m : ℕ) → m < e → idx j (viaIn j s m) < nodes j
-  via-below m h = idx-below j (known-via w m h)
+  via-below m h = idx-below j (via-inside w m h)
 
   via-own : (m : ℕ) → i < m → m < e → idx j (viaIn j s m) ≡ idx j (viaIn j s i) → ⊥
-  via-own m h g q = vias-apart w i m h g (sym (idx-one j (known-via w m g) (known-via w i l) q))
+  via-own m h g q = vias-apart w i m h g (sym (idx-one j (via-inside w m g) (via-inside w i l) q))
 
   pos-own : (m : ℕ) → i < m → m < e → idx j (posIn j s m) ≡ idx j (posIn j s i) → ⊥
   pos-own m h g q = places-apart w i m h (omega arith) (sym (idx-one j (w .known m (omega arith)) (w .known i (omega arith)) q))
@@ -100,4 +104,5 @@ module _ {j : Job} {s : List ℕ} {e : ℕ} (w : Stacked j s e) (s′ : List ℕ
       let a : i < nodes j = omega (arith, w .small) in
       let b : suc i < nodes j = omega (arith, w .small) in
       let k = done .stack in
-      rw (k .cell i a, k .step i a, k .cell (suc i) b, k .step (suc i) b, k .via (suc i) b) joined-laid
+      let same : laid (gridOf j) s′ i ≡ s″ = λ n. joined (gridOf j) s′ (point (k .cell i a n) (k .step i a n)) (k .via (suc i) b n) (point (k .cell (suc i) b n) (k .step (suc i) b n)) in
+      rw same joined-laid

@@ -1,25 +1,29 @@
 -- The hops of the search's stack by their numbers: the i-th leads from position i to the next, and no two go by one node or leave one node.
--- A hop that leaves a node of a later step lets it fall out of the flow; every other follows an edge. Assumes nothing.
-use Prim.Native.Nat.{ℕ, zero, suc, _-_, _<_, _≤_}
-use mathlib.Core.Path.{_≡_, refl, sym, _∙_}
+-- A hop by way of the node that it leaves lets that fall out of the flow; every other follows an edge. Assumes nothing.
+use Prim.Native.Nat.{ℕ, zero, suc, _<_, _≤_}
+use mathlib.Core.Path.{_≡_, refl, sym, _∙_, subst}
 use mathlib.Core.List.{List, [], _∷_, _++_, map}
 use mathlib.Core.Bool.{Bool, true, false}
 use mathlib.Core.Logic.{_⊎_, inl, inr, ⊎-elim}
 use native.Mathlib.Omega.{arith}
-use borrow.Author.Tests.{ltb-false, lt-ltb, le-ltb}
-use lib.Dec.{ltb}
+use borrow.Author.Tests.{eqb-true, eq-eqb}
+use lib.Dec.{eqb}
 use Rattle.model.specs.Lists.{In, NoDup}
 use Rattle.model.specs.Job.{Job}
-use Rattle.model.specs.Choke.{Point, point, Known}
+use Rattle.model.specs.Choke.{Point}
+use Rattle.model.specs.Ready.{Fit}
+use Rattle.model.proofs.Basics.{nope, and-left, and-right, and-both}
 use Rattle.model.proofs.Decide.{dec-lt}
 use Rattle.flow.specs.Flow.{State, arr, dep, Residual}
 use Rattle.flow.specs.Way.{Hop, vias, ats, lastAt, Way}
 use Rattle.flow.proofs.Hops.{On, on-split, last-split, arcs, via-once}
-use Rattle.network.specs.Graph.{graph, Earlier}
+use Rattle.network.specs.Graph.{graph, Inside, Edge}
 use Rattle.network.specs.Store.{gridOf, nodes, Spacious}
 use Rattle.network.specs.Links.{FlowIn, backLink, onLink}
-use Rattle.route.specs.Stack.{posAt, byWay, viaOf, hopsTo}
-use Rattle.network.proofs.Points.{point-step}
+use Rattle.route.specs.Stack.{posAt, viaOf, hopsTo}
+use Rattle.route.specs.Lay.{isSame}
+use Rattle.network.proofs.Points.{point-cell, point-step, point-eq}
+use Rattle.network.proofs.ChokeTargets.{edge-inside-before}
 
 abbrev pub posIn : Job → List ℕ → ℕ → Point
 posIn j s i = posAt (gridOf j) s i
@@ -39,11 +43,14 @@ ArcIn j s a b = Residual (graph j) (backLink j s) (onLink j s) a b
 abbrev pub WayIn : Job → List ℕ → ℕ → Type 0
 WayIn j s m = Way (graph j) (backLink j s) (onLink j s) (posIn j s 0) (hopsIn j s m)
 
-pub by-late : (x : Point) (t c : ℕ) → x .step < t → byWay x t c ≡ x
-by-late x t c h = rw (lt-ltb (x .step) t h)
+same-point : (x y : Point) → isSame x y ≡ true → x ≡ y
+same-point x y e =
+    let a = eqb (x .cell) (y .cell) in
+    let b = eqb (x .step) (y .step) in
+    point-eq (eqb-true (x .cell) (y .cell) (and-left a b e)) (eqb-true (x .step) (y .step) (and-right a b e))
 
-pub by-early : (x : Point) (t c : ℕ) → t ≤ x .step → byWay x t c ≡ point c (x .step - 1)
-by-early x t c h = rw (le-ltb (x .step) t h)
+point-same : (x y : Point) → x ≡ y → isSame x y ≡ true
+point-same x y e = and-both (eqb (x .cell) (y .cell)) (eqb (x .step) (y .step)) (eq-eqb (x .cell) (y .cell) (point-cell e)) (eq-eqb (x .step) (y .step) (point-step e))
 
 module _ {N : Type 0} where
   on-left : (s : N) (hs hs′ : List (Hop N)) (v w x : N) → On s hs v w x → On s (hs ++ hs′) v w x
@@ -122,14 +129,15 @@ module _ (j : Job) (s : List ℕ) where
 
   -- What a hop is: the node that it leaves falls out of the flow, or an edge leads on from there.
   pub data Form (m : ℕ) : Type 0 where
-    frees : ltb (posIn j s m .step) (posIn j s (suc m) .step) ≡ true → viaIn j s m ≡ posIn j s m → Form m
-    leads : ltb (posIn j s m .step) (posIn j s (suc m) .step) ≡ false → Earlier j (posIn j s m) (viaIn j s m) → Form m
+    frees : isSame (posIn j s m) (viaIn j s m) ≡ true → viaIn j s m ≡ posIn j s m → Form m
+    leads : isSame (posIn j s m) (viaIn j s m) ≡ false → Edge j (posIn j s m) (viaIn j s m) → Form m
 
--- A way of e hops from known nodes through the flow that the store holds.
+-- A way of e hops from nodes of the graph through the flow that the store holds.
 pub record Stacked (j : Job) (s : List ℕ) (e : ℕ) : Type 0 where
+  pub fit : Fit j
   pub room : Spacious (gridOf j) s
   pub small : suc e ≤ nodes j
-  pub known : (i : ℕ) → i ≤ e → Known j (posIn j s i)
+  pub known : (i : ℕ) → i ≤ e → Inside j (posIn j s i)
   pub ok : FlowIn j s
   pub way : WayIn j s e
 
@@ -165,28 +173,20 @@ module _ {j : Job} {s : List ℕ} {e : ℕ} (w : Stacked j s e) where
   hop-arcs i l =
       arcs (graph j) (backLink j s) (onLink j s) (posIn j s 0) (hopsIn j s e) (posIn j s i) (viaIn j s i) (posIn j s (suc i)) (w .way .hops) (on-hop j s e i l)
 
-  -- A hop that goes on from the node it leaves, and not by an edge, goes back along the flow: to the next step.
-  rises : (i : ℕ) → i < e → posIn j s i ≡ viaIn j s i → posIn j s i .step < posIn j s (suc i) .step
-  rises i l q = go (hop-arcs i l .1)
-    where
-      go : ArcIn j s (arr (viaIn j s i)) (dep (posIn j s (suc i))) → posIn j s i .step < posIn j s (suc i) .step
-      go (inl (f, g)) = absurd (places-apart i (suc i) (omega arith) l (q ∙ sym f))
-      go (inr f) = let k = w .ok .edge _ _ (w .ok .back (posIn j s (suc i)) (viaIn j s i) f) .falls in let k′ = point-step q in omega arith
-
   pub form : (i : ℕ) → i < e → Form j s i
-  form i l = go (ltb (posIn j s i .step) (posIn j s (suc i) .step)) refl
+  form i l = go (isSame (posIn j s i) (viaIn j s i)) refl
     where
-      edge : ltb (posIn j s i .step) (posIn j s (suc i) .step) ≡ false → (posIn j s i ≡ viaIn j s i) ⊎ Earlier j (posIn j s i) (viaIn j s i) → Form j s i
-      edge q (inl f) = absurd (let k = rises i l f in let k′ = ltb-false (posIn j s i .step) (posIn j s (suc i) .step) q in omega arith)
+      edge : isSame (posIn j s i) (viaIn j s i) ≡ false → (posIn j s i ≡ viaIn j s i) ⊎ Edge j (posIn j s i) (viaIn j s i) → Form j s i
+      edge q (inl f) = let q′ = point-same (posIn j s i) (viaIn j s i) f in nope (cc)
       edge q (inr f) = leads q f
 
-      go : (b : Bool) → ltb (posIn j s i .step) (posIn j s (suc i) .step) ≡ b → Form j s i
-      go true q = frees q (rw q)
+      go : (b : Bool) → isSame (posIn j s i) (viaIn j s i) ≡ b → Form j s i
+      go true q = frees q (sym (same-point (posIn j s i) (viaIn j s i) q))
       go false q = edge q (hop-arcs i l .0)
 
-  pub known-via : (i : ℕ) → i < e → Known j (viaIn j s i)
-  known-via i l = go (form i l)
+  pub via-inside : (i : ℕ) → i < e → Inside j (viaIn j s i)
+  via-inside i l = go (form i l)
     where
-      go : Form j s i → Known j (viaIn j s i)
-      go (frees q f) = rw f (w .known i (omega arith))
-      go (leads q f) = (f .known-before, omega (arith, f .falls, f .in-time))
+      go : Form j s i → Inside j (viaIn j s i)
+      go (frees q f) = subst (Inside j) (sym f) (w .known i (omega arith))
+      go (leads q f) = edge-inside-before (w .fit) f

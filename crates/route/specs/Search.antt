@@ -7,11 +7,11 @@ use mathlib.Core.Logic.{_⊎_, _↔_}
 use lib.ListN.{length}
 use Rattle.model.specs.Limits.{maxCells}
 use Rattle.model.specs.Job.{Job}
-use Rattle.model.specs.Choke.{Point, Known}
+use Rattle.model.specs.Choke.{Point}
 use Rattle.floor.specs.Tables.{Tables}
 use Rattle.flow.specs.Flow.{off, end}
 use Rattle.flow.specs.Way.{Way}
-use Rattle.network.specs.Graph.{graph, isTarget}
+use Rattle.network.specs.Graph.{graph, isTarget, Inside}
 use Rattle.network.specs.Store.{nodes, gridOf, markAt, isMarked}
 use Rattle.network.specs.Links.{FlowIn, backLink, onLink}
 use Rattle.network.specs.Holds.{Holds, SameFlow}
@@ -32,7 +32,7 @@ pub record Searching (j : Job) (near begin due shut cartOn hint s : List ℕ) (g
   pub tables : Tables j near begin due shut cartOn
   pub holds : Holds j g s
   pub hints : length hint ≡ maxCells
-  pub known : Known j x
+  pub known : Inside j x
   pub target : isTarget j x ≡ true
   pub idle : backLink j s x ≡ off
 
@@ -42,7 +42,7 @@ pub record Searched (j : Job) (s s′ : List ℕ) (stamp : ℕ) (x : Point) (r :
   pub marks : MarksOr (gridOf j) s s′ stamp
   pub deep : r ≤ nodes j
   pub first : 0 < r → posAt (gridOf j) s′ 0 ≡ x
-  pub known : (i : ℕ) → i < r → Known j (posAt (gridOf j) s′ i)
+  pub known : (i : ℕ) → i < r → Inside j (posAt (gridOf j) s′ i)
   pub way : 0 < r → Way (graph j) (backLink j s′) (onLink j s′) x (hopsTo (gridOf j) s′ (r - 1))
   pub stuck : r ≡ 0 → Fresh j s stamp → Stuck j (backLink j s′) (onLink j s′) (isMarked j s′ stamp) x
 
@@ -51,7 +51,7 @@ pub record Laying (j : Job) (s : List ℕ) (g : Grid) (depth : ℕ) : Type 0 whe
   pub holds : Holds j g s
   pub deep : 0 < depth
   pub fit : depth ≤ nodes j
-  pub known : (i : ℕ) → i < depth → Known j (posAt (gridOf j) s i)
+  pub known : (i : ℕ) → i < depth → Inside j (posAt (gridOf j) s i)
   pub way : Way (graph j) (backLink j s) (onLink j s) (posAt (gridOf j) s 0) (hopsTo (gridOf j) s (depth - 1))
 
 -- The way from x on the stack was laid into the flow: it serves the call of x too.

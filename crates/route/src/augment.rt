@@ -1,5 +1,7 @@
 // Lays the way on the search's stack into the flow, hop by hop from its top down, and takes its marks away: it stays open to later searches.
 use network::planes::Grid;
+use network::planes::LEADS;
+use network::planes::MEETS;
 use network::planes::Node;
 use network::planes::place;
 use network::planes::position;
@@ -9,33 +11,34 @@ use network::planes::set_prev;
 use network::planes::set_used;
 use network::planes::via;
 ghost use mathlib.Core.Path.{_≡_};
-ghost use Prim.Native.Nat.{_<_, _≤_};
+ghost use Prim.Native.Nat.{_<_};
 ghost use Rattle.model.specs.Job as model;
 ghost use Rattle.network.specs.Store.{asPoint, gridOf};
-ghost use Rattle.route.specs.Stack.{posAt, byWay};
+ghost use Rattle.route.specs.Stack.{posAt};
 ghost use Rattle.route.specs.Search.{Laying, Augmented};
-ghost use Rattle.route.specs.Lay.{Layable, laid, useOf};
+ghost use Rattle.route.specs.Lay.{Layable, laid, useOf, fromOf};
 
-// By way of which node a hop goes: where the step rises, the one that it leaves; else one on the cell c, a step before.
-fn by_way(from: Node, to: Node, c: usize) -> Node
-    requires { ⌜ (to .step ≤ from .step → 0 < from .step) ⌝ }
-    ensures { λ r. ⌜ asPoint r ≡ byWay (asPoint from) (to .step) c ⌝ }
+// What becomes of the node `by` way of which a hop leaves `from`: it falls out of the flow where it is that node, else it is where a call is met, or leads on.
+fn use_of(grid: Grid, from: Node, by: Node) -> u8
+    ensures { λ r. ⌜ r ≡ useOf grid (asPoint from) (asPoint by) ⌝ }
 {
-    if from.step < to.step {
-        return from;
-    }
-    let step = from.step - 1;
-    Node { cell: c, step }
-}
-
-// Whether that node is used then: not where it falls out of the flow.
-fn stays(from: Node, to: Node) -> u8
-    ensures { λ r. ⌜ r ≡ useOf (from .step) (to .step) ⌝ }
-{
-    if from.step < to.step {
+    if from.cell == by.cell && from.step == by.step {
         return 0;
     }
-    1
+    if from.step == grid.top {
+        return MEETS;
+    }
+    LEADS
+}
+
+// What is kept of where `from` comes from: of a call the step, of a node the cell.
+fn from_of(grid: Grid, from: Node, by: Node) -> usize
+    ensures { λ r. ⌜ r ≡ fromOf grid (asPoint from) (asPoint by) ⌝ }
+{
+    if from.step == grid.top {
+        return by.step;
+    }
+    by.cell
 }
 
 // The i-th hop.
@@ -45,11 +48,11 @@ fn lay(store: &mut [u8], grid: Grid, i: usize)
 {
     let from = position(store, grid, i);
     let to = position(store, grid, i + 1);
-    let by = by_way(from, to, via(store, grid, i + 1));
+    let by = via(store, grid, i + 1);
     let u = place(grid, by);
     set_next(store, grid, u, from.cell);
-    set_prev(store, grid, place(grid, from), by.cell);
-    set_used(store, grid, u, stays(from, to));
+    set_prev(store, grid, place(grid, from), from_of(grid, from, by));
+    set_used(store, grid, u, use_of(grid, from, by));
     set_mark(store, grid, place(grid, to), 0);
 }
 
@@ -64,6 +67,6 @@ pub fn augment(store: &mut [u8], grid: Grid, depth: usize)
         lay(store, grid, i);
     }
     let v = place(grid, first);
-    set_used(store, grid, v, 1);
+    set_used(store, grid, v, LEADS);
     set_mark(store, grid, v, 0);
 }

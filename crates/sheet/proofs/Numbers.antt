@@ -6,14 +6,15 @@ use mathlib.Core.List.{List, [], _∷_, _++_, append-assoc}
 use mathlib.Core.Option.{Option, none, some}
 use mathlib.Core.Bool.{Bool, true, false, cond, and-false}
 use native.Mathlib.Omega.{arith}
-use lib.Dec.{ltb, eqb}
+use native.Mathlib.Numerals.{add-one}
+use lib.Dec.{ltb, leb, eqb}
 use lib.ListN.{length, drop, length-append, take}
-use borrow.Author.Tests.{ltb-true, ltb-false, lt-ltb, le-ltb, eq-eqb, ne-eqb, eqb-false, eqb-true}
+use borrow.Author.Tests.{ltb-true, ltb-false, lt-ltb, le-ltb, le-leb, lt-leb, eqb-true}
 use Rattle.model.specs.Text.{fieldsOf, numberOf, andNumber, numbersOf, startsWith}
 use Rattle.model.specs.ReadSheet.{allBelow}
-use Rattle.model.proofs.Basics.{and-left, and-right, and-both}
+use Rattle.model.proofs.Basics.{nope, and-left, and-right, and-both}
 use Rattle.text.specs.declared.scan.Scan.the-variants.{Value, Fault}
-use Rattle.text.specs.Scan.{numberAt}
+use Rattle.text.specs.Scan.{fieldOf, scanned, numberAt}
 use Rattle.text.proofs.Numbers.{fields-some, number-none, number-last, number-more}
 use Rattle.sheet.specs.declared.Two.{Two}
 use Rattle.sheet.specs.declared.Two.the-variants as T
@@ -82,6 +83,28 @@ module _ (w l : List ℕ) (r : Two) (read : TwoPast w l r) where
   pub two-given : {a b next : ℕ} → r ≡ T.Both a b next → Found w l a b next
   two-given e = rw e at read
 
+-- Where a line opens with a letter behind a word, no number stands there.
+starts-rest : (u v l : List ℕ) → startsWith (u ++ v) l ≡ true → startsWith v (drop (length u) l) ≡ true
+starts-rest [] v l e = e
+starts-rest (a ∷ u) v [] e = nope (cc)
+starts-rest (a ∷ u) v (b ∷ l) e = go (eqb b a) e (starts-rest u v l)
+  where
+    go : (t : Bool) → cond t (startsWith (u ++ v) l) false ≡ true → (startsWith (u ++ v) l ≡ true → startsWith v (drop (length u) l) ≡ true) → startsWith v (drop (length u) l) ≡ true
+    go true e ih = ih e
+    go false e ih = nope (cc)
+
+opened-none : (a : ℕ) (w l : List ℕ) → ((s : List ℕ) → numberOf (fieldOf (a ∷ s)) ≡ none) → startsWith (a ∷ w) l ≡ true → numberOf (fieldOf l) ≡ none
+opened-none a w [] h e = nope (cc)
+opened-none a w (b ∷ l) h e = go (eqb b a) refl e
+  where
+    go : (t : Bool) → eqb b a ≡ t → cond t (startsWith w l) false ≡ true → numberOf (fieldOf (b ∷ l)) ≡ none
+    go true q e = rw (eqb-true b a q) (h l)
+    go false q e = nope (cc)
+
+pub word-no-number : (u w l : List ℕ) (a : ℕ) → ((s : List ℕ) → numberOf (fieldOf (a ∷ s)) ≡ none) → startsWith (u ++ (a ∷ w)) l ≡ true → numberAt l (length u) ≡ Fault
+unfolding numberAt
+word-no-number u w l a h e = ap (scanned (length u) (length (fieldOf (drop (length u) l)))) (opened-none a w (drop (length u) l) h (starts-rest u (a ∷ w) l e))
+
 -- Many numbers: those of the list l, and then the given.
 abbrev pub prefixed : List ℕ → Option (List ℕ) → Option (List ℕ)
 prefixed l none = none
@@ -103,45 +126,32 @@ below-not : (m v : ℕ) (l ns : List ℕ) → m ≤ v → allBelow m (l ++ (v �
 below-not m v [] ns h = simp (le-ltb v m h)
 below-not m v (a ∷ l) ns h = rw (below-not m v l ns h) (and-false (ltb a m))
 
-module _ (limit count : ℕ) (s : List ℕ) (at : ℕ) (l : List ℕ) (p : ℕ) (so : numbersAt s at ≡ prefixed l (numbersAt s p)) where
-  pub cells-none : numberAt s p ≡ Fault → cellsGiven limit count (numbersAt s at) ≡ none
-  cells-none e = ap (cellsGiven limit count) (so ∙ ap (prefixed l) (number-none s p e))
+module _ (limit most : ℕ) (s : List ℕ) (at : ℕ) (l : List ℕ) (p : ℕ) (so : numbersAt s at ≡ prefixed l (numbersAt s p)) where
+  pub cells-none : numberAt s p ≡ Fault → cellsGiven limit most (numbersAt s at) ≡ none
+  cells-none e = ap (cellsGiven limit most) (so ∙ ap (prefixed l) (number-none s p e))
 
-  -- there are more than enough
-  pub cells-over : length l ≡ count → cellsGiven limit count (numbersAt s at) ≡ none
-  cells-over n = ap (cellsGiven limit count) so ∙ numbers-cases (λ o. cellsGiven limit count (prefixed l o) ≡ none) refl many (drop p s)
+  -- there are more than may be
+  pub cells-over : length l ≡ most → cellsGiven limit most (numbersAt s at) ≡ none
+  cells-over n = ap (cellsGiven limit most) so ∙ numbers-cases (λ o. cellsGiven limit most (prefixed l o) ≡ none) refl many (drop p s)
     where
-      many : (m : ℕ) (ns : List ℕ) → cellsGiven limit count (some (l ++ (m ∷ ns))) ≡ none
+      many : (m : ℕ) (ns : List ℕ) → cellsGiven limit most (some (l ++ (m ∷ ns))) ≡ none
       many m ns =
-          let k : length (l ++ (m ∷ ns)) ≡ count → ⊥ = λ q. omega (arith, length-append l (m ∷ ns)) in
-          simp (ne-eqb _ _ k)
+          let k : most < length (l ++ (m ∷ ns)) = omega (arith, length-append l (m ∷ ns)) in
+          simp (lt-leb _ _ k)
 
   module _ (v next : ℕ) (e : numberAt s p ≡ Value v next) where
-    pub cells-known : limit ≤ v → cellsGiven limit count (numbersAt s at) ≡ none
-    cells-known h = ap (cellsGiven limit count) (so ∙ ap (prefixed l) (and-behind s p v next e)) ∙ go (behind s next)
+    pub cells-known : limit ≤ v → cellsGiven limit most (numbersAt s at) ≡ none
+    cells-known h = ap (cellsGiven limit most) (so ∙ ap (prefixed l) (and-behind s p v next e)) ∙ go (behind s next)
       where
-        go : (o : Option (List ℕ)) → cellsGiven limit count (prefixed l (andNumber (some v) o)) ≡ none
+        go : (o : Option (List ℕ)) → cellsGiven limit most (prefixed l (andNumber (some v) o)) ≡ none
         go none = refl
-        go (some ns) = rw (below-not limit v l ns h, and-false (eqb (length (l ++ (v ∷ ns))) count))
+        go (some ns) = rw (below-not limit v l ns h, and-false (leb (length (l ++ (v ∷ ns))) most))
 
     pub cells-more : next < length s → numbersAt s at ≡ prefixed (l ++ (v ∷ [])) (numbersAt s (next + 1))
     cells-more h = so ∙ ap (prefixed l) (number-more s p v next e h) ∙ prefixed-more l v (numbersAt s (next + 1))
 
-    module _ (low : allBelow limit l ≡ true) (h : v < limit) (end : length s ≤ next) where
-      last : numbersAt s at ≡ some (l ++ (v ∷ []))
-      last = so ∙ ap (prefixed l) (number-last s p v next e end)
-
-      pub cells-end : (k : ℕ) (out : List ℕ) → length l + 1 ≡ k → take k out ≡ l ++ (v ∷ [])
-          → cellsRead (eqb k count) (take count out) ≡ cellsGiven limit count (numbersAt s at)
-      cells-end k out n t = go (eqb k count) refl
-        where
-          size : length (l ++ (v ∷ [])) ≡ k
-          size = length-append l (v ∷ []) ∙ n
-
-          go : (r : Bool) → eqb k count ≡ r → cellsRead r (take count out) ≡ cellsGiven limit count (numbersAt s at)
-          go true q =
-              let f : length (l ++ (v ∷ [])) ≡ count = size ∙ eqb-true k count q in
-              ap (λ m. some (take m out)) (sym (eqb-true k count q)) ∙ ap some t ∙ sym (ap (cellsGiven limit count) last ∙ simp (eq-eqb _ _ f, below-snoc limit v l low h))
-          go false q =
-              let f : length (l ++ (v ∷ [])) ≡ count → ⊥ = λ x. eqb-false k count q (sym size ∙ x) in
-              sym (ap (cellsGiven limit count) last ∙ simp (ne-eqb _ _ f))
+    pub cells-end : allBelow limit l ≡ true → v < limit → length s ≤ next → (i : ℕ) (out : List ℕ) → length l ≡ i → i < most → take (i + 1) out ≡ l ++ (v ∷ [])
+        → cellsRead (i + 1) (take (i + 1) out) ≡ cellsGiven limit most (numbersAt s at)
+    cells-end low h end i out n few t =
+        let k : length (l ++ (v ∷ [])) ≤ most = omega (arith, length-append l (v ∷ [])) in
+        rw (t, add-one) (sym (ap (cellsGiven limit most) (so ∙ ap (prefixed l) (number-last s p v next e end)) ∙ simp (le-leb _ _ k, below-snoc limit v l low h)))

@@ -1,30 +1,34 @@
 -- What a line says by its numbers, over every job that has the given ones: what each return of the functions that read a line cites. Assumes nothing.
-use Prim.Native.Nat.{ℕ, suc, _+_, _≤_, _<_}
+use Prim.Native.Nat.{ℕ, zero, suc, _+_, _≤_, _<_}
 use mathlib.Core.Path.{_≡_, refl, sym, ap, _∙_}
 use mathlib.Core.List.{List, [], _∷_, _++_}
 use mathlib.Core.Option.{Option, none, some}
-use mathlib.Core.Bool.{Bool, true, false, cond, _&&_}
+use mathlib.Core.Bool.{Bool, true, false, cond, _&&_, false≢true}
 use native.Mathlib.Omega.{arith}
 use native.Mathlib.Numerals.{add-one}
 use lib.Dec.{ltb, leb, eqb}
 use lib.ListN.{length, getD, take, drop}
-use borrow.Author.Tests.{ltb-true, lt-ltb, le-ltb, le-leb, lt-leb, eq-eqb, ne-eqb}
+use lib.Seq.{length-take-le}
+use borrow.Author.Tests.{ltb-true, lt-ltb, le-ltb, le-leb, lt-leb, eqb-true, eq-eqb, ne-eqb}
 use Rattle.model.specs.Limits.{maxSteps}
-use Rattle.model.specs.Job.{Job, callOf, horizon}
+use Rattle.model.specs.Job.{Job, CallKind, lift, bay, callOf, horizon}
+use Rattle.model.specs.Bytes.{bytes}
 use Rattle.model.specs.Plan.{Path}
-use Rattle.model.specs.Choke.{point}
-use Rattle.model.specs.Text.{Lines, more, opens, planWord, pathWord, cannotWord, chokeWord}
+use Rattle.model.specs.Choke.{point, cellStep, wholeCall}
+use Rattle.model.specs.Text.{Lines, more, numbersOf, opens, after, planWord, pathWord, cannotWord, chokeWord, wholeWord}
 use Rattle.model.specs.FirstBad.{restSays}
-use Rattle.model.specs.ReadSheet.{Sheet, bad, plan, cannot, allBelow, numbersAfter, pathOf, pathLine, pointOf, chokeLine, countSays, headSays}
-use Rattle.model.proofs.Basics.{nope}
+use Rattle.model.specs.ReadSheet.{Sheet, bad, plan, cannot, allBelow, sizeFits, numbersAfter, pathOf, pathLine, pointOf, isLift, knownWhole, wholeOf, chokeLine, countSays, headSays}
+use Rattle.model.proofs.Basics.{nope, and-right}
+use Rattle.job.specs.Arrays.{callKind}
+use Rattle.text.specs.declared.scan.Scan.the-variants.{Value, Fault}
 use Rattle.sheet.specs.declared.PathLine.{PathLine}
 use Rattle.sheet.specs.declared.PathLine.the-variants as P
 use Rattle.sheet.specs.declared.ChokeLine.{ChokeLine}
 use Rattle.sheet.specs.declared.ChokeLine.the-variants as C
 use Rattle.sheet.specs.declared.Head.{Head}
 use Rattle.sheet.specs.declared.Head.the-variants as H
-use Rattle.sheet.specs.Parts.{Found, numbersAt, onlyOf, hasTwo, behind, withTwo, cellsGiven, cellsRead, Tells, pathRead, PathKnown, chokeRead, ChokeKnown, headGoes, HeadKnown, cannotHead}
-use Rattle.sheet.proofs.Numbers.{past, numbers-cases, behind-more, behind-none}
+use Rattle.sheet.specs.Parts.{Found, numbersAt, onlyOf, hasTwo, behind, withTwo, cellsGiven, cellsRead, CallsTold, Tells, pathRead, PathKnown, chokeRead, headGoes, HeadKnown, cannotHead}
+use Rattle.sheet.proofs.Numbers.{past, numbers-cases, behind-more, behind-none, word-no-number}
 
 -- what f says where there are no two numbers
 without-two : {B : Type 0} (f : Option (List ℕ) → B) (x : B) → f none ≡ x → f (some []) ≡ x → ((a : ℕ) → f (some (a ∷ [])) ≡ x)
@@ -34,102 +38,183 @@ without-two f x p q r (some []) e = q
 without-two f x p q r (some (a ∷ [])) e = r a
 without-two f x p q r (some (a ∷ b ∷ ns)) e = nope (cc)
 
+-- what f says by the only number
+abbrev onOnly : {B : Type 0} → B → (ℕ → B) → Option ℕ → B
+onOnly x g none = x
+onOnly x g (some n) = g n
+
+by-only : {B : Type 0} (f : Option (List ℕ) → B) (x : B) (g : ℕ → B) → f none ≡ x → f (some []) ≡ x → ((n : ℕ) → f (some (n ∷ [])) ≡ g n)
+    → ((n m : ℕ) (ns : List ℕ) → f (some (n ∷ m ∷ ns)) ≡ x) → (o : Option (List ℕ)) → f o ≡ onOnly x g (onlyOf o)
+by-only f x g p q r s none = p
+by-only f x g p q r s (some []) = q
+by-only f x g p q r s (some (n ∷ [])) = r n
+by-only f x g p q r s (some (n ∷ m ∷ ns)) = s n m ns
+
 -- A PATH line.
 abbrev onPath : ℕ → ℕ → Option (List ℕ) → Option Path
 onPath a b none = none
 onPath a b (some ws) = some (record { cart = a; call = b; cells = ws })
 
-path-says : (j : Job) (a b : ℕ) (o : Option (List ℕ)) → pathOf j (withTwo a b o)
-    ≡ cond (ltb a (length (j .carts)) && ltb b (length (j .calls))) (onPath a b (cellsGiven (j .cells) (suc (callOf j b .deadline)) o)) none
+-- the cells, if they are as many as fit
+abbrev fitting : CallKind → ℕ → Option (List ℕ) → Option (List ℕ)
+fitting kind d none = none
+fitting kind d (some ws) = cond (sizeFits kind d (length ws)) (some ws) none
+
+fits-short : (k : CallKind) (d n : ℕ) → sizeFits k d n ≡ true → leb n (suc d) ≡ true
+fits-short lift d n e = and-right (ltb 0 n) (leb n (suc d)) e
+fits-short bay d n e = let h : n ≤ suc d = omega (arith, eqb-true n (suc d) e) in le-leb _ _ h
+
+none-unfit : (k : CallKind) (d : ℕ) → sizeFits k d 0 ≡ false
+none-unfit lift d = refl
+none-unfit bay d = let e : 0 ≡ suc d → ⊥ = λ q. omega arith in ne-eqb _ _ e
+
+no-cells : (k : CallKind) (limit d : ℕ) → fitting k d (cellsGiven limit (suc d) (some [])) ≡ none
+no-cells k limit d = let h : 0 ≤ suc d = omega arith in simp (le-leb _ _ h, none-unfit k d)
+
+module _ (k : CallKind) (d : ℕ) (row : List ℕ) where
+  some-read : (n : ℕ) → suc n ≤ length row → {x : Bool} → sizeFits k d (suc n) ≡ x → fitting k d (some (take (suc n) row)) ≡ cond x (some (take (suc n) row)) none
+  some-read n h e = rw (length-take-le (suc n) row h, e)
+
+  read-unfit : (r : ℕ) → r ≤ length row → sizeFits k d r ≡ false → fitting k d (cellsRead r (take r row)) ≡ none
+  read-unfit zero h e = refl
+  read-unfit (suc n) h e = some-read n h e
+
+  read-fits : (r : ℕ) → r ≤ length row → sizeFits k d r ≡ true → (last : ℕ) → r ≡ suc last → fitting k d (cellsRead r (take r row)) ≡ some (take (suc last) row)
+  read-fits zero h e last n = absurd (omega arith)
+  read-fits (suc m) h e last n = some-read m h e ∙ rw n
+
+path-says : (j : Job) (a b : ℕ) (o : Option (List ℕ)) → let q = callOf j b in
+    pathOf j (withTwo a b o) ≡ cond (ltb a (length (j .carts)) && ltb b (length (j .calls))) (onPath a b (fitting (q .kind) (q .deadline) (cellsGiven (j .cells) (suc (q .deadline)) o))) none
 path-says j a b none = go (ltb a (length (j .carts)) && ltb b (length (j .calls)))
   where
     go : (t : Bool) → _≡_ {A = Option Path} none (cond t none none)
     go true = refl
     go false = refl
-path-says j a b (some ws) = go (ltb a (length (j .carts)) && ltb b (length (j .calls))) (eqb (length ws) (suc (callOf j b .deadline))) (allBelow (j .cells) ws)
+path-says j a b (some ws) =
+    go (ltb a (length (j .carts)) && ltb b (length (j .calls))) (callOf j b .kind) (callOf j b .deadline) (sizeFits (callOf j b .kind) (callOf j b .deadline) (length ws)) refl
+    (leb (length ws) (suc (callOf j b .deadline))) refl (allBelow (j .cells) ws)
   where
-    go : (t x y : Bool) → cond (t && x && y) (some (record { cart = a; call = b; cells = ws })) none ≡ cond t (onPath a b (cond (x && y) (some ws) none)) none
-    go true true true = refl
-    go true true false = refl
-    go true false y = refl
-    go false x y = refl
+    go : (t : Bool) (k : CallKind) (d : ℕ) (x : Bool) → sizeFits k d (length ws) ≡ x → (y : Bool) → leb (length ws) (suc d) ≡ y → (z : Bool)
+        → cond (t && x && z) (some (record { cart = a; call = b; cells = ws })) none ≡ cond t (onPath a b (fitting k d (cond (y && z) (some ws) none))) none
+    go false k d x e y f z = refl
+    go true k d true e true f true = rw e
+    go true k d true e true f false = refl
+    go true k d true e false f z = absurd (false≢true (sym f ∙ fits-short k d (length ws) e))
+    go true k d false e true f true = rw e
+    go true k d false e true f false = refl
+    go true k d false e false f z = refl
 
-abbrev pub PathSaid : ℕ → ℕ → ℕ → List ℕ → List ℕ → List ℕ → PathLine → Type 0
-PathSaid cells carts calls deadlines row l r = ((j : Job) → Tells j cells carts calls deadlines → pathRead r row ≡ pathLine j l) × PathKnown carts calls r
+abbrev pub PathSaid : ℕ → ℕ → ℕ → List ℕ → List ℕ → List ℕ → List ℕ → PathLine → Type 0
+PathSaid cells carts calls kinds deadlines row l r = ((j : Job) → Tells j cells carts calls kinds deadlines → pathRead r row ≡ pathLine j l) × PathKnown carts calls r
 
-pub path-few : {cells carts calls : ℕ} {deadlines : List ℕ} (row l : List ℕ) → hasTwo (numbersAfter pathWord l) ≡ false → PathSaid cells carts calls deadlines row l P.Bad
+pub path-few : {cells carts calls : ℕ} {kinds deadlines : List ℕ} (row l : List ℕ) → hasTwo (numbersAfter pathWord l) ≡ false
+    → PathSaid cells carts calls kinds deadlines row l P.Bad
 path-few row l h = (λ j t. sym (without-two (pathOf j) none refl refl (λ a. refl) (numbersAfter pathWord l) h), tt)
 
-module _ {cells carts calls : ℕ} {deadlines : List ℕ} (row : List ℕ) {l : List ℕ} {a b next : ℕ} (two : Found (pathWord ++ (9 ∷ [])) l a b next) where
-  says : (j : Job) → Tells j cells carts calls deadlines → {x y : Bool} → ltb a carts ≡ x → ltb b calls ≡ y → (o : Option (List ℕ)) → behind l next ≡ o
-      → pathLine j l ≡ cond (x && y) (onPath a b (cellsGiven cells (suc (callOf j b .deadline)) o)) none
-  says j t e f o g = ap (pathOf j) (two .numbers ∙ ap (withTwo a b) g) ∙ path-says j a b o ∙ rw (t .carts-are, t .calls-are, t .cells-are, e, f)
+module _ {cells carts calls : ℕ} {kinds deadlines : List ℕ} (row : List ℕ) {l : List ℕ} {a b next : ℕ} (two : Found (pathWord ++ (9 ∷ [])) l a b next) where
+  says : (j : Job) → Tells j cells carts calls kinds deadlines → {x y : Bool} → ltb a carts ≡ x → ltb b calls ≡ y → (o : Option (List ℕ)) → behind l next ≡ o
+      → let q = callOf j b in pathLine j l ≡ cond (x && y) (onPath a b (fitting (q .kind) (q .deadline) (cellsGiven cells (suc (q .deadline)) o))) none
+  says j t e f o g = ap (pathOf j) (two .numbers ∙ ap (withTwo a b) g) ∙ path-says j a b o ∙ rw (t .carts-are, t .calls-told .calls-are, t .cells-are, e, f)
 
-  pub path-no-cart : carts ≤ a → PathSaid cells carts calls deadlines row l P.Bad
+  pub path-no-cart : carts ≤ a → PathSaid cells carts calls kinds deadlines row l P.Bad
   path-no-cart h = (λ j t. sym (says j t (le-ltb _ _ h) refl _ refl), tt)
 
   module _ (known : a < carts) where
-    pub path-no-call : calls ≤ b → PathSaid cells carts calls deadlines row l P.Bad
+    pub path-no-call : calls ≤ b → PathSaid cells carts calls kinds deadlines row l P.Bad
     path-no-call h = (λ j t. sym (says j t (lt-ltb _ _ known) (le-ltb _ _ h) _ refl), tt)
 
     module _ (known-call : b < calls) where
-      pub path-ends : length l ≤ next → PathSaid cells carts calls deadlines row l P.Bad
-      path-ends h = (λ j t. sym (says j t (lt-ltb _ _ known) (lt-ltb _ _ known-call) (some []) (behind-none l next h) ∙ none-given (callOf j b .deadline)), tt)
-        where
-          none-given : (n : ℕ) → onPath a b (cellsGiven cells (suc n) (some [])) ≡ none
-          none-given n = let e : 0 ≡ suc n → ⊥ = λ q. omega arith in simp (ne-eqb _ _ e)
+      pub path-ends : length l ≤ next → PathSaid cells carts calls kinds deadlines row l P.Bad
+      path-ends h = (λ j t. sym (says j t (lt-ltb _ _ known) (lt-ltb _ _ known-call) (some []) (behind-none l next h) ∙ ap (onPath a b) (no-cells (callOf j b .kind) cells (callOf j b .deadline))), tt)
 
-      module _ (h : next < length l) (d : ℕ) (last : d ≡ getD deadlines b 0) (r : Bool)
-          (read : cellsRead r (take (d + 1) row) ≡ cellsGiven cells (d + 1) (numbersAt l (next + 1))) where
-        given : (j : Job) → Tells j cells carts calls deadlines → pathLine j l ≡ onPath a b (cellsRead r (take (d + 1) row))
+      module _ (h : next < length l) (d : ℕ) (due : d ≡ getD deadlines b 0) (r : ℕ) (short : r ≤ length row)
+          (read : cellsRead r (take r row) ≡ cellsGiven cells (d + 1) (numbersAt l (next + 1))) where
+        given : (j : Job) → Tells j cells carts calls kinds deadlines → pathLine j l ≡ onPath a b (fitting (callKind (getD kinds b 0)) d (cellsRead r (take r row)))
         given j t =
-            let e : suc (callOf j b .deadline) ≡ d + 1 = omega (arith, t .deadlines-are b known-call) in
-            says j t (lt-ltb _ _ known) (lt-ltb _ _ known-call) _ (behind-more l next h) ∙ rw (e, ← read)
+            let e : callOf j b .deadline ≡ d = t .deadlines-are b known-call ∙ sym due in
+            says j t (lt-ltb _ _ known) (lt-ltb _ _ known-call) _ (behind-more l next h) ∙ rw (t .calls-told .kinds-are b known-call, e, ← add-one d, ← read)
 
-        pub path-no-cells : r ≡ false → PathSaid cells carts calls deadlines row l P.Bad
-        path-no-cells q = (λ j t. sym (given j t ∙ rw q), tt)
+        pub path-unfit : sizeFits (callKind (getD kinds b 0)) d r ≡ false → PathSaid cells carts calls kinds deadlines row l P.Bad
+        path-unfit q = (λ j t. sym (given j t ∙ ap (onPath a b) (read-unfit (callKind (getD kinds b 0)) d row r short q)), tt)
 
-        pub path-good : r ≡ true → d < maxSteps → PathSaid cells carts calls deadlines row l (P.Good a b d)
-        path-good q short = (λ j t. sym (given j t ∙ rw (q, add-one)), (known, known-call, short))
+        pub path-good : sizeFits (callKind (getD kinds b 0)) d r ≡ true → (last : ℕ) → r ≡ suc last → last < maxSteps → PathSaid cells carts calls kinds deadlines row l (P.Good a b last)
+        path-good q last n few = (λ j t. sym (given j t ∙ ap (onPath a b) (read-fits (callKind (getD kinds b 0)) d row r short q last n)), (known, known-call, few))
+
+-- A CHOKE line with a whole call.
+bay-byte : (n : ℕ) → (n ≡ 0 → ⊥) → isLift (callKind n) ≡ false
+bay-byte zero h = absurd (h refl)
+bay-byte (suc n) h = refl
+
+abbrev pub WholeSaid : ℕ → List ℕ → List ℕ → ChokeLine → Type 0
+WholeSaid calls kinds l r = (j : Job) → CallsTold j calls kinds → chokeRead r ≡ wholeOf j (numbersAfter wholeWord l)
+
+module _ (l : List ℕ) {m : Option ℕ} (only : m ≡ onlyOf (numbersAfter wholeWord l)) where
+  whole-says : (j : Job) → wholeOf j (numbersAfter wholeWord l) ≡ onOnly none (λ k. cond (knownWhole j k) (some (wholeCall k)) none) m
+  whole-says j = by-only (wholeOf j) none _ refl refl (λ k. refl) (λ k n ns. refl) (numbersAfter wholeWord l) ∙ ap (onOnly none _) (sym only)
+
+  pub whole-none : {calls : ℕ} {kinds : List ℕ} → m ≡ none → WholeSaid calls kinds l C.Bad
+  whole-none e j t = sym (whole-says j ∙ rw e)
+
+  module _ (calls : ℕ) (kinds : List ℕ) (k : ℕ) (e : m ≡ some k) where
+    pub whole-no-call : calls ≤ k → WholeSaid calls kinds l C.Bad
+    whole-no-call h j t = sym (whole-says j ∙ rw (e, t .calls-are, le-ltb _ _ h))
+
+    module _ (h : k < calls) where
+      kind-says : (j : Job) → CallsTold j calls kinds → wholeOf j (numbersAfter wholeWord l) ≡ cond (isLift (callKind (getD kinds k 0))) (some (wholeCall k)) none
+      kind-says j t = whole-says j ∙ rw (e, t .calls-are, lt-ltb _ _ h, t .kinds-are k h)
+
+      pub whole-bay : (getD kinds k 0 ≡ 0 → ⊥) → WholeSaid calls kinds l C.Bad
+      whole-bay f j t = sym (kind-says j t ∙ ap (λ x. cond x (some (wholeCall k)) none) (bay-byte (getD kinds k 0) f))
+
+      pub whole-good : getD kinds k 0 ≡ 0 → WholeSaid calls kinds l (C.Good 1 k 0)
+      whole-good f j t = sym (kind-says j t ∙ rw f)
 
 -- A CHOKE line.
-abbrev pub ChokeSaid : ℕ → ℕ → List ℕ → ChokeLine → Type 0
-ChokeSaid cells latest l r = ((j : Job) → j .cells ≡ cells → horizon j ≡ latest → chokeRead r ≡ chokeLine j l) × ChokeKnown cells latest r
+abbrev pub ChokeSaid : ℕ → ℕ → ℕ → List ℕ → List ℕ → ChokeLine → Type 0
+ChokeSaid cells latest calls kinds l r = (j : Job) → j .cells ≡ cells → horizon j ≡ latest → CallsTold j calls kinds → chokeRead r ≡ chokeLine j l
 
-pub choke-few : {cells latest : ℕ} (l : List ℕ) → hasTwo (numbersAfter chokeWord l) ≡ false → ChokeSaid cells latest l C.Bad
-choke-few l f = (λ j c h. sym (without-two (pointOf j) none refl refl (λ a. refl) (numbersAfter chokeWord l) f), tt)
+pub choke-whole : {cells latest calls : ℕ} {kinds : List ℕ} (l : List ℕ) → hasTwo (numbersAfter chokeWord l) ≡ false → (r : ChokeLine) → WholeSaid calls kinds l r
+    → ChokeSaid cells latest calls kinds l r
+choke-whole l f r said j c h t = said j t ∙ go (opens wholeWord l)
+  where
+    go : (t : Bool)
+        → wholeOf j (cond t (numbersOf (after wholeWord l)) none) ≡ cond t (wholeOf j (numbersOf (after wholeWord l))) (pointOf j (numbersAfter chokeWord l))
+    go true = refl
+    go false = sym (without-two (pointOf j) none refl refl (λ a. refl) (numbersAfter chokeWord l) f)
 
-module _ {cells latest : ℕ} {l : List ℕ} {a b next : ℕ} (two : Found (chokeWord ++ (9 ∷ [])) l a b next) where
-  pub choke-over : next < length l → ChokeSaid cells latest l C.Bad
-  choke-over f = (λ j c h. sym (ap (pointOf j) (two .numbers ∙ ap (withTwo a b) (behind-more l next f)) ∙ no-more j), tt)
+module _ {l : List ℕ} {a b next : ℕ} (two : Found (chokeWord ++ (9 ∷ [])) l a b next) where
+  -- behind CHOKE stands a number, so no whole call
+  no-whole : (j : Job) (o : Option (List ℕ)) → behind l next ≡ o → chokeLine j l ≡ pointOf j (withTwo a b o)
+  no-whole j o e = go (opens wholeWord l) refl
     where
-      no-more : (j : Job) → pointOf j (withTwo a b (numbersAt l (next + 1))) ≡ none
-      no-more j = numbers-cases (λ o. pointOf j (withTwo a b o) ≡ none) refl (λ m ns. refl) (drop (next + 1) l)
+      go : (t : Bool) → opens wholeWord l ≡ t → cond t (wholeOf j (numbersOf (after wholeWord l))) (pointOf j (numbersAfter chokeWord l)) ≡ pointOf j (withTwo a b o)
+      go true q = let f : Value a (two .past-first) ≡ Fault = sym (two .first) ∙ word-no-number (chokeWord ++ (9 ∷ [])) (bytes "ALL\t") l 67 (λ s. refl) q in nope (cc)
+      go false q = ap (pointOf j) (two .numbers ∙ ap (withTwo a b) e)
+
+  pub choke-over : {cells latest calls : ℕ} {kinds : List ℕ} → next < length l → ChokeSaid cells latest calls kinds l C.Bad
+  choke-over f j c h t = sym (no-whole j _ (behind-more l next f) ∙ numbers-cases (λ o. pointOf j (withTwo a b o) ≡ none) refl (λ m ns. refl) (drop (next + 1) l))
 
   module _ (end : length l ≤ next) where
-    point-says : (j : Job) → j .cells ≡ cells → horizon j ≡ latest → {x y : Bool} → ltb a cells ≡ x → leb b latest ≡ y → chokeLine j l ≡ cond (x && y) (some (point a b)) none
-    point-says j c h e f = ap (pointOf j) (two .numbers ∙ ap (withTwo a b) (behind-none l next end)) ∙ rw (c, h, e, f)
+    point-says : {cells latest : ℕ} (j : Job) → j .cells ≡ cells → horizon j ≡ latest → {x y : Bool} → ltb a cells ≡ x → leb b latest ≡ y
+        → chokeLine j l ≡ cond (x && y) (some (cellStep (point a b))) none
+    point-says j c h e f = no-whole j (some []) (behind-none l next end) ∙ rw (c, h, e, f)
 
-    pub choke-no-cell : cells ≤ a → ChokeSaid cells latest l C.Bad
-    choke-no-cell f = (λ j c h. sym (point-says j c h (le-ltb _ _ f) refl), tt)
+    pub choke-no-cell : {cells latest calls : ℕ} {kinds : List ℕ} → cells ≤ a → ChokeSaid cells latest calls kinds l C.Bad
+    choke-no-cell f j c h t = sym (point-says j c h (le-ltb _ _ f) refl)
 
-    module _ (known : a < cells) where
-      pub choke-late : latest < b → ChokeSaid cells latest l C.Bad
-      choke-late f = (λ j c h. sym (point-says j c h (lt-ltb _ _ known) (lt-leb _ _ f)), tt)
+    module _ {cells latest : ℕ} (known : a < cells) where
+      pub choke-late : {calls : ℕ} {kinds : List ℕ} → latest < b → ChokeSaid cells latest calls kinds l C.Bad
+      choke-late f j c h t = sym (point-says j c h (lt-ltb _ _ known) (lt-leb _ _ f))
 
-      pub choke-good : b ≤ latest → ChokeSaid cells latest l (C.Good a b)
-      choke-good f = (λ j c h. sym (point-says j c h (lt-ltb _ _ known) (le-leb _ _ f)), (known, f))
+      pub choke-good : {calls : ℕ} {kinds : List ℕ} → b ≤ latest → ChokeSaid cells latest calls kinds l (C.Good 0 a b)
+      choke-good f j c h t = sym (point-says j c h (lt-ltb _ _ known) (le-leb _ _ f))
 
 -- The first line: by its only number.
 abbrev countOnly : (ℕ → Bool) → (ℕ → Sheet) → Option ℕ → Sheet
-countOnly isRight rest none = bad 1
-countOnly isRight rest (some n) = cond (isRight n) (rest n) (bad 1)
+countOnly isRight rest = onOnly (bad 1) (λ n. cond (isRight n) (rest n) (bad 1))
 
 count-only : (isRight : ℕ → Bool) (rest : ℕ → Sheet) (o : Option (List ℕ)) → countSays isRight rest o ≡ countOnly isRight rest (onlyOf o)
-count-only isRight rest none = refl
-count-only isRight rest (some []) = refl
-count-only isRight rest (some (n ∷ [])) = refl
-count-only isRight rest (some (n ∷ m ∷ ns)) = refl
+count-only isRight rest = by-only (countSays isRight rest) (bad 1) _ refl refl (λ n. refl) (λ n m ns. refl)
 
 cannot-goes : (j : Job) (ls : Lines) (m : Option ℕ) → headGoes j (cannotHead (length (j .calls)) m) ls
     ≡ countOnly (λ n. ltb n (length (j .calls))) (λ n. restSays bad (chokeLine j) cannot [] n 2 ls) m
@@ -159,7 +244,10 @@ head-unlike calls l e r q = (λ j ls n. ap (λ x. headGoes j x ls) q ∙ goes j 
 
 module _ (l : List ℕ) (e : opens planWord l ≡ true) {m : Option ℕ} (only : m ≡ onlyOf (numbersAfter planWord l)) where
   plan-says : (j : Job) (ls : Lines) → headSays j (more l ls) ≡ countOnly (λ n. eqb n (length (j .calls))) (λ n. restSays bad (pathLine j) plan [] n 2 ls) m
-  plan-says j ls = rw e (count-only _ _ (numbersAt l 5) ∙ ap (countOnly _ _) (sym (only ∙ ap onlyOf (past (planWord ++ (9 ∷ [])) l e))))
+  plan-says j ls =
+      rw e
+      (count-only _ _ (numbersAt l 5)
+      ∙ ap (countOnly (λ n. eqb n (length (j .calls))) (λ n. restSays bad (pathLine j) plan [] n 2 ls)) (sym (only ∙ ap onlyOf (past (planWord ++ (9 ∷ [])) l e))))
 
   pub head-few : (calls : ℕ) → m ≡ none → HeadSaid calls l H.Bad
   head-few calls f = (λ j ls n. sym (plan-says j ls ∙ rw f), tt)

@@ -5,14 +5,14 @@ use lib.ListN.{length}
 use Rattle.model.specs.Limits.{maxCalls}
 use Rattle.model.specs.Job.{Job}
 use Rattle.model.specs.ReadSheet.{Sheet, bad, plan, cannot}
-use Rattle.job.specs.Held.{pathsTo, pointsOf}
+use Rattle.job.specs.Held.{pathsTo, chokesTo}
 use Rattle.sheet.specs.declared.Form.{Form}
 use Rattle.sheet.specs.declared.Form.the-variants.{Bad, Plan, Cannot}
 
 abbrev pub formOf : Job → Form → List ℕ → List ℕ → List ℕ → List ℕ → Sheet
 formOf j (Bad l) first second lasts rows = bad l
 formOf j Plan first second lasts rows = plan (pathsTo first second lasts rows (length (j .calls)))
-formOf j (Cannot n) first second lasts rows = cannot (pointsOf first second n)
+formOf j (Cannot n) first second lasts rows = cannot (chokesTo first second lasts n)
 
 -- A sheet in the form has a first line and at most one for each call, so a bad one is at most the line after those; and there are fewer choke points
 -- than calls can be.

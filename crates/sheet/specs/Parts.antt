@@ -1,20 +1,23 @@
 -- What the parts of the sheet's reader answer: of the fields of a line, of a line, of the lines after the first.
-use Prim.Native.Nat.{ℕ, suc, _+_, _<_, _≤_}
+use Prim.Native.Nat.{ℕ, zero, suc, _+_, _<_, _≤_}
 use mathlib.Core.Path.{_≡_}
 use mathlib.Core.List.{List, [], _∷_}
 use mathlib.Core.Option.{Option, none, some}
 use mathlib.Core.Bool.{Bool, true, false, cond, _&&_}
-use lib.Dec.{ltb, eqb}
+use lib.Dec.{ltb, leb, eqb}
 use lib.ListN.{length, getD, take, drop}
 use Rattle.model.specs.Limits.{maxSteps}
 use Rattle.model.specs.Job.{Job, callOf}
 use Rattle.model.specs.Plan.{Path}
-use Rattle.model.specs.Choke.{Point, point}
+use Rattle.model.specs.Choke.{Choke}
 use Rattle.model.specs.Text.{Lines, fieldsOf, andNumber, numbersOf, startsWith}
 use Rattle.model.specs.FirstBad.{restSays}
 use Rattle.model.specs.ReadSheet.{Sheet, bad, plan, cannot, allBelow, pathLine, chokeLine}
 use Rattle.text.specs.declared.scan.Scan.{Scan}
 use Rattle.text.specs.declared.scan.Scan.the-variants.{Value, Fault}
+use Rattle.text.specs.Scan.{numberAt}
+use Rattle.job.specs.Arrays.{callKind}
+use Rattle.job.specs.Held.{chokeOf}
 use Rattle.sheet.specs.declared.Two.{Two}
 use Rattle.sheet.specs.declared.Two.the-variants as T
 use Rattle.sheet.specs.declared.PathLine.{PathLine}
@@ -57,29 +60,36 @@ behind s next = cond (ltb next (length s)) (numbersAt s (next + 1)) (some [])
 abbrev pub withTwo : ℕ → ℕ → Option (List ℕ) → Option (List ℕ)
 withTwo a b ns = andNumber (some a) (andNumber (some b) ns)
 
--- The numbers behind the word are a, b and those of the fields after `next`.
+-- The numbers behind the word are a, b and those of the fields after `next`. The first field is the number a, whatever the fields after `next` are.
 pub record Found (word l : List ℕ) (a b next : ℕ) : Type 0 where
   pub numbers : numbersPast word l ≡ withTwo a b (behind l next)
   pub inside : next ≤ length l
+  pub past-first : ℕ
+  pub first : numberAt l (length word) ≡ Value a past-first
 
 abbrev pub TwoPast : List ℕ → List ℕ → Two → Type 0
 TwoPast word l T.Missing = hasTwo (numbersPast word l) ≡ false
 TwoPast word l (T.Both a b next) = Found word l a b next
 
--- `count` numbers below `limit`, and no others
+-- numbers below `limit`, `most` of them at most, and no others
 abbrev pub cellsGiven : ℕ → ℕ → Option (List ℕ) → Option (List ℕ)
-cellsGiven limit count none = none
-cellsGiven limit count (some ns) = cond (eqb (length ns) count && allBelow limit ns) (some ns) none
+cellsGiven limit most none = none
+cellsGiven limit most (some ns) = cond (leb (length ns) most && allBelow limit ns) (some ns) none
 
-abbrev pub cellsRead : Bool → List ℕ → Option (List ℕ)
-cellsRead false l = none
-cellsRead true l = some l
+-- the cells by their number, which is 0 where there are none
+abbrev pub cellsRead : ℕ → List ℕ → Option (List ℕ)
+cellsRead zero l = none
+cellsRead (suc n) l = some l
 
 -- The job's numbers as the functions that read its lines take them.
-pub record Tells (j : Job) (cells carts calls : ℕ) (deadlines : List ℕ) : Type 0 where
+pub record CallsTold (j : Job) (calls : ℕ) (kinds : List ℕ) : Type 0 where
+  pub calls-are : length (j .calls) ≡ calls
+  pub kinds-are : (k : ℕ) → k < calls → callOf j k .kind ≡ callKind (getD kinds k 0)
+
+pub record Tells (j : Job) (cells carts calls : ℕ) (kinds deadlines : List ℕ) : Type 0 where
   pub cells-are : j .cells ≡ cells
   pub carts-are : length (j .carts) ≡ carts
-  pub calls-are : length (j .calls) ≡ calls
+  pub calls-told : CallsTold j calls kinds
   pub deadlines-are : (k : ℕ) → k < calls → callOf j k .deadline ≡ getD deadlines k 0
 
 abbrev pub pathRead : PathLine → List ℕ → Option Path
@@ -90,13 +100,9 @@ abbrev pub PathKnown : ℕ → ℕ → PathLine → Type 0
 PathKnown carts calls P.Bad = Unit
 PathKnown carts calls (P.Good a b d) = (a < carts) × (b < calls) × (d < maxSteps)
 
-abbrev pub chokeRead : ChokeLine → Option Point
+abbrev pub chokeRead : ChokeLine → Option Choke
 chokeRead C.Bad = none
-chokeRead (C.Good a b) = some (point a b)
-
-abbrev pub ChokeKnown : ℕ → ℕ → ChokeLine → Type 0
-ChokeKnown cells latest C.Bad = Unit
-ChokeKnown cells latest (C.Good a b) = (a < cells) × (b ≤ latest)
+chokeRead (C.Good kind a b) = some (chokeOf kind a b)
 
 -- what the sheet is by its first line, with the rest of its lines
 abbrev pub headGoes : Job → Head → Lines → Sheet

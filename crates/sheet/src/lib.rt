@@ -1,5 +1,8 @@
 // Sheets, read: paths or choke points in the written form, or the first bad line.
+use job::state::CELL;
 use job::state::Job;
+use job::state::LIFT;
+use job::state::WHOLE;
 use model::Limits;
 use model::bytes::wide;
 use text::scan::Scan;
@@ -11,13 +14,13 @@ ghost use Rattle.model.specs.Limits.{maxCells, maxCarts, maxCalls, maxSteps};
 ghost use Rattle.model.specs.Job as model;
 ghost use Rattle.model.specs.Job.{horizon};
 ghost use Rattle.model.specs.Ready.{Ready};
-ghost use Rattle.model.specs.Text.{Lines, more, linesOf, cannotWord};
+ghost use Rattle.model.specs.Text.{Lines, more, linesOf, cannotWord, wholeWord};
 ghost use Rattle.model.specs.FirstBad.{restSays};
-ghost use Rattle.model.specs.ReadSheet.{bad, plan, cannot, numbersAfter, headSays, pathLine, chokeLine, readSheet};
-ghost use Rattle.job.specs.Arrays.{jobOf, Sized};
-ghost use Rattle.job.specs.Held.{Room, pathsTo, pointsOf};
+ghost use Rattle.model.specs.ReadSheet.{bad, plan, cannot, numbersAfter, sizeFits, headSays, pathLine, wholeOf, chokeLine, readSheet};
+ghost use Rattle.job.specs.Arrays.{callKind, jobOf, Sized};
+ghost use Rattle.job.specs.Held.{Room, pathsTo, chokesTo};
 ghost use Rattle.sheet.specs.Form.{formOf, LineFits};
-ghost use Rattle.sheet.specs.Parts.{numbersAt, numbersPast, onlyOf, onlyRead, TwoPast, cellsGiven, cellsRead, Tells, pathRead, PathKnown, chokeRead, ChokeKnown, headGoes, HeadKnown, cannotHead, unlessBad};
+ghost use Rattle.sheet.specs.Parts.{numbersAt, numbersPast, onlyOf, onlyRead, TwoPast, cellsGiven, cellsRead, CallsTold, Tells, pathRead, PathKnown, chokeRead, headGoes, HeadKnown, cannotHead, unlessBad};
 
 // What a sheet is, by its form.
 pub enum Form {
@@ -45,9 +48,10 @@ enum PathLine {
     },
 }
 
+// A choke point by the bytes that hold it.
 enum ChokeLine {
     Bad,
-    Good { cell: usize, step: usize },
+    Good { kind: u8, first: u8, second: u8 },
 }
 
 enum Head {
@@ -98,41 +102,53 @@ fn two_numbers(line: &[u8], word: &[u8]) -> Two
     }
 }
 
-// Whether the fields from `at` on are `count` numbers below `limit`, and no others. They go into out.
-fn read_cells(line: &[u8], at: usize, limit: usize, count: usize, out: &mut [u8]) -> bool
-    requires { ⌜ (at ≤ length (now line)) × (limit ≤ maxCells) × (count ≤ length (now out)) ⌝ }
-    ensures { λ r. ⌜ cellsRead r (take count (now (out .exit))) ≡ cellsGiven limit count (numbersAt (now (line .entry)) at) ⌝ }
+// How many fields there are from `at` on, if they are numbers below `limit` and `most` at most; else 0. The numbers go into out.
+fn read_cells(line: &[u8], at: usize, limit: usize, most: usize, out: &mut [u8]) -> usize
+    requires { ⌜ (at ≤ length (now line)) × (limit ≤ maxCells) × (most ≤ length (now out)) ⌝ }
+    ensures { λ r. ⌜ (cellsRead r (take r (now (out .exit))) ≡ cellsGiven limit most (numbersAt (now (line .entry)) at)) × (r ≤ most) ⌝ }
 {
     let mut i = 0;
     let mut p = at;
-    while i < count {
+    while i < most {
         let Scan::Value { value, next } = text::scan::number(line, p) else {
-            return false;
+            return 0;
         };
         if limit <= value {
-            return false;
+            return 0;
         }
         out[i] = value as u8;
         i += 1;
         if line.len() <= next {
-            return i == count;
+            return i;
         }
         p = next + 1;
     }
-    false
+    0
 }
 
-// A PATH line: a cart, a call, and a cell for each step to the call's deadline. They go into row.
-fn path_line(
+// Whether a path to a call of this kind and deadline can have n cells.
+fn size_fits(kind: u8, deadline: usize, n: usize) -> bool
+    requires { ⌜ deadline < maxSteps ⌝ }
+    ensures { λ r. ⌜ r ≡ sizeFits (callKind kind) deadline n ⌝ }
+{
+    if kind == LIFT {
+        return 0 < n && n <= deadline + 1;
+    }
+    n == deadline + 1
+}
+
+// A PATH line: a cart, a call, and the cells from step 0 to the one at which the call is met. These go into row.
+fn path_line<'a>(
     line: &[u8],
     cells: usize,
     carts: usize,
     calls: usize,
-    deadlines: &[u8; Limits::CALLS],
+    kinds: &'a [u8; Limits::CALLS],
+    deadlines: &'a [u8; Limits::CALLS],
     row: &mut [u8],
 ) -> PathLine
     requires { ⌜ (cells ≤ maxCells) × (calls ≤ maxCalls) × (length (now row) ≡ maxSteps) ⌝ }
-    ensures { λ r. ⌜ ((j : model.Job) → Tells j cells carts calls (now (deadlines .entry)) → pathRead r (now (row .exit)) ≡ pathLine j (now (line .entry))) × PathKnown carts calls r ⌝ }
+    ensures { λ r. ⌜ ((j : model.Job) → Tells j cells carts calls (now (kinds .entry)) (now (deadlines .entry)) → pathRead r (now (row .exit)) ≡ pathLine j (now (line .entry))) × PathKnown carts calls r ⌝ }
 {
     let Two::Both {
         first: cart,
@@ -151,16 +167,53 @@ fn path_line(
     if line.len() <= next {
         return PathLine::Bad;
     }
-    let last = wide(deadlines[call]);
-    if !read_cells(line, next + 1, cells, last + 1, row) {
+    let deadline = wide(deadlines[call]);
+    let n = read_cells(line, next + 1, cells, deadline + 1, row);
+    if !size_fits(kinds[call], deadline, n) {
         return PathLine::Bad;
     }
-    PathLine::Good { cart, call, last }
+    PathLine::Good {
+        cart,
+        call,
+        last: n - 1,
+    }
 }
 
-// A CHOKE line: a cell, and a step from 0 to the latest.
-fn choke_line(line: &[u8], cells: usize, latest: usize) -> ChokeLine
-    ensures { λ r. ⌜ ((j : model.Job) → j .cells ≡ cells → horizon j ≡ latest → chokeRead r ≡ chokeLine j (now (line .entry))) × ChokeKnown cells latest r ⌝ }
+// A CHOKE line with a whole call: one at a lift.
+fn whole_line(line: &[u8], calls: usize, kinds: &[u8; Limits::CALLS]) -> ChokeLine
+    requires { ⌜ calls ≤ maxCalls ⌝ }
+    ensures { λ r. ⌜ ((j : model.Job) → CallsTold j calls (now (kinds .entry)) → chokeRead r ≡ wholeOf j (numbersAfter wholeWord (now (line .entry)))) ⌝ }
+{
+    let Scan::Value {
+        value: call,
+        next: _,
+    } = only_number(line, b"CHOKE\tCALL\t")
+    else {
+        return ChokeLine::Bad;
+    };
+    if calls <= call {
+        return ChokeLine::Bad;
+    }
+    if kinds[call] != LIFT {
+        return ChokeLine::Bad;
+    }
+    ChokeLine::Good {
+        kind: WHOLE,
+        first: call as u8,
+        second: 0,
+    }
+}
+
+// A CHOKE line: a cell, and a step from 0 to the latest; or a whole call, whose line has a word where the cell would stand.
+fn choke_line(
+    line: &[u8],
+    cells: usize,
+    latest: usize,
+    calls: usize,
+    kinds: &[u8; Limits::CALLS],
+) -> ChokeLine
+    requires { ⌜ (cells ≤ maxCells) × (latest < maxSteps) × (calls ≤ maxCalls) ⌝ }
+    ensures { λ r. ⌜ ((j : model.Job) → j .cells ≡ cells → horizon j ≡ latest → CallsTold j calls (now (kinds .entry)) → chokeRead r ≡ chokeLine j (now (line .entry))) ⌝ }
 {
     let Two::Both {
         first: cell,
@@ -168,7 +221,7 @@ fn choke_line(line: &[u8], cells: usize, latest: usize) -> ChokeLine
         next,
     } = two_numbers(line, b"CHOKE\t")
     else {
-        return ChokeLine::Bad;
+        return whole_line(line, calls, kinds);
     };
     if next < line.len() {
         return ChokeLine::Bad;
@@ -179,7 +232,11 @@ fn choke_line(line: &[u8], cells: usize, latest: usize) -> ChokeLine
     if latest < step {
         return ChokeLine::Bad;
     }
-    ChokeLine::Good { cell, step }
+    ChokeLine::Good {
+        kind: CELL,
+        first: cell as u8,
+        second: step as u8,
+    }
 }
 
 // A CANNOT line with a number below that of the calls.
@@ -212,20 +269,21 @@ fn head_line(line: &[u8], calls: usize) -> Head
 }
 
 // The PATH lines from `at` on, one for each call: 0, or the number of the first bad line. The first line of them has the number 2.
-fn read_paths(
+fn read_paths<'a>(
     sheet: &[u8],
     at: usize,
     cells: usize,
     carts: usize,
     calls: usize,
-    deadlines: &[u8; Limits::CALLS],
+    kinds: &'a [u8; Limits::CALLS],
+    deadlines: &'a [u8; Limits::CALLS],
     first: &mut [u8],
     second: &mut [u8],
     lasts: &mut [u8],
     rows: &mut [u8],
 ) -> usize
     requires { ⌜ (at ≤ length (now sheet)) × (cells ≤ maxCells) × (carts ≤ maxCarts) × (calls ≤ maxCalls) × Room (now first) (now second) (now lasts) (now rows) ⌝ }
-    ensures { λ r. ⌜ ((j : model.Job) → Tells j cells carts calls (now (deadlines .entry)) → unlessBad r (plan (pathsTo (now (first .exit)) (now (second .exit)) (now (lasts .exit)) (now (rows .exit)) calls)) ≡ restSays bad (pathLine j) plan [] calls 2 (linesOf (drop at (now (sheet .entry))))) × Room (now (first .exit)) (now (second .exit)) (now (lasts .exit)) (now (rows .exit)) × (r ≤ maxCalls + 2) ⌝ }
+    ensures { λ r. ⌜ ((j : model.Job) → Tells j cells carts calls (now (kinds .entry)) (now (deadlines .entry)) → unlessBad r (plan (pathsTo (now (first .exit)) (now (second .exit)) (now (lasts .exit)) (now (rows .exit)) calls)) ≡ restSays bad (pathLine j) plan [] calls 2 (linesOf (drop at (now (sheet .entry))))) × Room (now (first .exit)) (now (second .exit)) (now (lasts .exit)) (now (rows .exit)) × (r ≤ maxCalls + 2) ⌝ }
 {
     let mut k = 0;
     let mut p = at;
@@ -241,6 +299,7 @@ fn read_paths(
             cells,
             carts,
             calls,
+            kinds,
             deadlines,
             &mut rows[a..e],
         ) else {
@@ -257,18 +316,21 @@ fn read_paths(
     0
 }
 
-// The CHOKE lines from `at` on, as many as count, likewise.
+// The CHOKE lines from `at` on, as many as count, likewise. The kind of each choke point goes into third.
 fn read_chokes(
     sheet: &[u8],
     at: usize,
     count: usize,
     cells: usize,
     latest: usize,
+    calls: usize,
+    kinds: &[u8; Limits::CALLS],
     first: &mut [u8],
     second: &mut [u8],
+    third: &mut [u8],
 ) -> usize
-    requires { ⌜ (at ≤ length (now sheet)) × (count ≤ maxCalls) × (cells ≤ maxCells) × (latest < maxSteps) × (length (now first) ≡ maxCalls) × (length (now second) ≡ maxCalls) ⌝ }
-    ensures { λ r. ⌜ ((j : model.Job) → j .cells ≡ cells → horizon j ≡ latest → unlessBad r (cannot (pointsOf (now (first .exit)) (now (second .exit)) count)) ≡ restSays bad (chokeLine j) cannot [] count 2 (linesOf (drop at (now (sheet .entry))))) × (r ≤ maxCalls + 2) ⌝ }
+    requires { ⌜ (at ≤ length (now sheet)) × (count ≤ maxCalls) × (cells ≤ maxCells) × (latest < maxSteps) × (calls ≤ maxCalls) × (length (now first) ≡ maxCalls) × (length (now second) ≡ maxCalls) × (length (now third) ≡ maxCalls) ⌝ }
+    ensures { λ r. ⌜ ((j : model.Job) → j .cells ≡ cells → horizon j ≡ latest → CallsTold j calls (now (kinds .entry)) → unlessBad r (cannot (chokesTo (now (first .exit)) (now (second .exit)) (now (third .exit)) count)) ≡ restSays bad (chokeLine j) cannot [] count 2 (linesOf (drop at (now (sheet .entry))))) × (r ≤ maxCalls + 2) ⌝ }
 {
     let mut k = 0;
     let mut p = at;
@@ -277,11 +339,17 @@ fn read_chokes(
         if sheet.len() < p {
             return k + 2;
         }
-        let ChokeLine::Good { cell, step } = choke_line(line, cells, latest) else {
+        let ChokeLine::Good {
+            kind,
+            first: a,
+            second: b,
+        } = choke_line(line, cells, latest, calls, kinds)
+        else {
             return k + 2;
         };
-        first[k] = cell as u8;
-        second[k] = step as u8;
+        first[k] = a;
+        second[k] = b;
+        third[k] = kind;
         k += 1;
     }
     if p < sheet.len() {
@@ -290,8 +358,8 @@ fn read_chokes(
     0
 }
 
-// The first two numbers of each line go into first and second; of the k-th path, the last step into lasts and the cells into row k.
-// Where the sheet is bad they hold anything.
+// The first two numbers of each line go into first and second; of the k-th path, the last step into lasts and the cells into row k; of the k-th choke
+// point, the kind into lasts. Where the sheet is bad they hold anything.
 pub fn read_sheet(
     job: Job,
     sheet: &[u8],
@@ -322,6 +390,7 @@ pub fn read_sheet(
                 cells,
                 job.carts,
                 calls,
+                &job.kinds,
                 &job.deadlines,
                 first,
                 second,
@@ -335,7 +404,18 @@ pub fn read_sheet(
         }
         Head::Cannot { points } => {
             let latest = job::size::horizon(&job.deadlines, calls);
-            let line = read_chokes(sheet, at, points, cells, latest, first, second);
+            let line = read_chokes(
+                sheet,
+                at,
+                points,
+                cells,
+                latest,
+                calls,
+                &job.kinds,
+                first,
+                second,
+                lasts,
+            );
             if line != 0 {
                 return Form::Bad { line };
             }

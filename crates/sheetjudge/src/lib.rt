@@ -1,4 +1,4 @@
-// A sheet judged: read, then its paths or points held against the job. It works in locals.
+// A sheet judged: read, then its paths or choke points held against the job. It works in locals.
 use job::state::Job;
 use model::Limits;
 use model::answer::Answer;
@@ -30,7 +30,7 @@ pub fn judge_sheet(job: Job, sheet: &[u8]) -> u64
             return packed(Answer::WrongSheet, 0);
         }
         Form::Cannot { points } => {
-            if chokejudge::choke::is_choke_list(job, &first, &second, points) {
+            if chokejudge::choke::is_choke_list(job, &first, &second, &lasts, points) {
                 return packed(Answer::Cannot, 0);
             }
             return packed(Answer::WrongSheet, 0);

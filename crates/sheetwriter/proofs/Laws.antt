@@ -7,18 +7,19 @@ use mathlib.Core.List.{List, [], _∷_}
 use mathlib.Core.Bool.{true, _&&_}
 use native.Mathlib.Omega.{arith}
 use native.Mathlib.Nat.{add-mul, one-mul, mul-le-mul}
-use lib.Dec.{ltb, eqb}
+use lib.Dec.{ltb}
 use lib.ListN.{length, getD, take, drop}
-use borrow.Author.Tests.{eqb-true}
 use Rattle.model.specs.Lists.{In}
 use Rattle.model.specs.Limits.{maxSteps}
-use Rattle.model.specs.Text.{line, pathWord}
+use Rattle.model.specs.Text.{line, pathWord, chokeWord, wholeWord}
 use Rattle.model.specs.Job.{Job, Call, lift, call, callOf, latest, horizon, sheetLeast}
 use Rattle.model.specs.Plan.{Path}
 use Rattle.model.specs.Ready.{Ready}
-use Rattle.model.specs.SheetText.{pathNumbers}
-use Rattle.model.specs.ReadSheet.{knownPath, allBelow}
+use Rattle.model.specs.Choke.{Choke, cellStep, wholeCall}
+use Rattle.model.specs.SheetText.{pathNumbers, chokeOpens, chokeNumbers}
+use Rattle.model.specs.ReadSheet.{sizeFits, knownPath, allBelow}
 use Rattle.model.proofs.Basics.{and-left, and-right}
+use Rattle.model.proofs.Floor.{fits-time, time-due}
 use Rattle.text.specs.Wrote.{Wrote}
 use Rattle.model.proofs.Room.{line-room}
 use Rattle.job.specs.Held.{pathAt, pathsTo}
@@ -53,13 +54,17 @@ module _ (j : Job) (ready : Ready j) (n : ℕ) where
       let m : length (j .carts) * share j ≡ n * share j = rw (ready .even, e) refl in
       rw z (omega arith)
 
-  pub chokes-room : n < length (j .calls) → 14 * n + 64 ≤ sheetLeast j
+  pub chokes-room : n < length (j .calls) → 15 * n + 64 ≤ sheetLeast j
   chokes-room h =
-      let b : 14 ≤ share j = omega arith in
+      let b : 15 ≤ share j = omega arith in
       let l : n ≤ length (j .carts) = omega (arith, ready .even) in
       omega (arith, mul-le-mul l b)
 
--- The path of line k, as the code finds it: its line is no longer than its share, since a known path has a cell for each step to its deadline.
+pub choke-short : (x : Choke) → length (line (chokeOpens x) (chokeNumbers x)) ≤ 15
+choke-short (cellStep x) = omega (arith, line-room chokeWord (x .cell ∷ x .step ∷ []))
+choke-short (wholeCall k) = omega (arith, line-room wholeWord (k ∷ []))
+
+-- The path of line k, as the code finds it: its line is no longer than its share, since a known path has a cell for each step up to one at which its call is met.
 module _ (j : Job) (carts calls lasts rows : List ℕ) (known : (p : Path) → In p (pathsTo carts calls lasts rows (length (j .calls))) → knownPath j p ≡ true)
     (k : ℕ) (h : k < length (j .calls)) {cart at d : ℕ} (e : cart ≡ getD carts k 0) (f : at ≡ getD calls k 0) (g : d ≡ getD lasts k 0) where
   abbrev P : Path
@@ -77,9 +82,11 @@ module _ (j : Job) (carts calls lasts rows : List ℕ) (known : (p : Path) → I
   part-short =
       let a = ltb (P .cart) (length (j .carts)) in
       let b = ltb (P .call) (length (j .calls)) in
-      let c = eqb (length (P .cells)) (suc (callOf j (P .call) .deadline)) in
+      let q = callOf j (P .call) in
+      let c = sizeFits (q .kind) (q .deadline) (length (P .cells)) in
       let w = and-left (a && b && c) (allBelow (j .cells) (P .cells)) (known P (in-up (pathAt carts calls lasts rows) (length (j .calls)) P .1 (k, h, refl))) in
-      omega (arith, ap length part-is, eqb-true (length (P .cells)) (suc (callOf j (P .call) .deadline)) (and-right (a && b) c w), latest-most (j .calls) (P .call))
+      let (last, n, t) = fits-time (q .kind) (q .deadline) (length (P .cells)) (and-right (a && b) c w) in
+      omega (arith, ap length part-is, n, time-due (q .kind) (q .deadline) last t, latest-most (j .calls) (P .call))
 
   pub path-room : length (line pathWord (cart ∷ at ∷ part)) ≤ share j
   path-room = omega (arith, line-room pathWord (cart ∷ at ∷ part), part-short)

@@ -1,4 +1,5 @@
 // Sheets, written into a lent buffer.
+use job::state::CELL;
 use job::state::Job;
 use model::Limits;
 use model::bytes::wide;
@@ -17,11 +18,11 @@ ghost use Rattle.model.specs.Job.{sheetLeast};
 ghost use Rattle.model.specs.Plan.{Path};
 ghost use Rattle.model.specs.Ready.{Ready};
 ghost use Rattle.model.specs.ReadSheet.{knownPath};
-ghost use Rattle.model.specs.SheetText.{planText, cannotText};
+ghost use Rattle.model.specs.SheetText.{chokeOpens, chokeNumbers, planText, cannotText};
 ghost use Rattle.job.specs.Arrays.{jobOf, Sized};
 ghost use Rattle.text.specs.DigitTable.{DigitTable};
 ghost use Rattle.text.specs.Wrote.{Wrote};
-ghost use Rattle.job.specs.Held.{Room, pathsTo, pointsOf};
+ghost use Rattle.job.specs.Held.{Room, pathsTo, chokeOf, chokesTo};
 
 fn put_path(
     out: &mut [u8],
@@ -64,17 +65,35 @@ pub fn put_plan(
     p
 }
 
-// CANNOT, and a CHOKE line for each of the n points.
-pub fn put_cannot(job: Job, cells: &[u8], steps: &[u8], n: usize, out: &mut [u8]) -> usize
-    requires { ⌜ Ready (jobOf job) × Sized job × (length (now cells) ≡ maxCalls) × (length (now steps) ≡ maxCalls) × (n < job .calls) × (sheetLeast (jobOf job) ≤ length (now out)) ⌝ }
-    ensures { λ r. ⌜ Wrote (now (out .entry)) 0 (cannotText (pointsOf (now (cells .entry)) (now (steps .entry)) n)) (now (out .exit)) r ⌝ }
+// A CHOKE line: a cell and a step, or a whole call.
+fn put_choke(out: &mut [u8], at: usize, kind: u8, a: usize, b: usize, table: &Table) -> usize
+    requires { ⌜ DigitTable (now table) × (a < 1000) × (b < 1000) × (at + 15 ≤ length (now out)) ⌝ }
+    ensures { λ r. ⌜ Wrote (now (out .entry)) at (line (chokeOpens (chokeOf kind a b)) (chokeNumbers (chokeOf kind a b))) (now (out .exit)) r ⌝ }
+{
+    if kind == CELL {
+        return put::pair_line(out, at, b"CHOKE", a, b, table);
+    }
+    put::head(out, at, b"CHOKE\tCALL", a, table)
+}
+
+// CANNOT, and a CHOKE line for each of the n choke points.
+pub fn put_cannot(
+    job: Job,
+    first: &[u8],
+    second: &[u8],
+    kinds: &[u8],
+    n: usize,
+    out: &mut [u8],
+) -> usize
+    requires { ⌜ Ready (jobOf job) × Sized job × (length (now first) ≡ maxCalls) × (length (now second) ≡ maxCalls) × (length (now kinds) ≡ maxCalls) × (n < job .calls) × (sheetLeast (jobOf job) ≤ length (now out)) ⌝ }
+    ensures { λ r. ⌜ Wrote (now (out .entry)) 0 (cannotText (chokesTo (now (first .entry)) (now (second .entry)) (now (kinds .entry)) n)) (now (out .exit)) r ⌝ }
 {
     let table = digits::table();
     // As a byte, as in `put_plan`.
     let mut p = put::head(out, 0, b"CANNOT", wide(n as u8), &table);
     let mut k = 0;
     while k < n {
-        p = put::pair_line(out, p, b"CHOKE", wide(cells[k]), wide(steps[k]), &table);
+        p = put_choke(out, p, kinds[k], wide(first[k]), wide(second[k]), &table);
         k += 1;
     }
     p

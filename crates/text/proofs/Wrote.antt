@@ -85,11 +85,11 @@ pub line-of : (word xs ys : List ℕ) → (word ++ fields xs) ++ (fields ys ++ (
 line-of word xs ys = rw (fields-append xs ys) (simp append-assoc)
 
 -- Many lines, and one more of them.
-pub lines-append : {A : Type 0} (word : List ℕ) (numbers : A → List ℕ) (l m : List A) → linesText word numbers (l ++ m) ≡ linesText word numbers l ++ linesText word numbers m
+pub lines-append : {A : Type 0} (word numbers : A → List ℕ) (l m : List A) → linesText word numbers (l ++ m) ≡ linesText word numbers l ++ linesText word numbers m
 lines-append word numbers [] m = refl
 lines-append word numbers (a ∷ l) m =
-    rw (lines-append word numbers l m) (sym (append-assoc (line word (numbers a)) (linesText word numbers l) (linesText word numbers m)))
+    rw (lines-append word numbers l m) (sym (append-assoc (line (word a) (numbers a)) (linesText word numbers l) (linesText word numbers m)))
 
-pub wrote-lines : {A : Type 0} (word : List ℕ) (numbers : A → List ℕ) (l : List A) (a : A) {s : List ℕ} {at : ℕ} {t : List ℕ} {p : ℕ} {u : List ℕ} {r : ℕ}
-    → Wrote s at (linesText word numbers l) t p → Wrote t p (line word (numbers a)) u r → Wrote s at (linesText word numbers (l ++ (a ∷ []))) u r
-wrote-lines word numbers l a x y = rw (lines-append word numbers l (a ∷ []), append-nil (line word (numbers a))) (wrote-more x y)
+pub wrote-lines : {A : Type 0} (word numbers : A → List ℕ) (l : List A) (a : A) {s : List ℕ} {at : ℕ} {t : List ℕ} {p : ℕ} {u : List ℕ} {r : ℕ}
+    → Wrote s at (linesText word numbers l) t p → Wrote t p (line (word a) (numbers a)) u r → Wrote s at (linesText word numbers (l ++ (a ∷ []))) u r
+wrote-lines word numbers l a x y = rw (lines-append word numbers l (a ∷ []), append-nil (line (word a) (numbers a))) (wrote-more x y)

@@ -6,8 +6,9 @@ use super::Mode;
 use crate::model::limits::CELLS;
 
 /// Along a shortest way over the floor from the call's cell back to a free cart: hint[c] is the place in from(c)
-/// of the cell to come from. Only a guess: nothing rests on it but speed; the guards stand in for proofs.
-pub fn aim<M: Mode>(j: &Job, p: &Planes, call: usize, hint: &mut [u8; CELLS]) {
+/// of the cell to come from. Answers how long the way is. Only a guess: nothing rests on it but speed; the guards stand
+/// in for proofs.
+pub fn aim<M: Mode>(j: &Job, p: &Planes, call: usize, hint: &mut [u8; CELLS]) -> usize {
     let (mut queue, mut seen) = ([0u8; CELLS], [false; CELLS]);
     let (mut to, mut at) = ([0u8; CELLS], [0u8; CELLS]); // cell x was met at place at[x] of from(to[x])
     let is_free = |c: usize| j.cart_on[c] != 0 && p.used[c] == 0;
@@ -18,14 +19,13 @@ pub fn aim<M: Mode>(j: &Job, p: &Planes, call: usize, hint: &mut [u8; CELLS]) {
         let mut x = queue[tail - 1] as usize;
         if is_free(x) {
             hint[x] = j.stand::<M>(x) as u8;
-            for _ in 0..j.cells {
+            for far in 0..j.cells {
                 if x == call {
-                    break;
+                    return far;
                 }
                 hint[to[x] as usize] = at[x];
                 x = to[x] as usize;
             }
-            return;
         }
         let c = queue[head] as usize;
         head += 1;
@@ -41,4 +41,5 @@ pub fn aim<M: Mode>(j: &Job, p: &Planes, call: usize, hint: &mut [u8; CELLS]) {
             }
         }
     }
+    CELLS
 }

@@ -1,115 +1,139 @@
-//! One search, and the way it finds laid into the flow.
+//! One search: from a call back to a free cart.
+//!
+//! To be at a position means that it needs something to come from: a node a cell one step earlier, a call its own cell
+//! at a step at which it is met. A node that is free is then the next position. One that is used would be taken over:
+//! what it leads to is the next position. A used node may also drop out of the flow, and leave what it leads to.
 
 use super::job::Job;
-use super::planes::Planes;
+use super::planes::{Planes, CALL, DROP, FREE, MEETS};
 use super::Mode;
 use crate::model::limits::CELLS;
 
-const EXTEND: u8 = 0;
-const TAKE_OVER: u8 = 1;
-const DROP: u8 = 2;
+/// The next position, by way of which cell or step, and how.
+type Found = Option<(usize, usize, usize, u8)>;
 
-/// Where a position at step t leads by way of (x, t - 1), if that is not marked: cell, step, via, kind.
+/// What the used node (x, s) leads to.
 #[inline(always)]
-fn look(j: &Job, p: &Planes, t: usize, x: usize, stamp: u8) -> Option<(usize, usize, usize, u8)> {
-    let n = j.cells;
-    if j.is_call(x, t - 1) {
-        return None;
-    } // a call's node: nothing leaves it
-    let u = (t - 1) * n + x;
-    if p.used[u] == 0 {
-        if p.mark[u] != stamp {
-            return Some((x, t - 1, x, EXTEND));
-        }
+fn follower(j: &Job, p: &Planes, x: usize, s: usize) -> (usize, usize) {
+    let u = s * j.cells + x;
+    if p.used[u] == MEETS {
+        (x, j.beyond)
     } else {
-        let y = p.next[u] as usize;
-        if p.mark[t * n + y] != stamp {
-            return Some((y, t, x, TAKE_OVER));
+        (p.next[u] as usize, s + 1)
+    }
+}
+
+#[inline(always)]
+fn unmarked(j: &Job, p: &Planes, (y, s): (usize, usize), via: usize, how: u8, stamp: u8) -> Found {
+    (p.mark[s * j.cells + y] != stamp).then_some((y, s, via, how))
+}
+
+/// By way of the node (x, s).
+#[inline(always)]
+fn look(j: &Job, p: &Planes, x: usize, s: usize, via: usize, stamp: u8) -> Found {
+    let to = if p.used[s * j.cells + x] == FREE { (x, s) } else { follower(j, p, x, s) };
+    unmarked(j, p, to, via, 0, stamp)
+}
+
+/// The position on the stack's top, how many of its arcs lead to marked positions, and whether it is new there.
+struct Top {
+    c: usize,
+    t: usize,
+    place: usize,
+    is_new: bool,
+}
+
+/// From a call, its latest step first.
+#[inline(always)]
+fn from_call<M: Mode>(j: &Job, p: &Planes, top: &mut Top, stamp: u8, mode: &mut M) -> Found {
+    while let Some(s) = j.meeting(top.c, top.place) {
+        mode.look();
+        let found = look(j, p, top.c, s, s, stamp);
+        if found.is_some() {
+            return found;
         }
+        top.place += 1;
     }
     None
 }
 
-/// From one call back to a free cart; augments if there is a way.
+/// From a node: along the hint, then along each track, then by dropping out.
+#[inline(always)]
+fn from_node<M: Mode>(j: &Job, p: &Planes, hint: &[u8; CELLS], top: &mut Top, stamp: u8, mode: &mut M) -> Found {
+    let (c, t) = (top.c, top.t);
+    if t > 0 {
+        let from = j.from(c);
+        let mut back = |x: usize| {
+            mode.look();
+            if j.is_shut(x, t - 1) {
+                return None;
+            }
+            look(j, p, x, t - 1, x, stamp)
+        };
+        let h = hint[c] as usize;
+        if top.is_new && h < from.len() {
+            let found = back(from[h] as usize);
+            if found.is_some() {
+                return found;
+            }
+        }
+        while top.place < from.len() {
+            let found = back(from[top.place] as usize);
+            if found.is_some() {
+                return found;
+            }
+            top.place += 1;
+        }
+    }
+    if p.used[t * j.cells + c] == FREE {
+        return None;
+    }
+    unmarked(j, p, follower(j, p, c, t), 0, DROP, stamp)
+}
+
+/// The depth of the stack where its top is a free cart; 0 if there is no way. So many of the call's latest steps are left out.
 pub fn search<M: Mode>(
     j: &Job,
     p: &mut Planes,
     hint: &[u8; CELLS],
-    (cell, due): (usize, usize),
+    (call, left_out): (usize, usize),
     stamp: u8,
     mode: &mut M,
-) -> bool {
+) -> usize {
     let n = j.cells;
-    let (mut c, mut t, mut depth) = (cell, due, 1);
-    let (mut place, mut entered) = (0, true);
-    p.cell[0] = c as u8;
-    p.step[0] = t as u8;
-    p.kind[0] = EXTEND;
-    p.mark[t * n + c] = stamp;
+    let mut top = Top { c: call, t: j.beyond, place: left_out, is_new: true };
+    p.cell[0] = call as u8;
+    p.how[0] = CALL;
+    p.mark[top.t * n + call] = stamp;
     mode.visit();
-    while !(t == 0 && j.cart_on[c] != 0 && p.used[c] == 0) {
-        let mut found = None;
-        // Nobody comes to a cell that is shut: such a position leads nowhere.
-        if t > 0 && !j.is_shut(c, t) {
-            let from = j.from(c);
-            let h = hint[c] as usize;
-            if entered && h < from.len() {
-                mode.look();
-                found = look(j, p, t, from[h] as usize, stamp);
-            }
-            if found.is_none() {
-                while place < from.len() {
-                    mode.look();
-                    found = look(j, p, t, from[place] as usize, stamp);
-                    if found.is_some() {
-                        break;
-                    }
-                    place += 1;
-                }
-            }
-        }
-        if found.is_none() && p.used[t * n + c] != 0 && !j.is_call(c, t) {
-            let y = p.next[t * n + c] as usize;
-            if p.mark[(t + 1) * n + y] != stamp {
-                found = Some((y, t + 1, 0, DROP));
-            }
-        }
-        match found {
-            Some((y, s, via, kind)) => {
-                mode.visit();
-                p.mark[s * n + y] = stamp;
-                p.place[depth - 1] = place.min(255) as u8;
-                p.cell[depth] = y as u8;
-                p.step[depth] = s as u8;
-                p.via[depth] = via as u8;
-                p.kind[depth] = kind;
-                depth += 1;
-                (c, t, place, entered) = (y, s, 0, true);
-            }
-            None => {
-                depth -= 1;
-                if depth == 0 {
-                    return false;
-                }
-                (c, t) = (p.cell[depth - 1] as usize, p.step[depth - 1] as usize);
-                (place, entered) = if M::KEEP_PLACE { (p.place[depth - 1] as usize, false) } else { (0, true) };
-            }
-        }
-    }
-    p.used[due * n + cell] = 1;
-    p.mark[due * n + cell] = 0;
-    for i in 1..depth {
-        let (a, ta, x) = (p.cell[i - 1], p.step[i - 1] as usize, p.via[i]);
-        let v = ta * n + a as usize;
-        if p.kind[i] == DROP {
-            p.used[v] = 0;
+    let mut depth = 1;
+    // A position at step 0 is free: nothing takes over what comes before it.
+    while !(top.t == 0 && j.cart_on[top.c] != 0) {
+        let found = if top.t == j.beyond {
+            from_call(j, p, &mut top, stamp, mode)
         } else {
-            let u = (ta - 1) * n + x as usize;
-            p.next[u] = a;
-            p.prev[v] = x;
-            p.used[u] = 1;
+            from_node(j, p, hint, &mut top, stamp, mode)
+        };
+        if let Some((c, t, via, how)) = found {
+            mode.visit();
+            p.mark[t * n + c] = stamp;
+            p.place[depth - 1] = top.place.min(255) as u8;
+            p.cell[depth] = c as u8;
+            p.step[depth] = t as u8;
+            p.via[depth] = via as u8;
+            p.how[depth] = if t == j.beyond { how | CALL } else { how };
+            depth += 1;
+            top = Top { c, t, place: 0, is_new: true };
+        } else {
+            depth -= 1;
+            if depth == 0 {
+                return 0;
+            }
+            let (c, t) = p.entry(depth - 1, j.beyond);
+            let keeps = M::KEEP_PLACE || t == j.beyond;
+            let place = if keeps { p.place[depth - 1] as usize } else { 0 };
+            top = Top { c, t, place, is_new: !keeps };
         }
-        p.mark[p.step[i] as usize * n + p.cell[i] as usize] = 0; // the way itself is open to later searches
     }
-    true
+    depth
 }

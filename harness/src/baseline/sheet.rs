@@ -48,43 +48,44 @@ pub fn write_plan(j: &Job, p: &Planes, w: &mut Writer) {
     w.byte(b'\n');
     let mut path = [0u8; DEADLINE + 1];
     for &q in &j.order[..j.calls] {
-        let (c, d) = j.call[q as usize];
-        path[d as usize] = c;
-        for t in (1..=d as usize).rev() {
+        let (c, _) = j.call[q as usize];
+        let met = p.prev[j.beyond * j.cells + c as usize] as usize;
+        path[met] = c;
+        for t in (1..=met).rev() {
             path[t - 1] = came_from(j, p, path[t], t);
         }
         w.word(b"PATH");
         w.number(j.cart_on[path[0] as usize] as usize - 1);
         w.number(q as usize);
-        for &c in &path[..=d as usize] {
+        for &c in &path[..=met] {
             w.number(c as usize);
         }
         w.byte(b'\n');
     }
 }
 
-/// The first node without a mark on the line that ends at (c, t), going back; none where all are marked.
-fn cut(j: &Job, p: &Planes, mut c: usize, mut t: usize, stamp: u8) -> Option<(usize, usize)> {
-    loop {
-        let v = t * j.cells + c;
-        if p.mark[v] != stamp {
-            return Some((t, c));
-        }
-        if t == 0 || p.used[v] == 0 {
-            return None;
-        }
-        c = p.prev[v] as usize;
-        t -= 1;
+/// The first position without a mark on the line of call q, going back: (step, cell), and for a call the step beyond
+/// and its number. A bay is its own node: nothing else follows that.
+fn cut(j: &Job, p: &Planes, q: usize, stamp: u8) -> (usize, usize) {
+    let (mut c, due) = (j.call[q].0 as usize, j.call[q].1 as usize);
+    let call = j.beyond * j.cells + c;
+    if p.mark[call] != stamp {
+        return if j.has_bay(c) { (due, c) } else { (j.beyond, q) };
     }
+    let mut t = p.prev[call] as usize;
+    while p.mark[t * j.cells + c] == stamp {
+        c = p.prev[t * j.cells + c] as usize;
+        t -= 1; // a used node at step 0 has no mark
+    }
+    (t, c)
 }
 
-pub fn write_cannot(j: &Job, p: &Planes, stamp: u8, w: &mut Writer) {
+/// A choke point on the line of each call but the one where the search was stuck.
+pub fn write_cannot(j: &Job, p: &Planes, (stuck, stamp): (usize, u8), w: &mut Writer) {
     let mut list = [(0, 0); CALLS];
     let mut m = 0;
-    for &(c, d) in &j.call[..j.calls] {
-        let Some(point) = cut(j, p, c as usize, d as usize, stamp) else {
-            continue;
-        };
+    for q in (0..j.calls).filter(|&q| q != stuck) {
+        let point = cut(j, p, q, stamp);
         let mut i = m;
         while i > 0 && list[i - 1] > point {
             list[i] = list[i - 1];
@@ -97,9 +98,14 @@ pub fn write_cannot(j: &Job, p: &Planes, stamp: u8, w: &mut Writer) {
     w.number(m);
     w.byte(b'\n');
     for &(t, c) in &list[..m] {
-        w.word(b"CHOKE");
-        w.number(c);
-        w.number(t);
+        if t == j.beyond {
+            w.word(b"CHOKE\tCALL");
+            w.number(c);
+        } else {
+            w.word(b"CHOKE");
+            w.number(c);
+            w.number(t);
+        }
         w.byte(b'\n');
     }
 }

@@ -7,9 +7,10 @@ use std::time::{Duration, Instant, SystemTime};
 use harness::compare;
 use harness::ffi::Library;
 use harness::gen::cases::{
-    changed_jobs, changed_sheets, choke_lists, doubled_points, other_orders, right_sheets, stores, wrong_plans, Case,
-    Kind, Known,
+    changed_jobs, changed_sheets, choke_lists, doubled_points, other_lengths, other_orders, right_sheets, stores,
+    whole_calls, wrong_plans, Case, Kind, Known,
 };
+use harness::gen::early::{about_early_lifts, lifts_early};
 use harness::gen::map_cases::MAP_KINDS;
 use harness::gen::orders;
 use harness::gen::sizes::{at_the_limits, medium};
@@ -17,7 +18,8 @@ use harness::gen::small::{small, small_at_one_step};
 use harness::gen::Rng;
 use harness::model::job::Job;
 use harness::model::limits::{sheet_least, store_least};
-use harness::model::{reader, sheet};
+use harness::model::reader;
+use harness::model::sheet::{self, Choke, Sheet};
 use harness::tally::Tally;
 
 const USAGE: &str = "\
@@ -29,26 +31,34 @@ soak [--seconds N] [--texts M] [--seed S] [--first T]
   --first T    from turn T on: with the seed of a run that found a difference, the turn it was found in";
 
 /// Damaged texts come from the first two.
-const KINDS: [(&str, Kind); 8] = [
+const KINDS: [(&str, Kind); 10] = [
     ("damaged jobs", changed_jobs),
     ("damaged sheets", changed_sheets),
     ("right sheets", right_sheets),
     ("wrong plans", wrong_plans),
     ("plans in other orders", other_orders),
+    ("paths of other lengths", other_lengths),
     ("choke lists", choke_lists),
     ("doubled choke points", doubled_points),
+    ("whole calls", whole_calls),
     ("stores of any length", stores),
 ];
 
 /// Makes a job.
 type Make = fn(&mut Rng) -> Job;
 
-const SIZES: [(&str, Make); 4] =
-    [("small", small), ("small at one step", small_at_one_step), ("medium", medium), ("at the limits", at_the_limits)];
+const SIZES: [(&str, Make); 5] = [
+    ("small", small),
+    ("small at one step", small_at_one_step),
+    ("about early lifts", about_early_lifts),
+    ("medium", medium),
+    ("at the limits", at_the_limits),
+];
 const SMALL: usize = 0;
 const SMALL_AT_ONE_STEP: usize = 1;
-const MEDIUM: usize = 2;
-const AT_THE_LIMITS: usize = 3;
+const ABOUT_EARLY_LIFTS: usize = 2;
+const MEDIUM: usize = 3;
+const AT_THE_LIMITS: usize = 4;
 
 /// How many maps of each kind a turn tries: the damaged ones come last.
 const MAPS: [usize; MAP_KINDS.len()] = [2, 2, 12];
@@ -61,6 +71,10 @@ struct Tried {
     with_bays: usize,
     /// Jobs with calls of one step in another order than their cells.
     with_other_order: usize,
+    /// Jobs planned with a cart that is lifted before its deadline.
+    lifted_early: usize,
+    /// Jobs that got a choke list with a whole call.
+    with_whole_calls: usize,
     kinds: [usize; KINDS.len()],
     map_kinds: [usize; MAP_KINDS.len()],
     plans: Tally,
@@ -132,6 +146,7 @@ impl Tried {
             (9, _) => AT_THE_LIMITS,
             (_, 4) => MEDIUM,
             (_, 1 | 6) => SMALL_AT_ONE_STEP,
+            (_, 2 | 7) => ABOUT_EARLY_LIFTS,
             _ => SMALL,
         };
         self.sizes[size] += 1;
@@ -139,9 +154,15 @@ impl Tried {
         self.with_bays += usize::from(job.has_bays());
         self.with_other_order += usize::from(orders::differ(&job));
         let right = self.plan(&job.text(), store_least(&job), sheet_least(&job), &mut rng)?;
+        // The planner's sheet has passed the model's check.
+        let right = sheet::read(&right, &job).expect("a sheet in the form");
+        match &right {
+            Sheet::Plan(paths) => self.lifted_early += usize::from(lifts_early(&job, paths)),
+            Sheet::Cannot(chokes) => self.with_whole_calls += usize::from(has_whole_call(chokes)),
+        }
         let known = match size {
             SMALL | SMALL_AT_ONE_STEP => Known::of(job),
-            _ => known_by(job, &right),
+            _ => Known::by_sheet(job, right),
         };
         match size {
             AT_THE_LIMITS => self.try_kind(rng.below(KINDS.len()), &known, &mut rng),
@@ -200,6 +221,7 @@ impl Tried {
         println!(
             "turns: {sizes}; {bays} with bays, {other_order} with calls of one step in another order than their cells"
         );
+        println!("sheets: {} with early lifts, {} with whole calls", self.lifted_early, self.with_whole_calls);
         println!("cases: {}", counted(&KINDS.map(|kind| kind.0), &self.kinds));
         println!("maps: {}", counted(&MAP_KINDS.map(|kind| kind.0), &self.map_kinds));
         println!("answers of the planner: {}", self.plans);
@@ -210,8 +232,6 @@ impl Tried {
     }
 }
 
-/// The planner's sheet has passed the model's check.
-fn known_by(job: Job, sheet: &[u8]) -> Known {
-    let right = sheet::read(sheet, &job).expect("a sheet in the form");
-    Known::by_sheet(job, right)
+fn has_whole_call(chokes: &[Choke]) -> bool {
+    chokes.iter().any(|choke| matches!(choke, Choke::Call(_)))
 }

@@ -1,8 +1,8 @@
-//! Whether a choke list is true, backwards: from the calls at their deadlines to the carts at step 0.
+//! Whether a choke list is true, backwards: from the calls, at each step at which they can be met, to the carts at step 0.
 
 use super::bays::Closed;
 use super::Fault;
-use crate::model::job::Job;
+use crate::model::job::{Call, End, Job};
 use crate::model::sheet::Choke;
 
 /// From cells that lead on at a step a walk goes to a call without standing on a choke point or a closed cell.
@@ -12,18 +12,38 @@ pub fn stops_every_walk(job: &Job, chokes: &[Choke], fault: Fault) -> bool {
     let mut leads_on = vec![false; job.cells];
     for step in (0..=job.last()).rev() {
         leads_on = one_step_before(job, &leads_on);
-        for call in &job.calls {
-            let lifts = fault == Fault::LiftsCrossingCart && step < call.deadline;
-            leads_on[call.cell] = call.deadline == step || (leads_on[call.cell] && !lifts);
-        }
-        for point in chokes.iter().filter(|p| p.step == step) {
-            leads_on[point.cell] = false;
+        for (number, call) in job.calls.iter().enumerate() {
+            let is_whole = chokes.contains(&Choke::Call(number));
+            leads_on[call.cell] = match ends_here(call, step, is_whole, fault) {
+                true => true,
+                false => leads_on[call.cell] && !takes_off(call, step, is_whole, fault),
+            };
         }
         for (cell, leads_on) in leads_on.iter_mut().enumerate() {
-            *leads_on = *leads_on && !is_closed(cell, step);
+            *leads_on = *leads_on && !is_closed(cell, step) && !chokes.contains(&Choke::Cell { step, cell });
         }
     }
     job.carts.iter().all(|&cell| !leads_on[cell])
+}
+
+/// Whether a walk that is not stopped yet can end at the call at the step.
+fn ends_here(call: &Call, step: usize, is_whole: bool, fault: Fault) -> bool {
+    let at_deadline = call.deadline == step;
+    let in_time = match call.end {
+        End::Lift => step <= call.deadline && (at_deadline || fault != Fault::StopsWalksToDeadlinesOnly),
+        End::Bay => at_deadline,
+    };
+    let is_stopped = is_whole && (at_deadline || fault != Fault::TakesWholeCallForItsDeadline);
+    in_time && !is_stopped
+}
+
+/// Whether nobody who is on the call's cell at the step goes on from there, by a fault.
+fn takes_off(call: &Call, step: usize, is_whole: bool, fault: Fault) -> bool {
+    match fault {
+        Fault::ParksCrossingCart => call.is_bay() && step < call.deadline,
+        Fault::TakesWholeCallForItsCell => is_whole && step <= call.deadline,
+        _ => false,
+    }
 }
 
 fn one_step_before(job: &Job, leads_on: &[bool]) -> Vec<bool> {

@@ -7,7 +7,9 @@ use crate::model::sheet::Path;
 
 /// Enters the walks into the table, one after the other, until one does not fit.
 pub fn none(job: &Job, paths: &[Path], fault: Fault) -> bool {
-    let who = vec![None; (job.last() + 1) * job.cells];
+    let paths: Vec<Path> = paths.iter().map(|path| as_entered(job, path, fault)).collect();
+    // One step more than there is, for a fault that lets a path be too long.
+    let who = vec![None; (job.last() + 2) * job.cells];
     let closed = Closed::by_bays(job, fault);
     let mut table = Table { joined: joined(job), cells: job.cells, who, closed, fault };
     let mut free = vec![true; job.carts.len()];
@@ -15,8 +17,29 @@ pub fn none(job: &Job, paths: &[Path], fault: Fault) -> bool {
         std::mem::replace(&mut free[p.cart], false)
             && p.cells[0] == job.carts[p.cart]
             && p.cells[p.cells.len() - 1] == job.calls[p.call].cell
+            && !(fault == Fault::LiftsCrossingCart && crosses_a_lift(job, &p.cells))
             && table.enter(i, &p.cells)
     })
+}
+
+/// The path as it is, but for faults: one that stands on up to the deadline, and one without a cell that is taken for a
+/// cart that is lifted where it stands.
+fn as_entered(job: &Job, path: &Path, fault: Fault) -> Path {
+    let mut path = path.clone();
+    if path.cells.is_empty() {
+        path.cells.push(job.carts[path.cart]);
+    }
+    if fault == Fault::BlocksUpToDeadline {
+        path.cells.resize(job.calls[path.call].deadline + 1, path.cells[path.cells.len() - 1]);
+    }
+    path
+}
+
+/// Whether the walk is on a lift's cell in time, and goes on from there.
+fn crosses_a_lift(job: &Job, walk: &[usize]) -> bool {
+    let on_way = &walk[..walk.len() - 1];
+    let mut steps = on_way.iter().enumerate();
+    steps.any(|(step, &cell)| job.calls.iter().any(|c| !c.is_bay() && c.cell == cell && step <= c.deadline))
 }
 
 fn joined(job: &Job) -> Vec<bool> {
@@ -58,7 +81,7 @@ impl Table {
 
     /// Takes the cell at the step, if nobody is on it.
     fn stand(&mut self, path: usize, step: usize, walk: &[usize]) -> bool {
-        if self.fault == Fault::FreesCellAtDeadline && step + 1 == walk.len() {
+        if self.fault == Fault::FreesCellAtLift && step + 1 == walk.len() {
             return true;
         }
         let place = &mut self.who[step * self.cells + walk[step]];

@@ -2,7 +2,7 @@
 
 use super::bays::{lifts, Closed};
 use super::Fault;
-use crate::model::job::Job;
+use crate::model::job::{Call, End, Job};
 use crate::model::sheet::{Choke, Path, Sheet};
 
 /// The bytes that are left to read.
@@ -42,6 +42,7 @@ pub fn read(sheet: &[u8], job: &Job, fault: Fault) -> Result<Sheet, usize> {
         true => count == calls,
         false if fault == Fault::PassesAsManyPointsAsCalls => count <= calls,
         false if fault == Fault::CountsNoBays => count < lifts(job).count(),
+        false if fault == Fault::BoundsCellsAlone => count < calls + whole_calls_in(sheet),
         false => count < calls,
     };
     if !right {
@@ -52,6 +53,14 @@ pub fn read(sheet: &[u8], job: &Job, fault: Fault) -> Result<Sheet, usize> {
         match is_plan {
             true => paths.push(path(&mut rest, job, i, fault).ok_or(i + 2)?),
             false => chokes.push(choke(&mut rest, job, fault).ok_or(i + 2)?),
+        }
+    }
+    if fault == Fault::CountsNoWholeCalls && !is_plan {
+        if chokes.iter().any(|choke| matches!(choke, Choke::Call(_))) {
+            return Err(2);
+        }
+        while !rest.0.is_empty() {
+            chokes.push(choke(&mut rest, job, fault).ok_or(chokes.len() + 2)?);
         }
     }
     match rest.0 {
@@ -74,15 +83,36 @@ fn path(rest: &mut Rest, job: &Job, place: usize, fault: Fault) -> Option<Path> 
     let call = rest.field_below(job.calls.len())?;
     let counting = if fault == Fault::CountsCellsByPlace { job.written_order()[place] } else { call };
     let mut cells = Vec::new();
-    for _ in 0..=job.calls[counting].deadline {
+    while !rest.0.starts_with(b"\n") {
         cells.push(rest.field_below(job.cells)?);
     }
     rest.bytes(b"\n")?;
-    Some(Path { cart, call, cells })
+    let (least, most) = lengths(&job.calls[counting], fault);
+    (least <= cells.len() && cells.len() <= most).then_some(Path { cart, call, cells })
+}
+
+/// The least and the most cells of a path to the call.
+fn lengths(call: &Call, fault: Fault) -> (usize, usize) {
+    let exact = call.deadline + 1;
+    match (call.end, fault) {
+        (End::Lift, Fault::PassesPathWithoutCell) => (0, exact),
+        (End::Lift, Fault::PassesPathOneTooLong) => (1, exact + 1),
+        (End::Lift, Fault::RefusesEarlyLift) => (exact, exact),
+        (End::Lift, _) | (End::Bay, Fault::PassesEarlyBay) => (1, exact),
+        (End::Bay, _) => (exact, exact),
+    }
+}
+
+/// How many lines of the sheet have a whole call.
+fn whole_calls_in(sheet: &[u8]) -> usize {
+    sheet.split(|&b| b == b'\n').filter(|line| line.starts_with(b"CHOKE\tCALL\t")).count()
 }
 
 fn choke(rest: &mut Rest, job: &Job, fault: Fault) -> Option<Choke> {
     rest.bytes(b"CHOKE")?;
+    if rest.bytes(b"\tCALL").is_some() {
+        return whole_call(rest, job, fault);
+    }
     let cell = rest.field_below(job.cells)?;
     let last = match (fault, job.calls.last()) {
         (Fault::TakesLastCallForLargestDeadline, Some(call)) => call.deadline,
@@ -92,5 +122,15 @@ fn choke(rest: &mut Rest, job: &Job, fault: Fault) -> Option<Choke> {
     let step = rest.field_below(last + 1)?;
     rest.bytes(b"\n")?;
     let is_refused = fault == Fault::RefusesClosedPoint && Closed::by_bays(job, fault).at(cell, step);
-    (!is_refused).then_some(Choke { step, cell })
+    (!is_refused).then_some(Choke::Cell { step, cell })
+}
+
+fn whole_call(rest: &mut Rest, job: &Job, fault: Fault) -> Option<Choke> {
+    let number = rest.field()?;
+    rest.bytes(b"\n")?;
+    let right = match job.calls.get(number) {
+        Some(call) => !call.is_bay() || fault == Fault::TakesWholeBay,
+        None => fault == Fault::TakesUnknownWholeCall,
+    };
+    right.then_some(Choke::Call(number))
 }

@@ -1,8 +1,8 @@
-//! Whether paths are in the written order, each held against the one before it.
+//! Whether paths and choke points are in the written order, each held against the one before it.
 
 use super::Fault;
 use crate::model::job::Job;
-use crate::model::sheet::Path;
+use crate::model::sheet::{Choke, Path};
 
 /// Each call once, by deadline, then cell.
 pub fn is_kept(job: &Job, paths: &[Path], fault: Fault) -> bool {
@@ -21,6 +21,21 @@ fn is_before(job: &Job, one: &Path, other: &Path, fault: Fault) -> bool {
         Fault::PassesOneStepInAnyOrder => a.deadline <= b.deadline,
         Fault::PutsBaysAsInJob if a.is_bay() || b.is_bay() => by(one.call, other.call),
         Fault::PutsBaysBehindCalls if a.is_bay() != b.is_bay() => by(a.is_bay().into(), b.is_bay().into()),
+        Fault::PutsPathsByLift => (one.cells.len(), a.cell) < (other.cells.len(), b.cell),
         _ => by(a.cell, b.cell),
     }
+}
+
+/// Each choke point once: cells by step, then cell, then whole calls by number.
+pub fn is_rising(chokes: &[Choke], fault: Fault) -> bool {
+    chokes.windows(2).all(|pair| match (pair[0], pair[1]) {
+        (Choke::Cell { step, cell }, Choke::Cell { step: later, cell: other }) => {
+            step < later || (step == later && cell < other)
+        }
+        (Choke::Cell { .. }, Choke::Call(_)) => true,
+        (Choke::Call(_), Choke::Cell { .. }) => fault == Fault::PassesWholeCallsFirst,
+        (Choke::Call(one), Choke::Call(other)) => {
+            one < other || (fault == Fault::PassesWholeCallsFalling && one > other)
+        }
+    })
 }

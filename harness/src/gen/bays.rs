@@ -2,6 +2,7 @@
 
 use super::Rng;
 use crate::model::job::{End, Job};
+use crate::model::walks::{all_walks, Walk};
 
 /// The job with some of its calls made bays, at least one if there are any: one alone, any number, or all.
 pub fn some_bays(job: Job, rng: &mut Rng) -> Job {
@@ -40,4 +41,15 @@ fn all_ending(mut job: Job, end: End) -> Job {
         call.end = end;
     }
     job
+}
+
+/// Every walk of each cart to each call as if no bay closed its cell. Who parks still does so at the bay's very step.
+pub fn walks_over_bays(job: &Job) -> Vec<Vec<Vec<Walk>>> {
+    let mut walks = all_walks(&no_bays(job.clone()));
+    for to_calls in &mut walks {
+        for (call, walks) in job.calls.iter().zip(to_calls) {
+            walks.retain(|walk| call.is_met_at(walk.len() - 1));
+        }
+    }
+    walks
 }

@@ -1,14 +1,14 @@
-//! What is tried on a job, mostly a small one: right plans, wrong ones, plans in other orders, choke lists, damaged
-//! sheets, damaged jobs, short stores.
+//! What is tried on a job, mostly a small one: right plans, wrong ones, plans in other orders, paths of other lengths,
+//! choke lists, whole calls, damaged sheets, damaged jobs, short stores.
 
-use super::bays::no_bays;
+use super::bays::walks_over_bays;
 use super::damage::{changed, damaged, Damage};
 use super::orders::{exchanged_at_one_step, ORDERS};
-use super::plans::plans;
+use super::plans::{early_and_late_plans, plans_by};
 use super::{lists, wrong, Rng};
 use crate::model::job::{Call, Job};
 use crate::model::limits::{self, store_least};
-use crate::model::plan::is_plan;
+use crate::model::plan::{is_plan, keep_apart};
 use crate::model::reader;
 use crate::model::sheet::{Choke, Path, Sheet};
 use crate::model::walks::{all_walks, Walk};
@@ -20,20 +20,21 @@ pub struct Case {
     pub sheet: Vec<u8>,
 }
 
-/// A job with its walks, its plans (the first 300) and its true choke lists; if it is not small, with one of these.
+/// A job with its walks, its plans (300 at most, early ones and late ones) and its true choke lists; if it is not small,
+/// with one of these.
 pub struct Known {
     pub job: Job,
     pub walks: Vec<Vec<Vec<Walk>>>,
     pub plans: Vec<Vec<Path>>,
     pub lists: Vec<Vec<Choke>>,
-    /// What would be a plan if the bays were lifts, and is none only because a cart stands on a closed cell.
+    /// What would be a plan if the bays closed nothing, and is none only because a cart stands on a closed cell.
     pub over_bays: Vec<Vec<Path>>,
 }
 
 impl Known {
     pub fn of(job: Job) -> Known {
         let (walks, lists, over_bays) = (all_walks(&job), lists::true_lists(&job), over_bays(&job));
-        Known { walks, plans: plans(&job, 300), lists, over_bays, job }
+        Known { walks, plans: early_and_late_plans(&job, 150), lists, over_bays, job }
     }
 
     /// What is known of a larger job by one right sheet of it. No walk is written out.
@@ -62,7 +63,7 @@ impl Known {
 }
 
 fn over_bays(job: &Job) -> Vec<Vec<Path>> {
-    let mut all = plans(&no_bays(job.clone()), 300);
+    let mut all = plans_by(job, &walks_over_bays(job), keep_apart, 300);
     all.retain(|paths| !is_plan(job, paths));
     all
 }
@@ -70,8 +71,18 @@ fn over_bays(job: &Job) -> Vec<Vec<Path>> {
 /// A kind of cases: some of them for a job.
 pub type Kind = fn(&Known, &mut Rng) -> Vec<Case>;
 
-pub const KINDS: &[Kind] =
-    &[right_sheets, wrong_plans, other_orders, choke_lists, doubled_points, damaged_sheets, damaged_jobs, stores];
+pub const KINDS: &[Kind] = &[
+    right_sheets,
+    wrong_plans,
+    other_orders,
+    other_lengths,
+    choke_lists,
+    doubled_points,
+    whole_calls,
+    damaged_sheets,
+    damaged_jobs,
+    stores,
+];
 
 pub fn right_sheets(known: &Known, rng: &mut Rng) -> Vec<Case> {
     (0..8).map(|_| known.case(known.right_sheet(rng).text(), rng)).collect()
@@ -103,6 +114,31 @@ pub fn other_orders(known: &Known, rng: &mut Rng) -> Vec<Case> {
     let exchanged = exchanged_at_one_step(&known.job, right);
     if !exchanged.is_empty() {
         all.push(rng.pick(&exchanged).clone());
+    }
+    all.into_iter().map(|paths| known.case(Sheet::Plan(paths).text(), rng)).collect()
+}
+
+/// A right plan, if there is one, with a path that ends earlier, down to none of its cells, or stands on, up to one cell too
+/// many; and with carts that wait for their deadlines.
+pub fn other_lengths(known: &Known, rng: &mut Rng) -> Vec<Case> {
+    if known.plans.is_empty() || known.job.calls.is_empty() {
+        return Vec::new();
+    }
+    let mut all = Vec::new();
+    for _ in 0..4 {
+        let right = rng.pick(&known.plans);
+        let at = rng.below(right.len());
+        let (deadline, has) = (known.job.calls[right[at].call].deadline, right[at].cells.len());
+        let with_length = |length: usize| {
+            let mut paths = right.clone();
+            let last = paths[at].cells[has - 1];
+            paths[at].cells.resize(length, last);
+            paths
+        };
+        all.extend([0, rng.below(has), deadline + 1, deadline + 2].map(with_length));
+        let mut waiting = right.clone();
+        waiting.iter_mut().for_each(|path| wrong::wait_for_the_deadline(path, &known.job));
+        all.push(waiting);
     }
     all.into_iter().map(|paths| known.case(Sheet::Plan(paths).text(), rng)).collect()
 }
@@ -154,6 +190,38 @@ pub fn doubled_points(known: &Known, rng: &mut Rng) -> Vec<Case> {
         Case { job: job.text(), store_len: store_least(&job), sheet: Sheet::Cannot(list).text() }
     };
     (0..4).map(case).collect()
+}
+
+/// Lists of whole calls, and of cells at the steps of bays, that stop every walk, with one thing changed: the order, a call,
+/// or what is counted. Two calls more, which no cart can come to, leave room for a point more.
+pub fn whole_calls(known: &Known, rng: &mut Rng) -> Vec<Case> {
+    let job = with_stranded_cart(with_stranded_cart(known.job.clone()));
+    if known.job.calls.is_empty() || job.cells > limits::CELLS || job.carts.len() > limits::CARTS {
+        return Vec::new();
+    }
+    let ends = lists::ends(&known.job);
+    let (mut fewer, more) = (ends.clone(), lists::longer(&job, &ends, ends.len() + 1, rng));
+    fewer.remove(rng.below(ends.len()));
+    let mut all = vec![wrong::last_cell_instead(&job, &ends, rng), wrong::doubled_point(&ends, rng)];
+    for list in [&ends, &fewer, &more] {
+        let mut shuffled = list.clone();
+        rng.shuffle(&mut shuffled);
+        all.extend([list.clone(), shuffled]);
+    }
+    // As many as the calls, and a call whose number is a bay's or nobody's.
+    all.push(lists::ends(&job));
+    all.push([ends.as_slice(), &[Choke::Call(rng.below(job.calls.len() + 2))]].concat());
+    let mut sheets: Vec<Vec<u8>> = all.into_iter().map(|list| Sheet::Cannot(list).text()).collect();
+    sheets.push(counting_cells_alone(&ends));
+    sheets.into_iter().map(|sheet| Case { job: job.text(), store_len: store_least(&job), sheet }).collect()
+}
+
+/// The list with a count of its cells alone.
+fn counting_cells_alone(list: &[Choke]) -> Vec<u8> {
+    let cells = list.iter().filter(|choke| matches!(choke, Choke::Cell { .. })).count();
+    let counted = |count: usize| format!("CANNOT\t{count}\n").into_bytes();
+    let text = Sheet::Cannot(list.to_vec()).text();
+    [counted(cells), text[counted(list.len()).len()..].to_vec()].concat()
 }
 
 /// The job with one cart more and one call more, each on a cell of its own that no track leads to.

@@ -7,8 +7,9 @@ use crate::model::lines::{LF, TAB};
 pub type Damage = fn(&[u8], &mut Rng) -> Vec<u8>;
 
 const BYTES: [Damage; 6] = [changed_byte, lost_byte, added_byte, cut_off, trailing, repeated];
-const LINES: [Damage; 6] = [lost_line, doubled_line, swapped_lines, other_word, other_end, added_bay];
-const FIELDS: [Damage; 5] = [other_number, leading_zero, lost_field, added_field, other_count];
+const LINES: [Damage; 8] =
+    [lost_line, doubled_line, swapped_lines, other_word, other_end, added_bay, other_choke, added_whole_call];
+const FIELDS: [Damage; 6] = [other_number, leading_zero, lost_field, added_field, other_count, other_length];
 
 /// A text with one damage, now and then with more. A changed number comes most often, since it mostly leaves the form
 /// whole and so gets furthest. It can be the same text: a number changed into itself, a line swapped with itself.
@@ -163,11 +164,37 @@ fn other_end(text: &[u8], rng: &mut Rng) -> Vec<u8> {
     lines.concat()
 }
 
+/// A choke point that becomes a whole call, or a whole call that becomes a cell at a step: a list stays in the form, if the
+/// numbers are known. Other texts are left as they are.
+fn other_choke(text: &[u8], rng: &mut Rng) -> Vec<u8> {
+    let mut lines = lines(text);
+    let chokes: Vec<usize> = (0..lines.len()).filter(|&at| word(&lines[at]) == Some(b"CHOKE")).collect();
+    if !chokes.is_empty() {
+        let line = &mut lines[*rng.pick(&chokes)];
+        let step = any_number(rng);
+        *line = match line.starts_with(b"CHOKE\tCALL\t") {
+            true => format!("CHOKE\t{}\t{step}\n", any_number(rng)),
+            false => format!("CHOKE\tCALL\t{}\n", any_number(rng)),
+        }
+        .into_bytes();
+    }
+    lines.concat()
+}
+
+/// A whole call more, mostly behind all others, where it may stand.
+fn added_whole_call(text: &[u8], rng: &mut Rng) -> Vec<u8> {
+    with_line_more(format!("CHOKE\tCALL\t{}\n", any_number(rng)), text, rng)
+}
+
 /// A BAY line more, mostly behind all others, where it may stand.
 fn added_bay(text: &[u8], rng: &mut Rng) -> Vec<u8> {
+    with_line_more(format!("BAY\t{}\t{}\n", any_number(rng), any_number(rng)), text, rng)
+}
+
+fn with_line_more(line: String, text: &[u8], rng: &mut Rng) -> Vec<u8> {
     let mut lines = lines(text);
     let at = if rng.once_in(3) { rng.below(lines.len() + 1) } else { lines.len() };
-    lines.insert(at, format!("BAY\t{}\t{}\n", any_number(rng), any_number(rng)).into_bytes());
+    lines.insert(at, line.into_bytes());
     lines.concat()
 }
 
@@ -222,6 +249,25 @@ fn other_count(text: &[u8], rng: &mut Rng) -> Vec<u8> {
     if let Some(first) = lines.first_mut() {
         let word: Vec<u8> = first.iter().copied().take_while(u8::is_ascii_alphabetic).collect();
         *first = [word.as_slice(), format!("\t{}\n", any_number(rng)).as_bytes()].concat();
+    }
+    lines.concat()
+}
+
+/// A path that ends earlier, down to none of its cells, or stands on. Other texts are left as they are.
+fn other_length(text: &[u8], rng: &mut Rng) -> Vec<u8> {
+    let mut lines = lines(text);
+    let paths: Vec<usize> = (0..lines.len()).filter(|&at| word(&lines[at]) == Some(b"PATH")).collect();
+    if !paths.is_empty() {
+        let line = &mut lines[*rng.pick(&paths)];
+        let stripped = line.strip_suffix(&[LF]).unwrap_or(line);
+        let mut parts: Vec<Vec<u8>> = stripped.split(|&b| b == TAB).map(<[u8]>::to_vec).collect();
+        // The word, the cart and the call come before the cells.
+        let (least, last) = (parts.len().min(3), parts[parts.len() - 1].clone());
+        match rng.once_in(2) {
+            true => parts.truncate(least + rng.below(parts.len() - least + 1)),
+            false => parts.resize(parts.len() + 1 + rng.below(4), last),
+        }
+        *line = [parts.join(&TAB), vec![LF]].concat();
     }
     lines.concat()
 }

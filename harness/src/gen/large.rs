@@ -87,6 +87,18 @@ fn move_all(near: &[Vec<usize>], walks: &mut [Vec<usize>], closed: &[usize], rng
     }
 }
 
+/// The job with later deadlines, up to the given step, for some of its lifts. Its plan stays one: who was lifted at the
+/// deadline is lifted early now. The lines of the plan take the order of the new deadlines.
+pub fn put_off((mut job, mut paths): (Job, Vec<Path>), most: usize, rng: &mut Rng) -> (Job, Vec<Path>) {
+    for call in job.calls.iter_mut().filter(|call| !call.is_bay()) {
+        if rng.once_in(2) {
+            call.deadline += rng.below(most.max(call.deadline) - call.deadline + 1);
+        }
+    }
+    paths.sort_by_key(|p| (job.calls[p.call].deadline, job.calls[p.call].cell));
+    (job, paths)
+}
+
 /// The job of which the walks are a plan, carts and calls in any order.
 fn called(floor: Job, walks: Vec<Ended>, rng: &mut Rng) -> (Job, Vec<Path>) {
     let carts = rng.sample(walks.len(), walks.len());
@@ -112,7 +124,20 @@ pub fn crowded_star(round: usize, carts: usize, deadline: usize) -> (Job, Vec<Ch
     let mut job = star(round);
     job.carts = (1..=carts).collect();
     job.calls = (carts + 1..=2 * carts).map(|cell| Call::lift(cell, deadline)).collect();
-    (job, (1..deadline).map(|step| Choke { step, cell: 0 }).collect())
+    (job, (1..deadline).map(|step| Choke::Cell { step, cell: 0 }).collect())
+}
+
+/// Carts round a star, with calls across it, one of which, of the given number, no track leads to. The others have so many
+/// steps that no list of cells stops what goes through the middle: all the calls that can be come to, each as a whole, are
+/// the only true list.
+pub fn late_star(carts: usize, lost: usize, deadline: usize) -> (Job, Vec<Choke>) {
+    assert!(lost < carts && carts < deadline, "an unknown call, or no more steps than carts");
+    let mut job = star(2 * carts - 1);
+    job.carts = (1..=carts).collect();
+    job.calls = (carts + 1..2 * carts).map(|cell| Call::lift(cell, deadline)).collect();
+    job.calls.insert(lost, Call::lift(job.cells, deadline));
+    job.cells += 1;
+    (job, (0..carts).filter(|&call| call != lost).map(Choke::Call).collect())
 }
 
 /// Carts on one side of a bay on a line, all other calls on its other side and late. Each walk is on the bay's cell between
@@ -124,11 +149,11 @@ pub fn shut_line(carts: usize, step: usize, last: usize) -> (Job, Vec<Choke>) {
     job.carts = (0..carts).collect();
     job.calls = (carts + 1..2 * carts).map(|cell| Call::lift(cell, last)).collect();
     job.calls.insert(carts / 2, Call::bay(carts, step));
-    (job, (1..=step).map(|step| Choke { step, cell: carts }).collect())
+    (job, (1..=step).map(|step| Choke::Cell { step, cell: carts }).collect())
 }
 
-/// The job with one cart more, and one call more on a cell that no track leads to. Every other call's cell at its
-/// deadline is a true choke list; where each of these calls can be come to, none of its points can be missed.
+/// The job with one cart more, and one call more on a cell that no track leads to. Every other call as a whole, or a bay's
+/// cell at its step, is a true choke list; where the job had a plan, none of its points can be missed.
 pub fn with_lost_call(mut job: Job) -> (Job, Vec<Choke>) {
     let chokes = ends(&job);
     let free = (0..job.cells).find(|cell| !job.carts.contains(cell)).expect("a cell without a cart");

@@ -5,10 +5,20 @@ use crate::model::choke::stops_every_walk;
 use crate::model::job::Job;
 use crate::model::sheet::Choke;
 
-/// Every cell at every step, in the order of the sheet.
+/// Every choke point in the order of the sheet: every cell at every step, then every whole lift call.
 fn points(job: &Job) -> Vec<Choke> {
+    [cell_points(job), whole_calls(job)].concat()
+}
+
+/// Every cell at every step.
+fn cell_points(job: &Job) -> Vec<Choke> {
     let steps = 0..=job.last();
-    steps.flat_map(|step| (0..job.cells).map(move |cell| Choke { step, cell })).collect()
+    steps.flat_map(|step| (0..job.cells).map(move |cell| Choke::Cell { step, cell })).collect()
+}
+
+/// Every whole call, by number. Bays are none.
+pub fn whole_calls(job: &Job) -> Vec<Choke> {
+    (0..job.calls.len()).filter(|&call| !job.calls[call].is_bay()).map(Choke::Call).collect()
 }
 
 /// Every list of fewer points than calls, in order, true or not.
@@ -37,8 +47,9 @@ pub fn true_lists(job: &Job) -> Vec<Vec<Choke>> {
 
 /// Every point on a closed cell, in order: such points are in the form, and stop nothing.
 pub fn closed_points(job: &Job) -> Vec<Choke> {
-    let mut all = points(job);
-    all.retain(|point| !job.is_open(point.cell, point.step));
+    let is_closed = |point: &Choke| matches!(*point, Choke::Cell { step, cell } if !job.is_open(cell, step));
+    let mut all = cell_points(job);
+    all.retain(is_closed);
     all
 }
 
@@ -58,9 +69,19 @@ pub fn longer(job: &Job, list: &[Choke], count: usize, rng: &mut Rng) -> Vec<Cho
     all
 }
 
-/// Each call's cell at its deadline: it stops every walk, yet has as many points as there are calls.
+/// Each lift's call as a whole, and each bay's cell at its step: it stops every walk, yet has as many points as there are
+/// calls.
 pub fn ends(job: &Job) -> Vec<Choke> {
-    let mut all: Vec<Choke> = job.calls.iter().map(|call| Choke { step: call.deadline, cell: call.cell }).collect();
+    let end = |call: usize| match job.calls[call].is_bay() {
+        true => last_cell(job, call),
+        false => Choke::Call(call),
+    };
+    let mut all: Vec<Choke> = (0..job.calls.len()).map(end).collect();
     all.sort();
     all
+}
+
+/// The call's cell at its deadline: of the walks to a lift it stops those alone that are there then.
+pub fn last_cell(job: &Job, call: usize) -> Choke {
+    Choke::Cell { step: job.calls[call].deadline, cell: job.calls[call].cell }
 }

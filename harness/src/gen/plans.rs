@@ -1,4 +1,4 @@
-//! The plans of a small job, by trying every sharing out and every walk.
+//! The plans of a small job, by trying every sharing out and every walk, whichever step it ends at.
 
 use crate::model::job::Job;
 use crate::model::plan::keep_apart;
@@ -15,7 +15,16 @@ pub fn plans(job: &Job, most: usize) -> Vec<Vec<Path>> {
     plans_by(job, &all_walks(job), keep_apart, most)
 }
 
-/// The same for some of the walks, and for another way of telling whether two of them are apart.
+/// Plans with lifts as early as can be, and plans with lifts as late as can be: the first so many of each.
+pub fn early_and_late_plans(job: &Job, most: usize) -> Vec<Vec<Path>> {
+    let mut walks = all_walks(job);
+    let early = plans_by(job, &walks, keep_apart, most);
+    walks.iter_mut().flatten().for_each(|walks| walks.reverse());
+    [early, plans_by(job, &walks, keep_apart, most)].concat()
+}
+
+/// Every plan that some of the walks make, by some way of telling whether two of them are apart; the first so many, where
+/// there are more.
 pub fn plans_by(job: &Job, walks: &[Vec<Vec<Walk>>], apart: Apart, most: usize) -> Vec<Vec<Path>> {
     let order = job.written_order();
     let mut search = Search { order, walks, apart, most, chosen: Vec::new(), found: Vec::new() };

@@ -20,9 +20,11 @@ pub fn plan_by_chance(job: &Job, walks: &[Vec<Vec<Walk>>], rng: &mut Rng) -> Vec
     order.into_iter().zip(carts).map(path).collect()
 }
 
-/// As many cells as the call asks for, any of the floor.
+/// As many cells as the call allows, any of the floor.
 fn jumps(job: &Job, call: usize, rng: &mut Rng) -> Walk {
-    (0..=job.calls[call].deadline).map(|_| rng.below(job.cells)).collect()
+    let call = &job.calls[call];
+    let steps: Vec<usize> = (0..=call.deadline).filter(|&step| call.is_met_at(step)).collect();
+    (0..=*rng.pick(&steps)).map(|_| rng.below(job.cells)).collect()
 }
 
 /// The paths with one thing changed, if there are any.
@@ -32,16 +34,31 @@ pub fn tampered_plan(job: &Job, paths: &[Path], rng: &mut Rng) -> Vec<Path> {
     }
     let mut paths = paths.to_vec();
     let (one, other) = (rng.below(paths.len()), rng.below(paths.len()));
-    match rng.below(if job.has_bays() { 7 } else { 6 }) {
+    match rng.below(if job.has_bays() { 9 } else { 8 }) {
         0 => paths.swap(one, other),
         1 => paths[one] = paths[other].clone(),
         2 => paths[one].cart = rng.below(job.carts.len()),
         3 => swap_carts(&mut paths, one, other),
         4 => swap_tails(&mut paths, one, other, rng),
         5 => change_cell(&mut paths[one].cells, job, rng),
+        6 => end_earlier(&mut paths[one], job, rng),
+        7 => wait_for_the_deadline(&mut paths[one], job),
         _ => stand_in_bay(&mut paths[one].cells, job, rng),
     }
     paths
+}
+
+/// Cuts a path to a lift short, wherever that is.
+fn end_earlier(path: &mut Path, job: &Job, rng: &mut Rng) {
+    if !job.calls[path.call].is_bay() {
+        path.cells.truncate(1 + rng.below(path.cells.len()));
+    }
+}
+
+/// Lets the cart of a path stand on its last cell up to the deadline, where others may want to cross.
+pub fn wait_for_the_deadline(path: &mut Path, job: &Job) {
+    let last = path.cells[path.cells.len() - 1];
+    path.cells.resize(job.calls[path.call].deadline + 1, last);
 }
 
 fn change_cell(cells: &mut [usize], job: &Job, rng: &mut Rng) {
@@ -74,14 +91,16 @@ fn swap_tails(paths: &mut [Path], one: usize, other: usize, rng: &mut Rng) {
     }
 }
 
-/// The job with one of its lifts made a bay, one whose cell a path stands on later; none if there is no such call. What
-/// was a plan is none any more, and nothing else is wrong with it.
+/// The job with one of its lifts made a bay, one that is met at its deadline and whose cell a path stands on later; none if
+/// there is no such call. What was a plan is none any more, and nothing else is wrong with it.
 pub fn bay_in_the_way(job: &Job, paths: &[Path], rng: &mut Rng) -> Option<Job> {
-    let is_crossed_later = |call: &Call| {
+    let is_crossed_later = |number: usize| {
+        let call = &job.calls[number];
         let crosses = |p: &Path| p.cells.iter().skip(call.deadline + 1).any(|&cell| cell == call.cell);
-        !call.is_bay() && paths.iter().any(crosses)
+        let in_time = |p: &Path| p.call != number || p.cells.len() == call.deadline + 1;
+        !call.is_bay() && paths.iter().any(crosses) && paths.iter().all(in_time)
     };
-    let crossed: Vec<usize> = (0..job.calls.len()).filter(|&i| is_crossed_later(&job.calls[i])).collect();
+    let crossed: Vec<usize> = (0..job.calls.len()).filter(|&i| is_crossed_later(i)).collect();
     if crossed.is_empty() {
         return None;
     }
@@ -97,14 +116,30 @@ pub fn tampered_list(job: &Job, list: &[Choke], rng: &mut Rng) -> Vec<Choke> {
     }
     let mut list = list.to_vec();
     let (one, other) = (rng.below(list.len()), rng.below(list.len()));
-    match rng.below(if job.has_bays() { 7 } else { 5 }) {
+    match rng.below(if job.has_bays() { 8 } else { 6 }) {
         0 => list.swap(one, other),
         1 => return doubled_point(&list, rng),
         2 => drop(list.remove(one)),
         3 => list.reverse(),
         4 => list[one] = lists::some_points(job, 1, rng)[0],
-        5 => return closed_point_more(job, &list, rng),
+        5 => return last_cell_instead(job, &list, rng),
+        6 => return closed_point_more(job, &list, rng),
         _ => return closed_point_instead(job, &list, rng),
+    }
+    list
+}
+
+/// The list with the cell of a whole call at its deadline for that call, if it has any. It lets the carts through that are
+/// lifted earlier.
+pub fn last_cell_instead(job: &Job, list: &[Choke], rng: &mut Rng) -> Vec<Choke> {
+    let whole = |choke: &Choke| if let Choke::Call(call) = *choke { Some(call) } else { None };
+    let calls: Vec<usize> = list.iter().filter_map(whole).collect();
+    let mut list = list.to_vec();
+    if !calls.is_empty() {
+        let call = *rng.pick(&calls);
+        list.retain(|choke| *choke != Choke::Call(call));
+        list.push(lists::last_cell(job, call));
+        list.sort();
     }
     list
 }
@@ -125,7 +160,8 @@ pub fn closed_point_more(job: &Job, list: &[Choke], rng: &mut Rng) -> Vec<Choke>
 pub fn closed_point_instead(job: &Job, list: &[Choke], rng: &mut Rng) -> Vec<Choke> {
     let mut closed = lists::closed_points(job);
     closed.retain(|point| !list.contains(point));
-    let of = |at: usize| closed.iter().filter(move |point| point.cell == list[at].cell).map(move |&point| (at, point));
+    let is_on = |point: &Choke, at: usize| cell_of(point).is_some() && cell_of(point) == cell_of(&list[at]);
+    let of = |at: usize| closed.iter().filter(move |point| is_on(point, at)).map(move |&point| (at, point));
     let pairs: Vec<(usize, Choke)> = (0..list.len()).flat_map(of).collect();
     let mut list = list.to_vec();
     if !pairs.is_empty() {
@@ -134,6 +170,13 @@ pub fn closed_point_instead(job: &Job, list: &[Choke], rng: &mut Rng) -> Vec<Cho
         list.sort();
     }
     list
+}
+
+fn cell_of(point: &Choke) -> Option<usize> {
+    match *point {
+        Choke::Cell { cell, .. } => Some(cell),
+        Choke::Call(_) => None,
+    }
 }
 
 /// The list with one of its points twice, one behind the other, if it has any.

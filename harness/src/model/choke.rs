@@ -3,29 +3,39 @@
 use super::job::Job;
 use super::sheet::Choke;
 
-/// Strictly by step, then cell: so none stands twice.
+/// Strictly rising, cells by step, then cell, and whole calls behind them by number: so none stands twice.
 pub fn is_in_order(chokes: &[Choke]) -> bool {
     chokes.windows(2).all(|pair| pair[0] < pair[1])
 }
 
 /// A layer is the set of cells on which a walk can stand at a step without having stood on a choke point.
-/// The list is true if no call's cell is in the layer of its deadline. A point on a closed cell takes nothing away.
+/// The list is true if no call's cell is in a layer at which the call can be met, but for calls that are choke points as a
+/// whole. These take nothing from a layer: who only crosses such a call's cell goes on. A point on a closed cell takes
+/// nothing away either.
 pub fn stops_every_walk(job: &Job, chokes: &[Choke]) -> bool {
     let mut layer = vec![false; job.cells];
     for &cell in &job.carts {
         layer[cell] = true;
     }
     for step in 0..=job.last() {
-        for point in chokes.iter().filter(|p| p.step == step) {
-            layer[point.cell] = false;
+        for cell in stopped_at(step, chokes) {
+            layer[cell] = false;
         }
-        let mut due = job.calls.iter().filter(|call| call.deadline == step);
-        if due.any(|call| layer[call.cell]) {
+        let mut calls = job.calls.iter().enumerate().filter(|(_, call)| call.is_met_at(step) && layer[call.cell]);
+        if calls.any(|(number, _)| !chokes.contains(&Choke::Call(number))) {
             return false;
         }
         layer = next_layer(job, &layer, step + 1);
     }
     true
+}
+
+/// The cells at which walks are stopped at the step.
+fn stopped_at(step: usize, chokes: &[Choke]) -> impl Iterator<Item = usize> + '_ {
+    chokes.iter().filter_map(move |choke| match *choke {
+        Choke::Cell { step: at, cell } => (at == step).then_some(cell),
+        Choke::Call(_) => None,
+    })
 }
 
 fn next_layer(job: &Job, layer: &[bool], step: usize) -> Vec<bool> {

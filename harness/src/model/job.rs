@@ -23,9 +23,9 @@ pub struct Call {
 /// What becomes of the cart that meets a call.
 #[derive(Clone, Copy, Debug, PartialEq, Eq)]
 pub enum End {
-    /// It is lifted off the floor.
+    /// It is lifted off the floor, at any step up to the deadline.
     Lift,
-    /// It parks there for the rest of the job.
+    /// It parks there for the rest of the job, at the bay's very step.
     Bay,
 }
 
@@ -40,6 +40,15 @@ impl Call {
 
     pub fn is_bay(&self) -> bool {
         self.end == End::Bay
+    }
+
+    /// Whether a cart that is on its cell at the step can be lifted or parked then. Paths, walks and choke lists all have
+    /// it from here.
+    pub fn is_met_at(&self, step: usize) -> bool {
+        match self.end {
+            End::Lift => step <= self.deadline,
+            End::Bay => step == self.deadline,
+        }
     }
 
     /// The word of its line.
@@ -67,8 +76,8 @@ impl Job {
         self.calls.iter().map(|c| c.deadline).max().unwrap_or(0)
     }
 
-    /// The numbers of the calls as PATH lines go: by deadline, equal deadlines by cell. No two calls are on one cell, so
-    /// this is one order alone.
+    /// The numbers of the calls as PATH lines go: by deadline, equal deadlines by cell, whatever the step of the lift. No
+    /// two calls are on one cell, so this is one order alone.
     pub fn written_order(&self) -> Vec<usize> {
         let mut order: Vec<usize> = (0..self.calls.len()).collect();
         order.sort_by_key(|&call| (self.calls[call].deadline, self.calls[call].cell));

@@ -3,7 +3,7 @@
 use super::job::Job;
 use super::sheet::Path;
 
-/// The paths have as many cells as their calls ask for: the reader of sheets has seen to that.
+/// The paths have no more cells and no fewer than their calls allow: the reader of sheets has seen to that.
 pub fn is_plan(job: &Job, paths: &[Path]) -> bool {
     is_in_order(job, paths) && carts_differ(paths) && are_walks(job, paths) && are_apart(paths)
 }
@@ -43,8 +43,9 @@ pub fn keep_apart(one: &[usize], other: &[usize]) -> bool {
     !share(one, other) && !trade(one, other)
 }
 
-/// Both on one cell at one step. A walk has the steps up to its deadline, that one included; `zip` ends with the
-/// shorter walk, whose cart is off the floor from then on, or parked on a cell that is closed.
+/// Both on one cell at one step. A walk has the steps up to the one at which its cart is lifted or parks, that one
+/// included; `zip` ends with the shorter walk, whose cart is off the floor from then on, however late its deadline, or
+/// parked on a cell that is closed.
 pub fn share(one: &[usize], other: &[usize]) -> bool {
     one.iter().zip(other).any(|(a, b)| a == b)
 }

@@ -4,7 +4,7 @@
 
 use super::answer::{Refusal, BAD_SHEET};
 use super::job::Job;
-use super::lines::{lines, numbers, write, Line};
+use super::lines::{lines, number, numbers, write, Line};
 
 #[derive(Clone, Debug, PartialEq, Eq)]
 pub enum Sheet {
@@ -12,7 +12,7 @@ pub enum Sheet {
     Cannot(Vec<Choke>),
 }
 
-/// A cart's walk to its call: the cells from step 0 to the deadline.
+/// A cart's walk to its call: the cells from step 0 to the step at which it is lifted, or parks.
 #[derive(Clone, Debug, PartialEq, Eq)]
 pub struct Path {
     pub cart: usize,
@@ -20,11 +20,14 @@ pub struct Path {
     pub cells: Vec<usize>,
 }
 
-/// A cell at a step. Choke points are ordered by step, then cell.
+/// Where a walk can be stopped. The order is that of the sheet: cells by step, then cell, and behind them whole calls by
+/// number.
 #[derive(Clone, Copy, Debug, PartialEq, Eq, PartialOrd, Ord)]
-pub struct Choke {
-    pub step: usize,
-    pub cell: usize,
+pub enum Choke {
+    /// A cell at a step.
+    Cell { step: usize, cell: usize },
+    /// A whole call, a lift's, by its number.
+    Call(usize),
 }
 
 /// What the first line announces, and how many lines are to follow.
@@ -64,12 +67,14 @@ fn body<'a, T>(
     }
 }
 
-/// The numbers of a line that is ended and opens with the word.
+/// The fields of a line that is ended and opens with the word.
+fn fields_of<'a, 'b>(line: &'b Line<'a>, word: &str) -> Option<&'b [&'a [u8]]> {
+    (line.ended && line.word == word.as_bytes()).then_some(line.fields.as_slice())
+}
+
+/// The same where all of them are numbers.
 fn numbers_of(line: &Line, word: &str) -> Option<Vec<usize>> {
-    if !line.ended || line.word != word.as_bytes() {
-        return None;
-    }
-    numbers(&line.fields)
+    numbers(fields_of(line, word)?)
 }
 
 fn head(line: &Line, job: &Job) -> Option<Head> {
@@ -83,20 +88,32 @@ fn head(line: &Line, job: &Job) -> Option<Head> {
     None
 }
 
-/// The deadline that counts the cells is that of the call which the line names.
+/// The call that the line names says how many cells there may be.
 fn path(line: &Line, job: &Job) -> Option<Path> {
     let n = numbers_of(line, "PATH")?;
     let [cart, call, cells @ ..] = n.as_slice() else { return None };
     let named = job.calls.get(*call)?;
     let known = *cart < job.carts.len() && cells.iter().all(|&cell| cell < job.cells);
-    let whole = cells.len() == named.deadline + 1;
-    (known && whole).then(|| Path { cart: *cart, call: *call, cells: cells.to_vec() })
+    let in_time = cells.len().checked_sub(1).is_some_and(|last| named.is_met_at(last));
+    (known && in_time).then(|| Path { cart: *cart, call: *call, cells: cells.to_vec() })
 }
 
 fn choke(line: &Line, job: &Job) -> Option<Choke> {
-    let n = numbers_of(line, "CHOKE")?;
-    let [cell, step] = *n.as_slice() else { return None };
-    (cell < job.cells && step <= job.last()).then_some(Choke { step, cell })
+    match fields_of(line, "CHOKE")? {
+        [b"CALL", call] => whole_call(number(call)?, job),
+        fields => cell_at_step(&numbers(fields)?, job),
+    }
+}
+
+/// A bay's number is none here: its one node is a cell at a step already.
+fn whole_call(call: usize, job: &Job) -> Option<Choke> {
+    let named = job.calls.get(call)?;
+    (!named.is_bay()).then_some(Choke::Call(call))
+}
+
+fn cell_at_step(numbers: &[usize], job: &Job) -> Option<Choke> {
+    let [cell, step] = *numbers else { return None };
+    (cell < job.cells && step <= job.last()).then_some(Choke::Cell { step, cell })
 }
 
 impl Sheet {
@@ -112,11 +129,18 @@ impl Sheet {
             }
             Sheet::Cannot(chokes) => {
                 write(&mut out, "CANNOT", &[chokes.len()]);
-                for p in chokes {
-                    write(&mut out, "CHOKE", &[p.cell, p.step]);
+                for choke in chokes {
+                    write_choke(&mut out, choke);
                 }
             }
         }
         out
+    }
+}
+
+fn write_choke(out: &mut Vec<u8>, choke: &Choke) {
+    match *choke {
+        Choke::Cell { step, cell } => write(out, "CHOKE", &[cell, step]),
+        Choke::Call(call) => write(out, "CHOKE\tCALL", &[call]),
     }
 }

@@ -6,12 +6,13 @@ use super::sheet::Choke;
 /// The cells of a walk, from step 0.
 pub type Walk = Vec<usize>;
 
-/// Whether the job is so small that all its walks can be written out: there are some thousand at most.
+/// Whether the job is so small that all its walks can be written out: a cart has some thousand at most.
 pub fn can_be_written_out(job: &Job) -> bool {
-    job.cells <= 5 && job.last() <= 5
+    job.cells.saturating_pow(job.last() as u32) <= 5_usize.pow(5)
 }
 
-/// Every walk of each cart that ends on each call's cell at its deadline: first by cart, then by call.
+/// Every walk of each cart that ends on each call's cell when the call can be met: first by cart, then by call, the
+/// shortest first.
 pub fn all_walks(job: &Job) -> Vec<Vec<Vec<Walk>>> {
     let near = job.within_a_step();
     job.carts.iter().map(|&cell| walks_to_calls(job, &near, cell)).collect()
@@ -24,8 +25,8 @@ fn walks_to_calls(job: &Job, near: &[Vec<usize>], start: usize) -> Vec<Vec<Walk>
         if step > 0 {
             walks = walks.iter().flat_map(|walk| one_step_longer(job, near, walk)).collect();
         }
-        for (i, call) in job.calls.iter().enumerate().filter(|(_, call)| call.deadline == step) {
-            to_calls[i] = walks.iter().filter(|walk| walk[step] == call.cell).cloned().collect();
+        for (i, call) in job.calls.iter().enumerate().filter(|(_, call)| call.is_met_at(step)) {
+            to_calls[i].extend(walks.iter().filter(|walk| walk[step] == call.cell).cloned());
         }
     }
     to_calls
@@ -37,12 +38,24 @@ fn one_step_longer<'a>(job: &'a Job, near: &'a [Vec<usize>], walk: &'a [usize]) 
     open.map(move |&next| [walk, &[next]].concat())
 }
 
-/// Whether every walk from any cart's cell to any call's cell at its deadline stands on one of the points.
+/// Whether every walk from any cart's cell to any call stands on one of the points.
 pub fn stops_every_walk(job: &Job, chokes: &[Choke]) -> bool {
-    all_walks(job).iter().flatten().flatten().all(|walk| is_stopped(walk, chokes))
+    are_stopped(&all_walks(job), chokes)
 }
 
-/// Whether the walk has the step of a choke point and is on its cell then.
-pub fn is_stopped(walk: &Walk, chokes: &[Choke]) -> bool {
-    chokes.iter().any(|point| walk.get(point.step) == Some(&point.cell))
+/// The same of some walks, first by cart, then by call.
+pub fn are_stopped(walks: &[Vec<Vec<Walk>>], chokes: &[Choke]) -> bool {
+    let to_calls = walks.iter().flat_map(|to_calls| to_calls.iter().enumerate());
+    to_calls
+        .flat_map(|(call, walks)| walks.iter().map(move |walk| (call, walk)))
+        .all(|(call, walk)| is_stopped(walk, call, chokes))
+}
+
+/// Whether a walk that ends at the call stands on a choke point: it has the step of one and is on its cell then, or its
+/// call is one. The calls whose cells it only crosses make no difference.
+pub fn is_stopped(walk: &Walk, call: usize, chokes: &[Choke]) -> bool {
+    chokes.iter().any(|choke| match *choke {
+        Choke::Cell { step, cell } => walk.get(step) == Some(&cell),
+        Choke::Call(number) => number == call,
+    })
 }

@@ -1,17 +1,16 @@
 //! The shortcuts about bays.
 
-use crate::gen::bays::no_bays;
+use crate::gen::bays::walks_over_bays;
 use crate::gen::lists::lists;
-use crate::gen::plans::{has_plan, plans_by};
-use crate::model::choke::stops_every_walk;
+use crate::gen::plans::plans_by;
 use crate::model::job::{Call, Job};
 use crate::model::plan::keep_apart;
 use crate::model::sheet::Choke;
-use crate::model::walks::{all_walks, Walk};
+use crate::model::walks::{all_walks, are_stopped, Walk};
 
 /// Taking a bay for a lift: its cell is walked over after its step. Whether a plan is found.
 pub fn taking_bays_for_lifts(job: &Job) -> bool {
-    has_plan(&no_bays(job.clone()))
+    !plans_by(job, &walks_over_bays(job), keep_apart, 1).is_empty()
 }
 
 /// Closing a bay's cell at its step instead of one step later: nobody comes to the bay. Whether a plan is found.
@@ -36,6 +35,6 @@ fn plan_without(job: &Job, is_lost: fn(&Call, &Walk) -> bool) -> bool {
 
 /// Choke points against walks over closed cells too, which nobody walks. The shortest list that stops these.
 pub fn stopping_walks_over_bays(job: &Job) -> Option<Vec<Choke>> {
-    let open = no_bays(job.clone());
-    lists(job).into_iter().find(|list| stops_every_walk(&open, list))
+    let walks = walks_over_bays(job);
+    lists(job).into_iter().find(|list| are_stopped(&walks, list))
 }

@@ -18,12 +18,12 @@ mod Places
 use Places.*
 
 abbrev Inv-loop : tie.InvT-loop
-Inv-loop sheet at cells carts calls deadlines first₀ second₀ lasts₀ rows₀ k₀ p₀ first second lasts rows k p =
+Inv-loop sheet at cells carts calls kinds deadlines first₀ second₀ lasts₀ rows₀ k₀ p₀ first second lasts rows k p =
     (k ≤ calls) × (p ≤ length sheet) × Room first second lasts rows × ((i : ℕ) → i < k → getD lasts i 0 < maxSteps)
-    × ((j : Job) → Tells j cells carts calls deadlines → Left (pathLine j) plan sheet at calls (pathsTo first second lasts rows k) p k)
+    × ((j : Job) → Tells j cells carts calls kinds deadlines → Left (pathLine j) plan sheet at calls (pathsTo first second lasts rows k) p k)
 
 abbrev μ-loop : tie.MeasureT-loop
-μ-loop sheet at cells carts calls deadlines first₀ second₀ lasts₀ rows₀ k₀ p₀ first second lasts rows k p = calls - k
+μ-loop sheet at cells carts calls kinds deadlines first₀ second₀ lasts₀ rows₀ k₀ p₀ first second lasts rows k p = calls - k
 
 loop-holds : tie.Need-loop-holds Inv-loop μ-loop
 loop-holds c = (search needs, search needs, search needs, (λ i h. absurd (omega arith)), λ j t. left-all _ _ _ _ _)
@@ -38,7 +38,7 @@ returns-2 c =
     let l = enum-told→loop c .loop in
     let r = l .inv .2 in (
       λ j t. turn-bad (l .inv .4 j t) (enum-told→in-loop c .loop-test .taken) (enum-told→next c .next .ensures) (enum-told→else1 c .if1 .left)
-          (sym (ap (λ x. pathRead x (enum-told→path-line c .path-line .last .1 .1 .1 .1 .1 .0)) (c .enum-told .given .1)) ∙ enum-told→path-line c .path-line .ensures .0 j t) _,
+          (sym (ap (λ x. pathRead x (enum-told→path-line c .path-line .last .1 .1 .1 .1 .1 .1 .0)) (c .enum-told .given .1)) ∙ enum-told→path-line c .path-line .ensures .0 j t) _,
       record { firsts = r .firsts; seconds = r .seconds; steps = r .steps; cells = enum-told→rows c .rows .given .1 ∙ r .cells },
       omega arith,
     )
@@ -60,7 +60,7 @@ loop-again : tie.Need-loop-again Inv-loop μ-loop
 loop-again c =
     let l = known-told→loop c .loop in
     let v = known-told→cart c .cart .given in
-    let row = known-told→path-line c .path-line .last .1 .1 .1 .1 .1 .0 in
+    let row = known-told→path-line c .path-line .last .1 .1 .1 .1 .1 .1 .0 in
     let d = known c .2 in
     let few : l .k < maxCalls = omega arith in
     let size = known-told→rows c .rows .given .0 in (

@@ -39,9 +39,12 @@ returns-5 : tie.Need-returns-5
 returns-5 c =
     let v = known-told2→first c .first .given in
     let w = known-told2→second c .second .given in
+    let f = sym (known-told2→number c .number .ensures) ∙ v .1 in
     let e = sym (known-told2→number2 c .number2 .ensures) ∙ w .1 in record {
-      numbers = opened (known-told2→number c) ∙ two-both _ _ (v .0 .0) (v .0 .1 .0) (sym (known-told2→number c .number .ensures) ∙ v .1) (known-told2→else2 c .if2 .left) (w .0 .0) (w .0 .1 .0) e;
+      numbers = opened (known-told2→number c) ∙ two-both _ _ (v .0 .0) (v .0 .1 .0) f (known-told2→else2 c .if2 .left) (w .0 .0) (w .0 .1 .0) e;
       inside = number-bound (now (known-told2→start c .args .line)) _ (w .0 .0) (w .0 .1 .0) e (omega arith) .high;
+      past-first = v .0 .1 .0;
+      first = f;
     }
 
 pub two-numbers-spec : {M : Type 1} → statement M

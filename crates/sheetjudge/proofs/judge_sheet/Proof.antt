@@ -1,4 +1,4 @@
--- `judge_sheet` judges what the sheet is read as. A sheet that is read has known paths, or known points fewer than the calls, so the two tests may be
+-- `judge_sheet` judges what the sheet is read as. A sheet that is read has known paths, or known choke points fewer than the calls, so the two tests may be
 -- asked; each decides its case. Assumes nothing.
 use Prim.Native.Nat.{ℕ, _+_, _≤_}
 use mathlib.Core.Path.{_≡_, sym, ap, subst, _∙_}
@@ -11,9 +11,10 @@ use Rattle.model.specs.Limits.{maxCalls}
 use Rattle.model.specs.Job.{Job}
 use Rattle.model.specs.ReadSheet.{readSheet}
 use Rattle.model.specs.Contracts.{Judged}
+use Rattle.model.proofs.Floor.{test-choke}
 use Rattle.model.proofs.Read.{plan-back, cannot-back}
 use Rattle.job.specs.Arrays.{jobOf}
-use Rattle.job.specs.Held.{pathsTo, pointAt, pointsOf}
+use Rattle.job.specs.Held.{pathsTo, chokeAt, chokesTo}
 use Rattle.job.proofs.Arrays.{calls-count}
 use Rattle.job.proofs.UpTo.{up-count}
 use Rattle.sheet.specs.declared.Form.{Form}
@@ -83,15 +84,15 @@ returns-3 c = judged (packed3→read-sheet c) Plan (packed3→enum-told c .enum-
 
 is-choke-list-requires : tie.Need-is-choke-list-requires
 is-choke-list-requires c κs =
-    let m = second4→read-sheet c in
-    let s = second4→start c in
+    let m = lasts4→read-sheet c in
+    let s = lasts4→start c in
     let r = m .read-sheet .ensures .1 in
-    let (f, e) = second4→form2 c .form2 .given in
+    let (f, e) = lasts4→form2 c .form2 .given in
     let few : f .0 ≤ maxCalls = fits m (Cannot (f .0)) e in
-    let back = cannot-back (j m) (now (s .args .sheet)) (pointsOf (first m) (second m) (f .0)) (said m (Cannot (f .0)) e) in
-    let count = up-count (pointAt (first m) (second m)) (f .0) in
+    let back = cannot-back (j m) (now (s .args .sheet)) (chokesTo (first m) (second m) (lasts m) (f .0)) (said m (Cannot (f .0)) e) in
+    let count = up-count (chokeAt (first m) (second m) (lasts m)) (f .0) in
     let calls = calls-count (s .args .job) in
-    (s .pre .0, s .pre .1, r .firsts, r .seconds, omega (arith, back .1, count, calls), back .2)
+    (s .pre .0, s .pre .1, r .firsts, r .seconds, r .steps, omega (arith, back .1, count, calls), λ x i. test-choke (j m) x (back .2 x i))
 
 returns-4 : tie.Need-returns-4
 returns-4 c =
@@ -109,4 +110,4 @@ judge-sheet-spec =
     (tie.spec
     (λ c. search needs) (λ c. search needs) (λ c. search needs) (λ c. search needs) (λ c κs. search needs) (λ c. search needs) packed-requires returns (λ c. search needs)
     (λ c. search needs) (λ c. search needs) (λ c. search needs) (λ c. search needs) is-plan-requires (λ c κs. search needs) returns-2 (λ c κs. search needs) returns-3
-    (λ c. search needs) (λ c. search needs) (λ c. search needs) is-choke-list-requires (λ c κs. search needs) returns-4 (λ c κs. search needs) returns-5)
+    (λ c. search needs) (λ c. search needs) (λ c. search needs) (λ c. search needs) is-choke-list-requires (λ c κs. search needs) returns-4 (λ c κs. search needs) returns-5)

@@ -1,5 +1,5 @@
--- `put_cannot` meets its contract. The loop's invariant: the lines of the first k points stand behind the head, and 14 bytes are left for each of the
--- others. The measure is the number of points that are left. Assumes nothing.
+-- `put_cannot` meets its contract. The loop's invariant: the lines of the first k choke points stand behind the head, and 15 bytes are left for
+-- each of the others. The measure is the number of choke points that are left. Assumes nothing.
 use Rattle.text.specs.Wrote.{Wrote}
 use mathlib.Core.List.{[], _∷_}
 use Prim.Native.Nat.{_*_, _+_, _-_, _<_, _≤_}
@@ -7,16 +7,15 @@ use mathlib.Core.Path.{_∙_, _≡_, refl}
 use native.Mathlib.Omega.{arith}
 use Rattle.job.proofs.UpTo.{up-count, up-suc}
 use Rattle.job.proofs.Arrays.{calls-count}
-use Rattle.model.specs.Text.{cannotWord, chokeWord}
-use Rattle.model.specs.SheetText.{chokeNumbers, linesText}
-use Rattle.sheetwriter.proofs.Laws.{chokes-room}
+use Rattle.model.specs.Text.{cannotWord}
+use Rattle.model.specs.SheetText.{chokeOpens, chokeNumbers, linesText}
+use Rattle.sheetwriter.proofs.Laws.{chokes-room, choke-short}
 use Rattle.job.specs.Arrays.{jobOf}
-use lib.ListN.{length}
+use lib.ListN.{length, getD}
 use Rattle.model.proofs.Room.{line-room}
 use Rattle.text.proofs.Wrote.{wrote-lines, wrote-more, wrote-none}
 use denote.Ref.{now}
-use Rattle.model.specs.Choke.{point}
-use Rattle.job.specs.Held.{pointAt, pointsOf}
+use Rattle.job.specs.Held.{chokeOf, chokeAt, chokesTo}
 use borrow.Author.Needs.{needs}
 use Rattle.sheetwriter.proofs.put_cannot.Statement.{statement}
 use Rattle.sheetwriter.proofs.put_cannot.Tie as tie
@@ -24,11 +23,11 @@ mod Places
 use Places.*
 
 abbrev Inv-loop : tie.InvT-loop
-Inv-loop cells steps n out₀ table p₀ k₀ word out p k =
-    (k ≤ n) × (p + 14 * (n - k) ≤ length out) × (length out ≡ length out₀) × Wrote out₀ p₀ (linesText chokeWord chokeNumbers (pointsOf cells steps k)) out p
+Inv-loop first second kinds n out₀ table p₀ k₀ out p k =
+    (k ≤ n) × (p + 15 * (n - k) ≤ length out) × (length out ≡ length out₀) × Wrote out₀ p₀ (linesText chokeOpens chokeNumbers (chokesTo first second kinds k)) out p
 
 abbrev μ-loop : tie.MeasureT-loop
-μ-loop cells steps n out₀ table p₀ k₀ word out p k = n - k
+μ-loop first second kinds n out₀ table p₀ k₀ out p k = n - k
 
 head-requires : tie.Need-head-requires Inv-loop μ-loop
 head-requires c κs =
@@ -44,11 +43,8 @@ loop-holds c =
     let r = line-room cannotWord (slice-known2→wide c .wide .result ∷ []) in
     (search needs, omega (arith, chokes-room (jobOf j) (s .pre .0) (s .args .n) n, r, w .next), refl, wrote-none (omega (arith, w .next, w .fits)))
 
-pair-line-requires : tie.Need-pair-line-requires Inv-loop μ-loop
-pair-line-requires c κs =
-    let a = table3→wide2 c .wide2 in
-    let b = table3→wide3 c .wide3 in
-    (table3→table c .table .ensures, omega arith, omega arith, omega (arith, line-room chokeWord (a .result ∷ b .result ∷ [])))
+put-choke-requires : tie.Need-put-choke-requires Inv-loop μ-loop
+put-choke-requires c κs = (table3→table c .table .ensures, omega arith, omega arith, omega arith)
 
 loop-again : tie.Need-loop-again Inv-loop μ-loop
 loop-again c =
@@ -56,12 +52,13 @@ loop-again c =
     let l = slice-known3→loop c .loop in
     let a = slice-known3→wide2 c .wide2 in
     let b = slice-known3→wide3 c .wide3 in
-    let w = slice-known3→pair-line c .pair-line in (
+    let w = slice-known3→put-choke c .put-choke in
+    let x = chokeOf (getD (now (s .kinds)) (l .k) 0) (a .result) (b .result) in (
       omega arith,
-      omega (arith, w .ensures .next, line-room chokeWord (a .result ∷ b .result ∷ [])),
+      omega (arith, w .ensures .next, choke-short x),
       w .kept .0 ∙ l .inv .2,
-      rw (up-suc (pointAt (now (s .cells)) (now (s .steps))) (l .k), ← a .ensures .0, ← b .ensures .0)
-          (wrote-lines chokeWord chokeNumbers (pointsOf (now (s .cells)) (now (s .steps)) (l .k)) (point (a .result) (b .result)) (l .inv .3) (w .ensures)),
+      rw (up-suc (chokeAt (now (s .first)) (now (s .second)) (now (s .kinds))) (l .k), ← a .ensures .0, ← b .ensures .0)
+          (wrote-lines chokeOpens chokeNumbers (chokesTo (now (s .first)) (now (s .second)) (now (s .kinds)) (l .k)) x (l .inv .3) (w .ensures)),
     )
 
 returns : tie.Need-returns Inv-loop μ-loop
@@ -69,11 +66,12 @@ returns c =
     let s = after-loop→start c .args in
     let l = c .before .loop in
     let e : l .k ≡ s .n = omega arith in
-    rw (up-count (pointAt (now (s .cells)) (now (s .steps))) (s .n)) (wrote-more (rw (after-loop→wide c .wide .ensures .0) at (c .before .before .before .before .head .ensures)) (rw e at (l .inv .3)))
+    rw (up-count (chokeAt (now (s .first)) (now (s .second)) (now (s .kinds))) (s .n))
+    (wrote-more (rw (after-loop→wide c .wide .ensures .0) at (c .before .before .before .before .head .ensures)) (rw e at (l .inv .3)))
 
 pub put-cannot-spec : {M : Type 1} → statement M
 put-cannot-spec =
     tie.close
     (tie.spec
-    Inv-loop μ-loop (λ c κs. search needs) (λ c. search needs) (λ c. search needs) (λ c κs. search needs) head-requires loop-holds (λ c. search needs) (λ c. search needs) (λ c κs. search needs)
-    (λ c. search needs) (λ c κs. search needs) pair-line-requires (λ c. search needs) (λ c. search needs) loop-again (λ c. search needs) returns)
+    Inv-loop μ-loop (λ c κs. search needs) (λ c. search needs) (λ c. search needs) (λ c κs. search needs) head-requires loop-holds (λ c. search needs) (λ c. search needs)
+    (λ c κs. search needs) (λ c. search needs) (λ c κs. search needs) put-choke-requires (λ c. search needs) (λ c. search needs) loop-again (λ c. search needs) returns)

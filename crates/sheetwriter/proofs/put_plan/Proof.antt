@@ -26,7 +26,7 @@ use Places.*
 abbrev Inv-loop : tie.InvT-loop
 Inv-loop job carts calls lasts rows out₀ table p₀ k₀ out p k =
     (k ≤ job .calls) × (p + (job .calls - k) * share (jobOf job) ≤ length out) × (length out ≡ length out₀)
-    × Wrote out₀ p₀ (linesText pathWord pathNumbers (pathsTo carts calls lasts rows k)) out p
+    × Wrote out₀ p₀ (linesText (λ p. pathWord) pathNumbers (pathsTo carts calls lasts rows k)) out p
 
 abbrev μ-loop : tie.MeasureT-loop
 μ-loop job carts calls lasts rows out₀ table p₀ k₀ out p k = job .calls - k
@@ -74,7 +74,7 @@ loop-again c =
       omega (arith, h),
       rw (w .kept .0) (room-rest (share (jobOf j)) (l .k) (j .calls) (l .p) (length (l .out)) h (l .inv .1) (w .result) (omega (arith, r, w .ensures .next))),
       w .kept .0 ∙ l .inv .2,
-      rw add-one (wrote-lines pathWord pathNumbers (pathsTo carts calls lasts rows (l .k)) (pathAt carts calls lasts rows (l .k)) (l .inv .3) x),
+      rw add-one (wrote-lines (λ p. pathWord) pathNumbers (pathsTo carts calls lasts rows (l .k)) (pathAt carts calls lasts rows (l .k)) (l .inv .3) x),
     )
 
 put-path-requires : tie.Need-put-path-requires Inv-loop μ-loop
@@ -110,5 +110,5 @@ put-plan-spec =
     tie.close
     (tie.spec
     Inv-loop μ-loop (λ c κs. search needs) (λ c. search needs) cast-wide (λ c κs. search needs) head-requires loop-holds (λ c. search needs) (λ c. search needs)
-    (λ c κs. search needs) (λ c. search needs) (λ c. search needs) (λ c. search needs) (λ c κs. search needs) (λ c. search needs) (λ c κs. search needs)
-    (λ c. search needs) (λ c. search needs) (λ c. search needs) put-path-requires (λ c. search needs) (λ c. search needs) loop-again (λ c. search needs) returns)
+    (λ c κs. search needs) (λ c. search needs) (λ c. search needs) (λ c. search needs) (λ c κs. search needs) (λ c. search needs) (λ c κs. search needs) (λ c. search needs)
+    (λ c. search needs) (λ c. search needs) put-path-requires (λ c. search needs) (λ c. search needs) loop-again (λ c. search needs) returns)

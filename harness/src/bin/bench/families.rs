@@ -8,7 +8,7 @@ use harness::model::job::{Call, Job};
 use harness::model::limits::{CARTS, DEADLINE};
 
 use crate::floors::{aisles, clique, comb, rooms, sparse, two_hubs};
-use crate::tight::{bottleneck, crossing, crossing_to_bays, shut_aisles, tight};
+use crate::tight::{bottleneck, crossing, crossing_to_bays, gap_behind_lifts, main_aisle, shut_aisles, tight};
 
 /// How large: the side of a grid, the carts, the latest deadline.
 #[derive(Clone, Copy)]
@@ -31,7 +31,7 @@ pub struct Family {
 
 pub const OPEN_GRID: Family = Family { name: "open grid", make: |s, i, r| on(grid(s.side, s.side), s, i, r) };
 
-pub const FAMILIES: [Family; 16] = [
+pub const FAMILIES: [Family; 18] = [
     OPEN_GRID,
     Family { name: "bottleneck", make: |s, _, r| bottleneck(s, r) },
     Family { name: "rooms", make: |s, i, r| on(rooms(s.side, r), s, i, r) },
@@ -48,6 +48,8 @@ pub const FAMILIES: [Family; 16] = [
     Family { name: "clique", make: |s, i, r| on(clique(2 * s.side), Size { carts: s.carts / 3, ..s }, i, r) },
     Family { name: "open grid, half bays", make: |s, i, r| to_bays_on(grid(s.side, s.side), s, i, r) },
     Family { name: "aisles that bays shut", make: |s, i, r| by_turns(shut_aisles(s, r), i) },
+    Family { name: "lifts on the main aisle", make: |s, i, r| by_turns(main_aisle(s, i % 4 < 2, r), i) },
+    Family { name: "gap behind lifts", make: |s, i, r| by_turns(gap_behind_lifts(s, r), i) },
 ];
 
 impl Family {

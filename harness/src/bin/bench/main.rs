@@ -36,18 +36,19 @@ const SIDES: [usize; 5] = [4, 7, 10, 13, 16];
 
 /// What the tables mean.
 const WORDS: &str = "\
-- plan: the library's call whole. baseline: `harness/src/baseline.rs`, the same algorithm in plain Rust, in the same buffers.
+- plan: the library's call whole. baseline: `harness/src/baseline.rs`, the same graph in plain Rust, in the same buffers; it seeks a call with
+  short walks first.
 - memset: the wiping of the store alone, which both of these include. check: the library's check of the planner's sheet.
-- Peers: max flow on the network of cells and steps without closed cells, from numbers instead of a text, building included, in the
+- Peers: max flow on the network of calls, and of cells and steps without closed cells, from numbers instead of a text, building included, in the
   better direction: LEMON Preflow, igraph_maxflow_value, Boost push_relabel_max_flow, as their manuals have it. The best peer is that of each job.
   `lemon_static` is LEMON tuned by hand: a static graph, capacities that take no memory, only the cut where there is no plan.
-- before: a former library's calls, where `./bench --before ARCHIVE` names one, on the jobs that it does not turn back; its check gets its own sheet.
+- before: a former library's calls, where `./bench --before ARCHIVE` names one, on the jobs that it answers alike; its check gets its own sheet.
 - Times are processor time of the thread, by turns in one process; the best of many runs counts.
 - map: the library's call for maps, for eight maps of a family in turn. Its baseline: `harness/src/baseline/map.rs`, the same in plain Rust.
 - floors: a collection (`harness/src/gen/collection.rs`) planned, checked and filed by one run of `floors plan`, beside both calls of the library and
   the file system's own (write, flush, rename) for the same sheets, by as many threads. Time on the clock; the best of three runs each.
-- A node is a cell at a step. A visit puts a position on the search's stack; a look is at one of its neighbours. Place kept: the
-  looks, if each position on the stack kept its place in the neighbour list.
+- A node is a cell at a step. A visit puts a position, a node or a call, on the search's stack; a look is at one of its neighbours. Place
+  kept: the looks, if each node on the stack kept its place in the neighbour list.
 ";
 
 fn main() {

@@ -3,7 +3,7 @@
 use std::hint::black_box;
 
 use harness::baseline;
-use harness::model::answer::{pack, unpack, CANNOT, PLAN};
+use harness::model::answer::{pack, unpack, PLAN};
 use harness::model::job::Job;
 use harness::model::limits::{sheet_least, store_least};
 
@@ -51,10 +51,11 @@ pub fn measure(job: &Job, peers: &[Peer], before: Option<Before>, effort: Effort
     let passed = pack(answer, 0);
     let written = sheet[..len].to_vec();
     let (library, keeping) = counts(&text, &mut store, &mut sheet, &written);
-    // A former library turns back what it did not know yet. Its lines may go in another order: it checks its own sheet.
+    // A former library turns back what it did not know yet, and had other plans. Its lines may go in another order: it
+    // checks its own sheet.
     let mut before = before.and_then(|b| {
-        let (answer, len) = unpack(b.plan(&text, &mut store, &mut sheet));
-        (answer <= CANNOT).then(|| (b, sheet[..len].to_vec()))
+        let (its_own, len) = unpack(b.plan(&text, &mut store, &mut sheet));
+        (its_own == answer).then(|| (b, sheet[..len].to_vec()))
     });
 
     let mut best = [f64::NAN; 6];

@@ -12,7 +12,7 @@ use harness::model::job::{Call, Job};
 use harness::model::limits::{sheet_least, store_least};
 
 use crate::families::Size;
-use crate::floors::{aisles, halves, rooms, sparse};
+use crate::floors::{aisles, comb, halves, rooms, sparse};
 
 /// More calls beyond a gap of one cell than there are steps up to their deadline; some are late.
 pub fn bottleneck(size: Size, rng: &mut Rng) -> Job {
@@ -123,6 +123,44 @@ pub fn shut_aisles(size: Size, rng: &mut Rng) -> (Job, Job) {
             return (some, none);
         }
     }
+}
+
+/// Through a gap of one cell, as in `bottleneck`, with lifts on all cells before it, due at one step on the way. Nobody comes
+/// to the gap from a cell where a cart has to be met at that step: in the first job the lifts have to take theirs earlier.
+pub fn gap_behind_lifts(size: Size, rng: &mut Rng) -> (Job, Job) {
+    let floor = halves(size.side, rng);
+    let is_gap = |&&(a, b): &&(usize, usize)| b == a + 1 && b % size.side == size.side / 2;
+    let (gap, beyond) = *floor.tracks.iter().find(is_gap).expect("a gap");
+    let before: Vec<usize> = floor.within_a_step()[gap].iter().copied().filter(|&c| c != gap && c != beyond).collect();
+    let (seed, met) = (rng.below(1 << 30) as u64, size.carts / 4 + rng.below(size.carts / 4));
+    let due_at = |k: usize| {
+        let mut job = across(floor.clone(), size, 1 + size.carts / 16, &mut Rng::new(seed), k);
+        for (call, &cell) in job.calls.iter_mut().zip(&before) {
+            *call = Call::lift(cell, met);
+        }
+        job
+    };
+    brink(size.last, due_at).expect("time for all to cross")
+}
+
+/// Teeth that a main aisle joins, with carts and lifts on all cells of its middle. Everyone else crosses these, from the teeth
+/// on the left to those on the right. The lifts are due late, or one after the other as the others come by.
+pub fn main_aisle(size: Size, is_late: bool, rng: &mut Rng) -> (Job, Job) {
+    let (side, quarter) = (size.side, size.side / 4);
+    let aisle = quarter..side - quarter;
+    let mut some_of = |columns: Range<usize>| {
+        let mut cells: Vec<usize> = (side..side * side).filter(|cell| columns.contains(&(cell % side))).collect();
+        rng.shuffle(&mut cells);
+        cells.truncate(size.carts - aisle.len());
+        cells
+    };
+    let (left, right) = (some_of(0..quarter), some_of(side - quarter..side));
+    let due_at = |k: usize| {
+        let lifts = aisle.clone().map(|cell| Call::lift(cell, if is_late { size.last - cell } else { side + cell }));
+        let calls = lifts.chain(right.iter().map(|&cell| Call::lift(cell, k))).collect();
+        Job { carts: aisle.clone().chain(left.iter().copied()).collect(), calls, ..comb(side) }
+    };
+    brink(size.last, due_at).expect("time for all to cross")
 }
 
 /// Jobs from k = 0, without a plan, to k = `most`, with one: the first of two neighbours between which that changes has

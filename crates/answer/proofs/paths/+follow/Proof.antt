@@ -34,7 +34,7 @@ returns : (t : ℕ) → lts.Need-returns (came-from.Asked, came-from.Learnt, bel
 returns t c = λ j h k. trail-start h _ k _ (c .before .before .before .pre .1 .1) (c .if1 .taken)
 
 came-from-requires : (t : ℕ) → lts.Need-came-from-requires (came-from.Asked, came-from.Learnt, below t, follow.Post) (at t) follow.Post
-came-from-requires t c κs = (c .before .before .before .pre .1 .0, omega arith)
+came-from-requires t c κs = let p = c .before .before .before .pre .1 in (p .0, omega arith, p .2)
 
 follow-requires : (t : ℕ) → lts.Need-follow-requires (came-from.Asked, came-from.Learnt, below t, follow.Post) (at t) follow.Post
 follow-requires t c κs =
@@ -42,7 +42,7 @@ follow-requires t c κs =
     let else = came .before in
     let start = else .before .before .before in
     let (j, h, k) = start .pre .1 .0 in
-    (omega arith, ((j, h, cart-before h _ _ (came .came-from .ensures j h k)), simp length-set (omega (arith, start .pre .1 .1))))
+    (omega arith, ((j, h, cart-before h _ _ (came .came-from .ensures j h k)), simp length-set (omega (arith, start .pre .1 .1)), omega (arith, start .pre .1 .2)))
 
 same-length : (t : ℕ) → lts.Need-same-length-2 (came-from.Asked, came-from.Learnt, below t, follow.Post) (at t) follow.Post
 same-length t c = c .before .before .follow .kept .1 .1 .0 ∙ simp length-set

@@ -5,7 +5,8 @@ use Rattle.answer.specs.Full.{FullFlow}
 use Rattle.answer.specs.Trail.{HasCart}
 use Rattle.model.specs.Job.{Job}
 use Rattle.job.specs.Held.{Room}
-use Rattle.answer.proofs.PathPlan.{PathsTraced, call-known, can-follow, few, has-cart, right-plan, row-long, traced-more, traced-none}
+use Rattle.network.proofs.HoldsLaws.{within}
+use Rattle.answer.proofs.PathPlan.{PathsTraced, call-known, node-known, can-follow, below-top, few, has-cart, right-plan, row-long, traced-more, traced-none}
 use Prim.Native.Nat.{_-_, _<_, _≤_}
 use native.Mathlib.Nat.{le-of-eq, lt-of-lt-of-le}
 use native.Mathlib.Omega.{arith}
@@ -20,45 +21,52 @@ mod Places
 use Places.*
 
 abbrev Inv-loop : tie.InvT-loop
-Inv-loop targets deadlines calls cart-on store grid first₀ second lasts₀ rows₀ i₀ first lasts rows i =
+Inv-loop targets calls cart-on store grid first₀ second lasts₀ rows₀ i₀ first lasts rows i =
     (i ≤ calls) × (calls ≤ maxCalls) × Room first second lasts rows
-    × ((j : Job) → FullFlow j targets deadlines calls cart-on second grid store → PathsTraced j second store first lasts rows i)
+    × ((j : Job) → FullFlow j targets calls cart-on second grid store → PathsTraced j second store first lasts rows i)
 
 abbrev μ-loop : tie.MeasureT-loop
-μ-loop targets deadlines calls cart-on store grid first₀ second lasts₀ rows₀ i₀ first lasts rows i = calls - i
+μ-loop targets calls cart-on store grid first₀ second lasts₀ rows₀ i₀ first lasts rows i = calls - i
 
 abbrev Full : tie.Start Inv-loop μ-loop → Job → Type 0
-Full c j = FullFlow j (now (c .args .targets)) (now (c .args .deadlines)) (c .args .calls) (now (c .args .cart-on)) (now (c .args .second)) (c .args .grid) (now (c .args .store))
+Full c j = FullFlow j (now (c .args .targets)) (c .args .calls) (now (c .args .cart-on)) (now (c .args .second)) (c .args .grid) (now (c .args .store))
 
 loop-holds : tie.Need-loop-holds Inv-loop μ-loop
 loop-holds c = (omega arith, few (slice-known3→start c .pre .0 .1), slice-known3→start c .pre .1, λ j g. traced-none (slice-known3→start c .pre .1))
 
-known : (c : tie.After-wide Inv-loop μ-loop) → c .wide .result < maxCalls
-known c = let g = wide→start c .pre .0 .1 in omega (arith, call-known g (wide→in-loop c .loop-test .taken), few g, c .wide .ensures .0)
-
 element-copy-out-wide : tie.Need-element-copy-out-wide Inv-loop μ-loop
-element-copy-out-wide c = known c
+element-copy-out-wide c = let g = wide→start c .pre .0 .1 in omega (arith, call-known g (wide→in-loop c .loop-test .taken), few g, c .wide .ensures .0)
 
-element-copy-out-wide-2 : tie.Need-element-copy-out-wide-2 Inv-loop μ-loop
-element-copy-out-wide-2 c = known (wide2→wide c)
+-- The next call's node is read.
+place-requires : tie.Need-place-requires Inv-loop μ-loop
+place-requires c κs =
+    let (j, g) = wide2→start c .pre .0 in
+    within (g .holds) (node-known g (wide2→in-loop c .loop-test .taken) (wide2→wide c .wide .ensures .0) (c .wide2 .ensures .0)) .1
 
--- The node of the next call can be followed.
-follows : (c : tie.After-wide3 Inv-loop μ-loop) (j : Job) → Full (wide3→start c) j → HasCart j (now (wide3→start c .args .store)) (point (wide3→wide2 c .wide2 .result) (c .wide3 .result))
-follows c j g = can-follow g (wide3→in-loop c .loop-test .taken) (wide3→wide c .wide .ensures .0) (wide3→wide2 c .wide2 .ensures .0) (c .wide3 .ensures .0)
+prev-requires : tie.Need-prev-requires Inv-loop μ-loop
+prev-requires c κs =
+    let (j, g) = place→start c .pre .0 in
+    rw (c .place .ensures) (within (g .holds) (node-known g (place→in-loop c .loop-test .taken) (place→wide c .wide .ensures .0) (place→wide2 c .wide2 .ensures .0)))
+
+-- The node where it is met can be followed.
+follows : (c : tie.After-prev Inv-loop μ-loop) (j : Job) → Full (prev→start c) j → HasCart j (now (prev→start c .args .store)) (point (prev→wide2 c .wide2 .result) (c .prev .result))
+follows c j g = can-follow g (prev→in-loop c .loop-test .taken) (prev→wide c .wide .ensures .0) (prev→wide2 c .wide2 .ensures .0) (prev→place c .place .ensures) (c .prev .ensures .0)
 
 follow-requires : tie.Need-follow-requires Inv-loop μ-loop
 follow-requires c κs =
     let (j, g) = follow-arg→start c .pre .0 in (
-      (j, g .holds, follows (follow-arg→wide3 c) j g),
-      lt-of-lt-of-le (follow-arg→wide3 c .wide3 .ensures .1) (le-of-eq (sym (row-long (follow-arg→loop c .loop .inv .2) (lt-of-lt-of-le (follow-arg→in-loop c .loop-test .taken) (few g))))),
+      (j, g .holds, follows (follow-arg→prev c) j g),
+      lt-of-lt-of-le (follow-arg→prev c .prev .ensures .1) (le-of-eq (sym (row-long (follow-arg→loop c .loop .inv .2) (lt-of-lt-of-le (follow-arg→in-loop c .loop-test .taken) (few g))))),
+      below-top g (follow-arg→in-loop c .loop-test .taken) (follow-arg→wide c .wide .ensures .0) (follow-arg→wide2 c .wide2 .ensures .0) (follow-arg→place c .place .ensures)
+          (follow-arg→prev c .prev .ensures .0),
     )
 
 -- Its path begins on a cart's cell.
 carted : (c : tie.After-follow Inv-loop μ-loop) → (c .follow .result < maxCells) × (0 < getD (now (follow→start c .args .cart-on)) (c .follow .result) 0)
 carted c =
     let (j, g) = follow→start c .pre .0 in
-    has-cart g (follow→in-loop c .loop-test .taken) (follow→wide c .wide .ensures .0) (follow→wide2 c .wide2 .ensures .0) (follow→wide3 c .wide3 .ensures .0)
-    (c .follow .ensures j (g .holds) (follows (follow→wide3 c) j g))
+    has-cart g (follow→in-loop c .loop-test .taken) (follow→wide c .wide .ensures .0) (follow→wide2 c .wide2 .ensures .0) (follow→place c .place .ensures) (follow→prev c .prev .ensures .0)
+    (c .follow .ensures j (g .holds) (follows (follow→prev c) j g))
 
 shared-slice-read-first : tie.Need-shared-slice-read-first Inv-loop μ-loop
 shared-slice-read-first c = omega (arith, shared-slice-known5→start c .pre .0 .1 .carts .size, carted (shared-slice-known5→follow c))
@@ -66,18 +74,22 @@ shared-slice-read-first c = omega (arith, shared-slice-known5→start c .pre .0 
 sub-first : tie.Need-sub-first Inv-loop μ-loop
 sub-first c = omega (arith, carted (shared-slice-known5→follow c))
 
-element-copy-out-lasts : tie.Need-element-copy-out-lasts Inv-loop μ-loop
-element-copy-out-lasts c = known (shared-slice-known5→wide c)
-
 loop-again : tie.Need-loop-again Inv-loop μ-loop
 loop-again c =
-    let (j, g) = lasts→start c .pre .0 in (
+    let i = shared-slice-known5→loop c .loop .inv in
+    let l = shared-slice-known5→in-loop c .loop-test .taken in
+    let e = shared-slice-known5→wide c .wide .ensures .0 in
+    let f = shared-slice-known5→wide2 c .wide2 .ensures .0 in
+    let v = shared-slice-known5→place c .place .ensures in
+    let d = shared-slice-known5→prev c .prev .ensures .0 in
+    let back = shared-slice-known5→follow c .follow .ensures in
+    let can = follows (shared-slice-known5→prev c) in
+    let same = shared-slice-known5→rows c .rows .given .0 in
+    let (j, g) = shared-slice-known5→start c .pre .0 in (
       omega arith,
-      lasts→loop c .loop .inv .1,
-      traced-more g (lasts→in-loop c .loop-test .taken) (lasts→wide c .wide .ensures .0) (lasts→wide2 c .wide2 .ensures .0) (lasts→wide3 c .wide3 .ensures .0)
-          (lasts→follow c .follow .ensures j (g .holds) (follows (lasts→wide3 c) j g)) (lasts→loop c .loop .inv .3 j g) (lasts→rows c .rows .given .0) .room,
-      λ j g. traced-more g (lasts→in-loop c .loop-test .taken) (lasts→wide c .wide .ensures .0) (lasts→wide2 c .wide2 .ensures .0) (lasts→wide3 c .wide3 .ensures .0)
-          (lasts→follow c .follow .ensures j (g .holds) (follows (lasts→wide3 c) j g)) (lasts→loop c .loop .inv .3 j g) (lasts→rows c .rows .given .0),
+      i .1,
+      traced-more g l e f v d (back j (g .holds) (can j g)) (i .3 j g) same .room,
+      λ j g. traced-more g l e f v d (back j (g .holds) (can j g)) (i .3 j g) same,
     )
 
 returns : tie.Need-returns Inv-loop μ-loop
@@ -87,6 +99,6 @@ pub write-paths-spec : {M : Type 1} → statement M
 write-paths-spec =
     tie.close
     (tie.spec
-    Inv-loop μ-loop loop-holds (λ c. search needs) (λ c κs. search needs) element-copy-out-wide (λ c κs. search needs) element-copy-out-wide-2 (λ c κs. search needs)
-    (λ c. search needs) (λ c. search needs) (λ c. search needs) (λ c. search needs) (λ c. search needs) follow-requires shared-slice-read-first sub-first (λ c. search needs)
-    element-copy-out-lasts (λ c. search needs) (λ c. search needs) (λ c. search needs) loop-again (λ c. search needs) (λ c. search needs) (λ c. search needs) returns)
+    Inv-loop μ-loop loop-holds (λ c. search needs) (λ c κs. search needs) element-copy-out-wide (λ c κs. search needs) place-requires prev-requires (λ c. search needs)
+    (λ c. search needs) (λ c. search needs) (λ c. search needs) (λ c. search needs) follow-requires shared-slice-read-first sub-first (λ c. search needs) (λ c. search needs)
+    (λ c. search needs) (λ c. search needs) (λ c. search needs) loop-again (λ c. search needs) (λ c. search needs) (λ c. search needs) returns)

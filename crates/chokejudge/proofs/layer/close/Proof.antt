@@ -4,11 +4,12 @@ use native.Mathlib.Nat.{eq-or-lt-of-le}
 use Rattle.chokejudge.proofs.MemberLaws.{members-clear}
 use mathlib.Core.Logic.{⊎-elim}
 use Rattle.chokejudge.specs.Grown.{Between, Cleared, members}
-use Prim.Native.Nat.{_+_, _-_, _<_, _≤_, ℕ}
-use mathlib.Core.Path.{_≡_, _∙_, sym}
+use Prim.Native.Nat.{_+_, _-_, _≤_}
+use mathlib.Core.Path.{_∙_, sym}
 use native.Mathlib.Omega.{arith}
 use Rattle.chokejudge.proofs.ClearedLaws.{Alike, cleared-none, cursor-end, cleared-more, later}
 use denote.Ref.{now}
+use lib.ListN.{getD}
 use borrow.Author.Needs.{needs}
 use Rattle.chokejudge.proofs.layer.close.Statement.{statement}
 use Rattle.chokejudge.proofs.layer.close.Tie as tie
@@ -24,7 +25,7 @@ abbrev μ-loop : tie.MeasureT-loop
 loop-holds : tie.Need-loop-holds Inv-loop μ-loop
 loop-holds c =
     let a = slice-known→start c .args in
-    (omega arith, slice-known→start c .pre .4 .few, λ k h g. absurd (omega arith), cleared-none (now (a .cells)) (a .at) (now (a .since)), omega arith)
+    (omega arith, slice-known→start c .pre .4 .few, λ k h g. absurd (omega arith), cleared-none (λ k. getD (now (a .cells)) k 0) (a .at) (now (a .since)), omega arith)
 
 returns : tie.Need-returns Inv-loop μ-loop
 returns c =
@@ -46,7 +47,7 @@ loop-again c =
       omega arith,
       omega arith,
       λ k lo hi. ⊎-elim (λ z. rw z (sym (wide2→wide c .wide .ensures .0) ∙ wide2→else1 c .if1 .left)) (λ m. l .inv .2 k lo m) (eq-or-lt-of-le {n = k} {m = l .i} (omega arith)),
-      rw (e .0) (cleared-more (now (a .cells)) (a .at) (l .i) (now (a .since)) (l .since) (l .inv .0) (omega (arith, e .0, e .1, l .inv .3 .size, wide2→start c .pre .2)) (l .inv .3)),
+      rw (e .0) (cleared-more (λ k. getD (now (a .cells)) k 0) (a .at) (l .i) (now (a .since)) (l .since) (l .inv .0) (omega (arith, e .0, e .1, l .inv .3 .size, wide2→start c .pre .2)) (l .inv .3)),
       omega (arith, members-clear (l .since) (c .wide2 .result), l .inv .4),
     )
 

@@ -57,7 +57,7 @@ loop-again c =
       omega arith,
       w .kept .0 ∙ l .inv .1,
       rw (up-suc (trackAt (now (s .from)) (now (s .to))) (l .t), ← a .ensures .0, ← b .ensures .0)
-          (wrote-lines trackWord trackNumbers (tracksIn (now (s .from)) (now (s .to)) (l .t)) (track (a .result) (b .result)) (l .inv .2) (w .ensures)),
+          (wrote-lines (λ t. trackWord) trackNumbers (tracksIn (now (s .from)) (now (s .to)) (l .t)) (track (a .result) (b .result)) (l .inv .2) (w .ensures)),
     )
 
 returns : tie.Need-returns Inv-loop μ-loop

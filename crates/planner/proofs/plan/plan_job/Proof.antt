@@ -8,10 +8,10 @@ use denote.Ref.{now}
 use lib.ListN.{length}
 use Rattle.model.specs.Job.{Job}
 use Rattle.model.specs.Plan.{Path}
-use Rattle.model.specs.Choke.{Point}
+use Rattle.model.specs.Choke.{Choke}
 use Rattle.model.proofs.Floor.{path-known}
 use Rattle.job.specs.Arrays.{jobOf}
-use Rattle.job.specs.Held.{pathsTo, pointAt, pointsOf}
+use Rattle.job.specs.Held.{pathsTo, chokeAt, chokesTo}
 use Rattle.job.proofs.Arrays.{calls-count}
 use Rattle.job.proofs.UpTo.{up-count}
 use Rattle.planner.specs.declared.solve.Solution.{Solution}
@@ -43,8 +43,8 @@ rows c = c .solve .last .1 .1 .1 .1 .1 .0
 abbrev paths : tie.After-solve → List Path
 paths c = pathsTo (first c) (second c) (lasts c) (rows c) (length (job c .calls))
 
-abbrev points : tie.After-solve → ℕ → List Point
-points c n = pointsOf (first c) (second c) n
+abbrev points : tie.After-solve → ℕ → List Choke
+points c n = chokesTo (first c) (second c) (lasts c) n
 
 solved : (c : tie.After-solve) (o : Solution) → c .solve .result ≡ o → Solved (job c) o (first c) (second c) (lasts c) (rows c)
 solved c o e = subst (λ x. Solved (job c) x (first c) (second c) (lasts c) (rows c)) e (c .solve .ensures .2)
@@ -74,8 +74,8 @@ put-cannot-requires c κs =
     let (f, e) = put-cannot-arg→solution c .solution .given in
     let right = solved m (Cannot (f .0)) e in
     let room = m .solve .ensures .1 in
-    let count = up-count (pointAt (first m) (second m)) (f .0) in
-    (s .pre .0, s .pre .1, room .firsts, room .seconds, omega (arith, right .0 .few, count, calls-count (s .args .job)), s .pre .3)
+    let count = up-count (chokeAt (first m) (second m) (lasts m)) (f .0) in
+    (s .pre .0, s .pre .1, room .firsts, room .seconds, room .steps, omega (arith, right .0 .few, count, calls-count (s .args .job)), s .pre .3)
 
 packed-requires-2 : tie.Need-packed-requires-2
 packed-requires-2 c κs =
@@ -97,4 +97,4 @@ plan-job-spec =
     (tie.spec
     (λ c. search needs) (λ c. search needs) (λ c. search needs) (λ c. search needs) (λ c κs. search needs) (λ c. search needs) (λ c. search needs) (λ c. search needs)
     (λ c. search needs) (λ c. search needs) put-plan-requires packed-requires (λ c. search needs) (λ c. search needs) returns (λ c. search needs) (λ c. search needs)
-    (λ c. search needs) put-cannot-requires packed-requires-2 (λ c. search needs) (λ c. search needs) returns-2)
+    (λ c. search needs) (λ c. search needs) put-cannot-requires packed-requires-2 (λ c. search needs) (λ c. search needs) returns-2)

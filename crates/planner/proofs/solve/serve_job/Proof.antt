@@ -9,8 +9,8 @@ use Places.*
 
 serve-all-requires : tie.Need-serve-all-requires
 serve-all-requires c κs =
-    let s = serve-all-arg4→start c in
-    (jobOf (s .args .t1), begun (s .args .t1) (serve-all-arg4→fill-tables c .fill-tables .ensures) (s .pre .2))
+    let s = serve-all-arg3→start c in
+    (jobOf (s .args .t1), begun (s .args .t1) (serve-all-arg3→fill-tables c .fill-tables .ensures) (s .pre .2))
 
 returns : tie.Need-returns
 returns c =

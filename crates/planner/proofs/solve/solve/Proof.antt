@@ -66,5 +66,5 @@ pub solve-spec : {M : Type 1} → statement M
 solve-spec =
     tie.close
     (tie.spec
-    (λ c κs. search needs) (λ c. search needs) mul-nodes wipe-requires by-deadline-requires (λ c. search needs) serve-job-requires (λ c. search needs) write-answer-requires
+    (λ c κs. search needs) (λ c. search needs) (λ c. search needs) mul-nodes wipe-requires by-deadline-requires (λ c. search needs) serve-job-requires (λ c. search needs) write-answer-requires
     same-length (λ c. search needs) (λ c. search needs) (λ c. search needs) (λ c. search needs) returns)

@@ -8,7 +8,7 @@ mod Places
 use Places.*
 
 write-paths-requires : tie.Need-write-paths-requires
-write-paths-requires c κs = let s = write-paths-arg6→start c in ((jobOf (s .args .t1), full (s .args .t1) (s .pre .1) (write-paths-arg6→enum-told c .enum-told .given .1)), s .pre .2)
+write-paths-requires c κs = let s = write-paths-arg5→start c in ((jobOf (s .args .t1), full (s .args .t1) (s .pre .1) (write-paths-arg5→enum-told c .enum-told .given .1)), s .pre .2)
 
 returns : tie.Need-returns
 returns c =
@@ -17,15 +17,15 @@ returns c =
     (h .0, h .1 (jobOf (s .args .t1)) (full (s .args .t1) (s .pre .1) (slice-known7→enum-told c .enum-told .given .1)))
 
 list-chokes-requires : tie.Need-list-chokes-requires
-list-chokes-requires c κs = let s = list-chokes-arg4→start c in
-    ((jobOf (s .args .t1), stuck (s .args .t1) (s .pre .1) (list-chokes-arg4→served c .served .given .1)), s .pre .2 .firsts, s .pre .2 .seconds)
+list-chokes-requires c κs = let s = list-chokes-arg6→start c in
+    ((jobOf (s .args .t1), stuck (s .args .t1) (s .pre .1) (list-chokes-arg6→served c .served .given .1)), s .pre .2 .firsts, s .pre .2 .seconds, s .pre .2 .steps)
 
 returns-2 : tie.Need-returns-2
 returns-2 c =
-    let s = slice-known9→start c in
-    let h = slice-known9→list-chokes c .list-chokes .ensures in (
-      record { firsts = h .0; seconds = h .1; steps = s .pre .2 .steps; cells = s .pre .2 .cells },
-      h .2 (jobOf (s .args .t1)) (stuck (s .args .t1) (s .pre .1) (slice-known9→served c .served .given .1)),
+    let s = slice-known10→start c in
+    let h = slice-known10→list-chokes c .list-chokes .ensures in (
+      record { firsts = h .0; seconds = h .1; steps = h .2; cells = s .pre .2 .cells },
+      h .3 (jobOf (s .args .t1)) (stuck (s .args .t1) (s .pre .1) (slice-known10→served c .served .given .1)),
     )
 
 pub write-answer-spec : {M : Type 1} → statement M
@@ -33,4 +33,4 @@ write-answer-spec =
     tie.close
     (tie.spec
     (λ c. search needs) (λ c. search needs) write-paths-requires (λ c. search needs) (λ c. search needs) (λ c. search needs) (λ c. search needs) returns list-chokes-requires
-    (λ c. search needs) (λ c. search needs) returns-2)
+    (λ c. search needs) (λ c. search needs) (λ c. search needs) returns-2)

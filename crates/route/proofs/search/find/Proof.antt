@@ -9,7 +9,7 @@ mod Places
 use Places.*
 
 scan-requires : tie.Need-scan-requires
-scan-requires c κs = let p = struct-known2→start c .pre in (p .0, p .1 .0, p .1 .1, p .2, omega (arith, p .1 .2 .1))
+scan-requires c κs = let (j, h, k) = struct-known2→start c .pre .0 in ((j, h .0, k, omega (arith, h .1 .1)), struct-known2→start c .pre .1)
 
 returns : tie.Need-returns
 returns c = found-more _ _ _ (λ y via b. inl (enum-told→then1 c .if1 .taken, b)) (enum-told→scan c .scan .result) (c .enum-told .given .1) (enum-told→scan c .scan .ensures)

@@ -9,8 +9,9 @@ mod Places
 use Places.*
 
 returns : tie.Need-returns
-returns c = let a = slice-known3→start c .args in
-    pushed-by (a .grid) (now (a .store)) (a .depth) (a .via) (a .stamp) (asPoint (a .node)) (slice-known3→place c .place .ensures) (slice-known3→set-mark c .set-mark .ensures)
+returns c =
+    let a = slice-known3→start c .args in
+    pushed-by (a .grid) (now (a .store)) (a .depth) (a .stamp) (asPoint (a .node)) (asPoint (a .via)) (slice-known3→place c .place .ensures) (slice-known3→set-mark c .set-mark .ensures)
     (slice-known3→set-position c .set-position .ensures)
 
 pub push-spec : {M : Type 1} → statement M

@@ -12,25 +12,22 @@ use Rattle.network.specs.Graph.{graph}
 use Rattle.network.specs.Store.{asPoint, markAt}
 use Rattle.network.proofs.NodeBytes.{few-nodes}
 use Rattle.route.specs.Search.{Searching}
-use Rattle.route.specs.Finds.{From, Stamped, Finds}
 use Rattle.route.proofs.Stack.{posIn}
 use Rattle.route.proofs.SearchCount.{unmarked}
-use Rattle.route.proofs.SearchRuns.{Running}
-use Rattle.route.proofs.SearchFinds.{guess-found, found-is}
 use Rattle.route.proofs.SearchTurn.{Going, Turn, Looked, first-needs, under-way, begun, ends-none, ends-some}
-use Rattle.route.proofs.SearchTurn.{stands, cells, is-goal, no-goal, turn-pop, top-at, deep-enough, push-needs, turn-falls, turn-push}
+use Rattle.route.proofs.SearchTurn.{holds, top-inside, top-due, entry-within, is-goal, no-goal, turn-pop, turn-out, push-needs, turn-falls, turn-push}
 use Rattle.route.proofs.search.search.Statement.{statement}
 use Rattle.route.proofs.search.search.Tie as tie
 mod Places
 use Places.*
 
 abbrev Inv-loop : tie.InvT-loop
-Inv-loop near begin due shut cart-on hint store₀ grid stamp depth₀ top₀ store depth top =
+Inv-loop near begin due shut cart-on hint store₀ grid stamp depth₀ top₀ below₀ store depth top below =
     (length store ≡ length store₀)
-    × ((j : Job) → Searching j near begin due shut cart-on hint store₀ grid (asPoint top₀) → Going j store₀ store stamp (asPoint top₀) depth (asPoint top))
+    × ((j : Job) → Searching j near begin due shut cart-on hint store₀ grid (asPoint top₀) → Going j due store₀ store stamp (asPoint top₀) depth (asPoint top) below)
 
 abbrev μ-loop : tie.MeasureT-loop
-μ-loop near begin due shut cart-on hint store₀ grid stamp depth₀ top₀ store depth top = 2 * unmarked (markAt grid store) stamp (grid .nodes) + depth
+μ-loop near begin due shut cart-on hint store₀ grid stamp depth₀ top₀ below₀ store depth top below = 2 * unmarked (markAt grid store) stamp (grid .nodes) + depth
 
 -- A job that the search may be for, told from the store after the first push.
 abbrev For : tie.After-push Inv-loop μ-loop → Job → Type 0
@@ -45,30 +42,19 @@ one c = (push→start c .pre .0, begun _ (c .push .ensures) (push→start c .pre
 turn : (c : tie.In-loop Inv-loop μ-loop) (j : Job) → For (in-loop→push c) j →
     (let a = in-loop→start c .args in let l = in-loop→loop c .loop in
     Turn j (now (a .near)) (now (a .begin)) (now (a .due)) (now (a .shut)) (now (a .cart-on)) (now (a .hint)) (a .grid) (in-loop→push c .push .last .0) (l .store)
-    (asPoint (a .node)) (a .stamp) (l .depth) (asPoint (l .top)))
+    (asPoint (a .node)) (a .stamp) (l .depth) (asPoint (l .top)) (l .below))
 turn c j h = record { for = h; going = in-loop→loop c .loop .inv .1 j h; some = omega (arith, c .loop-test .taken) }
 
 -- Past the test the position on top is no goal.
 dull : (c : tie.Joined1 Inv-loop μ-loop) (j : Job) → For (joined1→push c) j → (graph j) .Goal (posIn j (joined1→loop c .loop .store) (joined1→loop c .loop .depth - 1)) → ⊥
 dull c j h = no-goal (turn (joined1→in-loop c) j h) (λ z. ⊎-elim (λ w. w .2 .left) (λ w. absurd (w .left z)) (c .if1 .came))
 
--- What is found answers for the position on top: what `find` answers, or a guess that is a position.
-answers : (c : tie.At-match-came Inv-loop μ-loop) →
-    (let a = match-came→start c .args in let l = match-came→loop c .loop in
-    Finds (From (a .grid) (l .store) (now (a .due)) (now (match-came→row-at c .row-at .result)) (asPoint (l .top))) (Stamped (a .grid) (l .store) (a .stamp)) (c .match .found))
-answers c =
-    ⊎-elim (λ w. found-is _ _ (w .4) (w .3 .ensures)) (λ w. found-is _ _ (w .2) (guess-found _ _ _ (w .1 .given .1) (match-came→guess c .guess .ensures))) (c .match .came)
-
--- What was found, and where nothing was, that the position falls off.
-looked : (c : tie.At-match-came Inv-loop μ-loop) (j : Job) → For (match-came→push c) j →
-    (let a = match-came→start c .args in let l = match-came→loop c .loop in
-    Looked j (now (a .near)) (now (a .begin)) (now (a .due)) (now (a .shut)) (now (a .cart-on)) (now (a .hint)) (a .grid) (match-came→push c .push .last .0) (l .store)
-    (asPoint (a .node)) (a .stamp) (l .depth) (asPoint (l .top)) (now (match-came→row-at c .row-at .result)) (c .match .found))
-looked c j h = record { turn = turn (match-came→in-loop c) j h; of = match-came→row-at c .row-at .ensures; finds = answers c; dull = dull (match-came→joined1 c) j h }
-
-popped : (c : tie.After-enum-told3 Inv-loop μ-loop) (j : Job) → For (enum-told3→push c) j →
-    (let l = enum-told3→loop c .loop in Running j (enum-told3→push c .push .last .0) (l .store) (enum-told3→start c .args .stamp) (asPoint (enum-told3→start c .args .node)) (l .depth - 1))
-popped c j h = turn-pop (looked (enum-told3→match-came c) j h) (c .enum-told3 .given .1)
+-- What was found.
+looked : (c : tie.After-leads Inv-loop μ-loop) (j : Job) → For (leads→push c) j →
+    (let a = leads→start c .args in let l = leads→loop c .loop in
+    Looked j (now (a .near)) (now (a .begin)) (now (a .due)) (now (a .shut)) (now (a .cart-on)) (now (a .hint)) (a .grid) (leads→push c .push .last .0) (l .store)
+    (asPoint (a .node)) (a .stamp) (l .depth) (asPoint (l .top)) (l .below) (c .leads .result))
+looked c j h = record { turn = turn (leads→in-loop c) j h; sees = c .leads .ensures; dull = dull (leads→joined1 c) j h }
 
 push-requires : tie.Need-push-requires Inv-loop μ-loop
 push-requires c κs = first-needs (push-arg→start c .pre .1)
@@ -79,7 +65,7 @@ loop-holds c = (refl, λ j h. under-way (now (slice-known2→start c .args .stor
 shared-slice-read-if2 : tie.Need-shared-slice-read-if2 Inv-loop μ-loop
 shared-slice-read-if2 c =
     let (j, h) = one (shared-slice-known7→push c) in
-    omega (arith, stands (turn (shared-slice-known7→in-loop c) j h) .2 .0, h .tables .carts .size, h .holds .ready .fit .few-cells)
+    omega (arith, top-inside (turn (shared-slice-known7→in-loop c) j h) .0, h .tables .carts .size, h .holds .ready .fit .few-cells)
 
 returns : tie.Need-returns Inv-loop μ-loop
 returns c = λ j h.
@@ -88,23 +74,19 @@ returns c = λ j h.
     let w = turn (then2→in-loop c) j (begun _ p h) in
     ends-some _ p h (w .going .run) (l .depth - 1) (omega arith) (is-goal w (then2→then1 c .if1 .taken) (c .if2 .taken))
 
-row-at-requires : tie.Need-row-at-requires Inv-loop μ-loop
-row-at-requires c κs =
-    let (j, h) = one (joined1→push c) in
-    let known = stands (turn (joined1→in-loop c) j h) .2 .0 in
-    ((j .cells, h .tables .sides .rows, known, omega (arith, known, h .holds .ready .fit .few-cells)), h .tables .shuts .size)
-
-shared-slice-read-wide : tie.Need-shared-slice-read-wide Inv-loop μ-loop
-shared-slice-read-wide c = let (j, h) = one (shared-slice-known8→push c) in omega (arith, stands (turn (shared-slice-known8→in-loop c) j h) .2 .0, h .hints, h .holds .ready .fit .few-cells)
-
-guess-requires : tie.Need-guess-requires Inv-loop μ-loop
-guess-requires c κs = let (j, h) = one (wide→push c) in let w = turn (wide→in-loop c) j h in (j, stands w, cells w _ (wide→row-at c .row-at .ensures))
-
-find-requires : tie.Need-find-requires Inv-loop μ-loop
-find-requires c κs = let (j, h) = one (find-arg→push c) in let w = turn (find-arg→in-loop c) j h in (j, stands w, cells w _ (find-arg→row-at c .row-at .ensures))
+leads-requires : tie.Need-leads-requires Inv-loop μ-loop
+leads-requires c κs =
+    let (j, h) = one (leads-arg→push c) in
+    let w = turn (leads-arg→in-loop c) j h in
+    ((j, holds w, top-inside w, h .tables .sides, h .tables .shuts, top-due w), h .tables .dues .size, h .hints)
 
 sub-depth : tie.Need-sub-depth Inv-loop μ-loop
-sub-depth c = omega (arith, enum-told3→in-loop c .loop-test .taken)
+sub-depth c = omega (arith, enum-told→in-loop c .loop-test .taken)
+
+via-requires : tie.Need-via-requires Inv-loop μ-loop
+via-requires c κs =
+    let (j, h) = one (via-arg→push c) in
+    entry-within (turn (via-arg→in-loop c) j h) (omega (arith, via-arg→in-loop c .loop-test .taken))
 
 sub-position : tie.Need-sub-position Inv-loop μ-loop
 sub-position c = omega (arith, position-arg→then3 c .if3 .taken)
@@ -112,8 +94,7 @@ sub-position c = omega (arith, position-arg→then3 c .if3 .taken)
 position-requires : tie.Need-position-requires Inv-loop μ-loop
 position-requires c κs =
     let (j, h) = one (position-arg→push c) in
-    let w = turn (position-arg→in-loop c) j h in
-    (stands w .0 .room, deep-enough w (omega arith))
+    entry-within (turn (position-arg→in-loop c) j h) (omega (arith, position-arg→in-loop c .loop-test .taken))
 
 loop-less : tie.Need-loop-less Inv-loop μ-loop
 loop-less c = omega (arith, position→in-loop c .loop-test .taken)
@@ -121,17 +102,18 @@ loop-less c = omega (arith, position→in-loop c .loop-test .taken)
 loop-again : tie.Need-loop-again Inv-loop μ-loop
 loop-again c = (
   position→loop c .loop .inv .0,
-  λ j h. record { run = popped (position→enum-told3 c) j h; top = λ z. top-at (turn (position→in-loop c) j h) (c .position .ensures .0) (c .position .ensures .1) },
+  λ j h. turn-pop (looked (position→leads c) j h) (position→enum-told c .enum-told .given .1) (omega (arith, position→then3 c .if3 .taken)) (c .position .ensures .0) (c .position .ensures .1)
+      (position→via c .via .ensures .0),
 )
 
 loop-less-2 : tie.Need-loop-less-2 Inv-loop μ-loop
 loop-less-2 c = omega (arith, else3→in-loop c .loop-test .taken)
 
 loop-again-2 : tie.Need-loop-again-2 Inv-loop μ-loop
-loop-again-2 c = (else3→loop c .loop .inv .0, λ j h. record { run = popped (else3→enum-told3 c) j h; top = λ z. absurd (omega (arith, c .if3 .left)) })
+loop-again-2 c = (else3→loop c .loop .inv .0, λ j h. turn-out (looked (else3→leads c) j h) (else3→enum-told c .enum-told .given .1) (omega (arith, c .if3 .left)))
 
 push-requires-2 : tie.Need-push-requires-2 Inv-loop μ-loop
-push-requires-2 c κs = let (j, h) = one (push-arg2→push c) in let e = push-arg2→found c .found .given in push-needs (looked (push-arg2→match-came c) j h) (e .0 .0) (e .0 .1 .0) (e .1)
+push-requires-2 c κs = let (j, h) = one (push-arg2→push c) in let e = push-arg2→found c .found .given in push-needs (looked (push-arg2→leads c) j h) (e .0 .0) (e .0 .1 .0) (e .1)
 
 add-depth : tie.Need-add-depth Inv-loop μ-loop
 add-depth c = let (j, h) = one (slice-known3→push c) in omega (arith, turn (slice-known3→in-loop c) j h .going .run .room, few-nodes j (h .holds .ready))
@@ -140,13 +122,13 @@ loop-less-3 : tie.Need-loop-less-3 Inv-loop μ-loop
 loop-less-3 c =
     let (j, h) = one (slice-known3→push c) in
     let e = slice-known3→found c .found .given in
-    omega (arith, turn-falls (looked (slice-known3→match-came c) j h) (e .0 .0) (e .0 .1 .0) (e .1) (slice-known3→push2 c .push2 .last .0) (slice-known3→push2 c .push2 .ensures))
+    omega (arith, turn-falls (looked (slice-known3→leads c) j h) (e .0 .0) (e .0 .1 .0) (e .1) (slice-known3→push2 c .push2 .last .0) (slice-known3→push2 c .push2 .ensures))
 
 loop-again-3 : tie.Need-loop-again-3 Inv-loop μ-loop
 loop-again-3 c = (
   search needs,
   λ j h. let e = slice-known3→found c .found .given in
-      turn-push (looked (slice-known3→match-came c) j h) (e .0 .0) (e .0 .1 .0) (e .1) (slice-known3→push2 c .push2 .last .0) (slice-known3→push2 c .push2 .ensures),
+      turn-push (looked (slice-known3→leads c) j h) (e .0 .0) (e .0 .1 .0) (e .1) (slice-known3→push2 c .push2 .last .0) (slice-known3→push2 c .push2 .ensures),
 )
 
 returns-2 : tie.Need-returns-2 Inv-loop μ-loop
@@ -156,6 +138,5 @@ pub search-spec : {M : Type 1} → statement M
 search-spec =
     tie.close
     (tie.spec
-    Inv-loop μ-loop push-requires loop-holds shared-slice-read-if2 (λ c. search needs) returns row-at-requires shared-slice-read-wide (λ c κs. search needs) guess-requires
-    (λ c. search needs) find-requires (λ c. search needs) (λ c. search needs) (λ c. search needs) sub-depth sub-position position-requires loop-less loop-again loop-less-2
-    loop-again-2 push-requires-2 add-depth loop-less-3 loop-again-3 (λ c. search needs) returns-2)
+    Inv-loop μ-loop push-requires loop-holds shared-slice-read-if2 (λ c. search needs) returns leads-requires (λ c. search needs) (λ c. search needs) sub-depth via-requires
+    sub-position position-requires loop-less loop-again loop-less-2 loop-again-2 push-requires-2 add-depth loop-less-3 loop-again-3 (λ c. search needs) returns-2)

@@ -2,17 +2,20 @@
 -- Made of the code by proof-names, which reads the lists below when the code has changed.
 -- All places in the code's order, each behind the one in front of it; where it is behind another, `X<Y` names that:
 -- Start After-shared-slice-known After-two-numbers-arg After-two-numbers At-match-keys1 After-cell After-known-told At-match-keys2<After-two-numbers After-enum-told
--- Then1<After-known-told Else1<After-known-told Then2 Else2<Else1 Then3 Else3<Else2
+-- After-whole-line Then1<After-known-told Else1<After-known-told Then2 Else2<Else1 Then3 Else3<Else2
 -- The needs, each with its place:
--- slice-aggregate-two-numbers@After-two-numbers-arg two-numbers-requires@After-two-numbers-arg enum-known-cell@At-match-keys1 enum-told@At-match-keys2 returns@After-enum-told
--- returns-2@Then1 returns-3@Then2 returns-4@Then3 returns-5@Else3
+-- slice-aggregate-two-numbers@After-two-numbers-arg two-numbers-requires@After-two-numbers-arg enum-known-cell@At-match-keys1 enum-told@At-match-keys2
+-- whole-line-requires@After-enum-told returns@After-whole-line returns-2@Then1 returns-3@Then2 returns-4@Then3 cast-t15@Else3 cast-t16@Else3 returns-5@Else3
 use Rattle.sheet.proofs.choke_line.Tie as tie
 
-abbrev pub enum-told→two-numbers : tie.After-enum-told → tie.After-two-numbers
-enum-told→two-numbers c = c .before .before
+abbrev pub whole-line→enum-told : tie.After-whole-line → tie.After-enum-told
+whole-line→enum-told c = c .before
 
-abbrev pub enum-told→start : tie.After-enum-told → tie.Start
-enum-told→start c = enum-told→two-numbers c .before .before .before
+abbrev pub whole-line→two-numbers : tie.After-whole-line → tie.After-two-numbers
+whole-line→two-numbers c = whole-line→enum-told c .before .before
+
+abbrev pub whole-line→start : tie.After-whole-line → tie.Start
+whole-line→start c = whole-line→two-numbers c .before .before .before
 
 abbrev pub then1→cell : tie.Then1 → tie.After-cell
 then1→cell c = c .before .before

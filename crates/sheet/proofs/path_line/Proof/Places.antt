@@ -3,11 +3,12 @@
 -- All places in the code's order, each behind the one in front of it; where it is behind another, `X<Y` names that:
 -- Start After-shared-slice-known After-slice-known After-two-numbers-arg After-two-numbers At-match-keys1 After-cart After-known-told At-match-keys2<After-two-numbers
 -- After-enum-told Then1<After-known-told Else1<After-known-told Then2 Else2<Else1 Then3 Else3<Else2 After-wide-arg After-wide After-read-cells-arg After-read-cells After-row
--- After-slice-known2 Then4 Else4<After-slice-known2
+-- After-slice-known2 After-size-fits-arg After-size-fits Then4 Else4<After-size-fits
 -- The needs, each with its place:
 -- slice-aggregate-two-numbers@After-two-numbers-arg two-numbers-requires@After-two-numbers-arg enum-known-cart@At-match-keys1 enum-told@At-match-keys2 returns@After-enum-told
 -- returns-2@Then1 returns-3@Then2 returns-4@Then3 element-copy-out-wide@Else3 wide-requires@After-wide-arg add-read-cells@After-wide add-read-cells-2@After-wide
--- read-cells-requires@After-read-cells-arg same-length@Then4 returns-5@Then4 same-length-2@Else4 returns-6@Else4
+-- read-cells-requires@After-read-cells-arg element-copy-out-size-fits@After-slice-known2 size-fits-requires@After-size-fits-arg same-length@Then4 returns-5@Then4 sub-t18@Else4
+-- same-length-2@Else4 returns-6@Else4
 use Rattle.sheet.proofs.path_line.Tie as tie
 
 abbrev pub enum-told→two-numbers : tie.After-enum-told → tie.After-two-numbers
@@ -58,8 +59,11 @@ read-cells-arg→cart c = c .before .before .before .before .before .before .bef
 abbrev pub read-cells-arg→two-numbers : tie.After-read-cells-arg → tie.After-two-numbers
 read-cells-arg→two-numbers c = read-cells-arg→cart c .before .before
 
+abbrev pub then4→size-fits : tie.Then4 → tie.After-size-fits
+then4→size-fits c = c .before
+
 abbrev pub then4→read-cells : tie.Then4 → tie.After-read-cells
-then4→read-cells c = c .before .before .before
+then4→read-cells c = then4→size-fits c .before .before .before .before
 
 abbrev pub then4→wide : tie.Then4 → tie.After-wide
 then4→wide c = then4→read-cells c .before .before
@@ -79,8 +83,11 @@ then4→cart c = then4→else1 c .before .before
 abbrev pub then4→two-numbers : tie.Then4 → tie.After-two-numbers
 then4→two-numbers c = then4→cart c .before .before
 
+abbrev pub else4→size-fits : tie.Else4 → tie.After-size-fits
+else4→size-fits c = c .before
+
 abbrev pub else4→read-cells : tie.Else4 → tie.After-read-cells
-else4→read-cells c = c .before .before .before
+else4→read-cells c = else4→size-fits c .before .before .before .before
 
 abbrev pub else4→wide : tie.Else4 → tie.After-wide
 else4→wide c = else4→read-cells c .before .before
@@ -99,3 +106,6 @@ else4→cart c = else4→else1 c .before .before
 
 abbrev pub else4→two-numbers : tie.Else4 → tie.After-two-numbers
 else4→two-numbers c = else4→cart c .before .before
+
+abbrev pub else4→start : tie.Else4 → tie.Start
+else4→start c = else4→two-numbers c .before .before .before .before

@@ -3,14 +3,15 @@
 -- All places in the code's order, each behind the one in front of it; where it is behind another, `X<Y` names that:
 -- Start After-shared-slice-known After-slice-known After-slice-known2 After-slice-known3 After-slice-known4 After-at After-next Then1 Else1<After-next After-head-line
 -- At-match-keys1 After-enum-told At-match-keys2<After-head-line After-enum-told2 After-job After-read-paths-arg After-read-paths-arg2 After-read-paths-arg3 After-read-paths-arg4
--- After-read-paths-arg5 After-read-paths After-first After-slice-known5 After-second After-slice-known6 After-lasts After-slice-known7 After-rows After-slice-known8 Then2
--- Else2<After-slice-known8 At-match-keys3<After-head-line After-head After-known-told After-job2 After-horizon-arg After-horizon After-read-chokes-arg After-read-chokes-arg2
--- After-read-chokes After-first2 After-slice-known9 After-second2 After-slice-known10 Then3 Else3<After-slice-known10
+-- After-read-paths-arg5 After-read-paths-arg6 After-read-paths After-first After-slice-known5 After-second After-slice-known6 After-lasts After-slice-known7 After-rows
+-- After-slice-known8 Then2 Else2<After-slice-known8 At-match-keys3<After-head-line After-head After-known-told After-job2 After-horizon-arg After-horizon After-job3
+-- After-read-chokes-arg After-read-chokes-arg2 After-read-chokes-arg3 After-read-chokes-arg4 After-read-chokes After-first2 After-slice-known9 After-second2 After-slice-known10
+-- After-lasts2 After-slice-known11 Then3 Else3<After-slice-known11
 -- The needs, each with its place:
 -- next-requires@After-at returns@Then1 head-line-requires@Else1 enum-told@At-match-keys1 returns-2@After-enum-told enum-told-2@At-match-keys2
--- read-paths-requires@After-read-paths-arg5 same-length@Then2 same-length-2@Then2 same-length-3@Then2 same-length-4@Then2 returns-3@Then2 same-length-5@Else2 same-length-6@Else2
--- same-length-7@Else2 same-length-8@Else2 returns-4@Else2 enum-known-head@At-match-keys3 horizon-requires@After-horizon-arg read-chokes-requires@After-read-chokes-arg2
--- same-length-9@Then3 same-length-10@Then3 returns-5@Then3 same-length-11@Else3 same-length-12@Else3 returns-6@Else3
+-- read-paths-requires@After-read-paths-arg6 same-length@Then2 same-length-2@Then2 same-length-3@Then2 same-length-4@Then2 returns-3@Then2 same-length-5@Else2 same-length-6@Else2
+-- same-length-7@Else2 same-length-8@Else2 returns-4@Else2 enum-known-head@At-match-keys3 horizon-requires@After-horizon-arg read-chokes-requires@After-read-chokes-arg4
+-- same-length-9@Then3 same-length-10@Then3 same-length-11@Then3 returns-5@Then3 same-length-12@Else3 same-length-13@Else3 same-length-14@Else3 returns-6@Else3
 use Rattle.sheet.proofs.read_sheet.Tie as tie
 
 abbrev pub then1→next : tie.Then1 → tie.After-next
@@ -35,7 +36,7 @@ abbrev pub enum-told→start : tie.After-enum-told → tie.Start
 enum-told→start c = head-line→start (enum-told→head-line c)
 
 abbrev pub read-paths→enum-told2 : tie.After-read-paths → tie.After-enum-told2
-read-paths→enum-told2 c = c .before .before .before .before .before .before .before
+read-paths→enum-told2 c = c .before .before .before .before .before .before .before .before
 
 abbrev pub read-paths→head-line : tie.After-read-paths → tie.After-head-line
 read-paths→head-line c = read-paths→enum-told2 c .before .before
@@ -58,17 +59,17 @@ known-told→head-line c = known-told→head c .before .before
 abbrev pub known-told→start : tie.After-known-told → tie.Start
 known-told→start c = head-line→start (known-told→head-line c)
 
-abbrev pub read-chokes-arg2→horizon : tie.After-read-chokes-arg2 → tie.After-horizon
-read-chokes-arg2→horizon c = c .before .before
+abbrev pub read-chokes-arg4→horizon : tie.After-read-chokes-arg4 → tie.After-horizon
+read-chokes-arg4→horizon c = c .before .before .before .before .before
 
-abbrev pub read-chokes-arg2→known-told : tie.After-read-chokes-arg2 → tie.After-known-told
-read-chokes-arg2→known-told c = read-chokes-arg2→horizon c .before .before .before
+abbrev pub read-chokes-arg4→known-told : tie.After-read-chokes-arg4 → tie.After-known-told
+read-chokes-arg4→known-told c = read-chokes-arg4→horizon c .before .before .before
 
-abbrev pub read-chokes-arg2→start : tie.After-read-chokes-arg2 → tie.Start
-read-chokes-arg2→start c = known-told→start (read-chokes-arg2→known-told c)
+abbrev pub read-chokes-arg4→start : tie.After-read-chokes-arg4 → tie.Start
+read-chokes-arg4→start c = known-told→start (read-chokes-arg4→known-told c)
 
 abbrev pub read-chokes→horizon : tie.After-read-chokes → tie.After-horizon
-read-chokes→horizon c = read-chokes-arg2→horizon (c .before)
+read-chokes→horizon c = read-chokes-arg4→horizon (c .before)
 
 abbrev pub read-chokes→head : tie.After-read-chokes → tie.After-head
 read-chokes→head c = read-chokes→horizon c .before .before .before .before
@@ -80,10 +81,10 @@ abbrev pub read-chokes→start : tie.After-read-chokes → tie.Start
 read-chokes→start c = head-line→start (read-chokes→head-line c)
 
 abbrev pub then3→read-chokes : tie.Then3 → tie.After-read-chokes
-then3→read-chokes c = c .before .before .before .before .before
+then3→read-chokes c = c .before .before .before .before .before .before .before
 
 abbrev pub else3→read-chokes : tie.Else3 → tie.After-read-chokes
-else3→read-chokes c = c .before .before .before .before .before
+else3→read-chokes c = c .before .before .before .before .before .before .before
 
 abbrev pub else3→known-told : tie.Else3 → tie.After-known-told
-else3→known-told c = else3→read-chokes c .before .before .before .before .before .before
+else3→known-told c = read-chokes-arg4→known-told (c .before .before .before .before .before .before .before .before)

@@ -3,14 +3,15 @@
 -- All places in the code's order, each behind the one in front of it; where it is behind another, `X<Y` names that:
 -- Start After-slice-known After-slice-known2 After-solve-arg After-first After-second After-lasts After-rows After-solve After-store After-slice-known3 After-first2 After-second2
 -- After-lasts2 After-rows2 At-match-keys1 After-enum-told After-first3 After-second3 After-lasts3 After-rows3 After-put-plan-arg After-put-plan After-sheet After-slice-known4
--- After-packed At-match-keys2<After-rows2 After-solution After-known-told After-first4 After-second4 After-put-cannot-arg After-put-cannot After-sheet2 After-slice-known5
--- After-packed2
+-- After-packed At-match-keys2<After-rows2 After-solution After-known-told After-first4 After-second4 After-lasts4 After-put-cannot-arg After-put-cannot After-sheet2
+-- After-slice-known5 After-packed2
 -- The needs, each with its place:
 -- slice-aggregate-solve@After-first slice-aggregate-solve-2@After-second slice-aggregate-solve-3@After-lasts slice-aggregate-solve-4@After-rows solve-requires@After-rows
 -- enum-told@At-match-keys1 slice-aggregate-put-plan@After-first3 slice-aggregate-put-plan-2@After-second3 slice-aggregate-put-plan-3@After-lasts3
 -- slice-aggregate-put-plan-4@After-rows3 put-plan-requires@After-put-plan-arg packed-requires@After-slice-known4 same-length@After-packed same-length-2@After-packed
 -- returns@After-packed enum-known-solution@At-match-keys2 slice-aggregate-put-cannot@After-first4 slice-aggregate-put-cannot-2@After-second4
--- put-cannot-requires@After-put-cannot-arg packed-requires-2@After-slice-known5 same-length-3@After-packed2 same-length-4@After-packed2 returns-2@After-packed2
+-- slice-aggregate-put-cannot-3@After-lasts4 put-cannot-requires@After-put-cannot-arg packed-requires-2@After-slice-known5 same-length-3@After-packed2 same-length-4@After-packed2
+-- returns-2@After-packed2
 use Rattle.planner.proofs.plan.plan_job.Tie as tie
 
 abbrev pub solve→start : tie.After-solve → tie.Start
@@ -50,7 +51,7 @@ abbrev pub packed→start : tie.After-packed → tie.Start
 packed→start c = solve→start (packed→solve c)
 
 abbrev pub put-cannot-arg→solution : tie.After-put-cannot-arg → tie.After-solution
-put-cannot-arg→solution c = c .before .before .before .before
+put-cannot-arg→solution c = c .before .before .before .before .before
 
 abbrev pub put-cannot-arg→solve : tie.After-put-cannot-arg → tie.After-solve
 put-cannot-arg→solve c = put-cannot-arg→solution c .before .before .before .before .before .before .before .before

@@ -7,10 +7,10 @@
 -- After-write-answer-arg4 After-write-answer-arg5 After-write-answer After-first After-slice-known9 After-second2 After-slice-known10 After-lasts After-slice-known11 After-rows
 -- After-slice-known12
 -- The needs, each with its place:
--- last-step-requires@After-slice-known5 add-nodes@After-last-step mul-nodes@After-last-step wipe-requires@After-wipe-arg by-deadline-requires@After-by-deadline-arg3
--- slice-aggregate-serve-job@After-cart-on serve-job-requires@After-serve-job-arg2 slice-aggregate-write-answer@After-cart-on3 write-answer-requires@After-write-answer-arg5
--- same-length@After-slice-known12 same-length-2@After-slice-known12 same-length-3@After-slice-known12 same-length-4@After-slice-known12 same-length-5@After-slice-known12
--- returns@After-slice-known12
+-- last-step-requires@After-slice-known5 add-top@After-last-step add-nodes@After-last-step mul-nodes@After-last-step wipe-requires@After-wipe-arg
+-- by-deadline-requires@After-by-deadline-arg3 slice-aggregate-serve-job@After-cart-on serve-job-requires@After-serve-job-arg2 slice-aggregate-write-answer@After-cart-on3
+-- write-answer-requires@After-write-answer-arg5 same-length@After-slice-known12 same-length-2@After-slice-known12 same-length-3@After-slice-known12
+-- same-length-4@After-slice-known12 same-length-5@After-slice-known12 returns@After-slice-known12
 use Rattle.planner.proofs.solve.solve.Tie as tie
 
 abbrev pub last-step→start : tie.After-last-step → tie.Start

@@ -3,14 +3,12 @@
 -- All places in the code's order, each behind the one in front of it; where it is behind another, `X<Y` names that:
 -- Start After-shared-slice-known After-shared-slice-known2 After-shared-slice-known3 After-shared-slice-known4 After-shared-slice-known5 After-shared-slice-known6
 -- After-slice-known After-push-arg After-push After-store After-slice-known2 At-loop In-loop After-loop<At-loop After-struct-known<In-loop Then1 After-shared-slice-known7 Then2
--- Else2<After-shared-slice-known7 Else1<After-struct-known Joined1<After-struct-known After-row-at After-guess-arg After-shared-slice-known8 After-wide After-guess At-match-keys1
--- After-enum-told After-find-arg After-find At-match-keys2<After-guess After-enum-told2 At-match-came<After-guess At-match2-keys1 After-found After-known-told
--- At-match2-keys2<At-match-came After-enum-told3 Then3 After-position-arg After-position Else3<After-enum-told3 After-push-arg2<After-known-told After-push2 After-store2
--- After-slice-known3
+-- Else2<After-shared-slice-known7 Else1<After-struct-known Joined1<After-struct-known After-leads-arg After-leads At-match-keys1 After-found After-known-told
+-- At-match-keys2<After-leads After-enum-told Then3 After-via-arg After-via After-position-arg After-position Else3<After-enum-told After-push-arg2<After-known-told After-push2
+-- After-store2 After-slice-known3
 -- The needs, each with its place:
--- push-requires@After-push-arg loop-holds@After-slice-known2 shared-slice-read-if2@After-shared-slice-known7 same-length@Then2 returns@Then2 row-at-requires@Joined1
--- shared-slice-read-wide@After-shared-slice-known8 wide-requires@After-shared-slice-known8 guess-requires@After-wide enum-told@At-match-keys1 find-requires@After-find-arg
--- enum-told-2@At-match-keys2 enum-known-found@At-match2-keys1 enum-told-3@At-match2-keys2 sub-depth@After-enum-told3 sub-position@After-position-arg
+-- push-requires@After-push-arg loop-holds@After-slice-known2 shared-slice-read-if2@After-shared-slice-known7 same-length@Then2 returns@Then2 leads-requires@After-leads-arg
+-- enum-known-found@At-match-keys1 enum-told@At-match-keys2 sub-depth@After-enum-told via-requires@After-via-arg sub-position@After-position-arg
 -- position-requires@After-position-arg loop-less@After-position loop-again@After-position loop-less-2@Else3 loop-again-2@Else3 push-requires-2@After-push-arg2
 -- add-depth@After-slice-known3 loop-less-3@After-slice-known3 loop-again-3@After-slice-known3 same-length-2@After-loop returns-2@After-loop
 use Rattle.route.proofs.search.search.Tie as tie
@@ -70,101 +68,83 @@ module _ {Inv : tie.InvT-loop} {μ : tie.MeasureT-loop} where
   abbrev pub joined1→push : tie.Joined1 Inv μ → tie.After-push Inv μ
   joined1→push c = in-loop→push (joined1→in-loop c)
 
-  abbrev pub shared-slice-known8→in-loop : tie.After-shared-slice-known8 Inv μ → tie.In-loop Inv μ
-  shared-slice-known8→in-loop c = joined1→in-loop (c .before .before .before)
+  abbrev pub leads-arg→in-loop : tie.After-leads-arg Inv μ → tie.In-loop Inv μ
+  leads-arg→in-loop c = joined1→in-loop (c .before)
 
-  abbrev pub shared-slice-known8→push : tie.After-shared-slice-known8 Inv μ → tie.After-push Inv μ
-  shared-slice-known8→push c = in-loop→push (shared-slice-known8→in-loop c)
+  abbrev pub leads-arg→push : tie.After-leads-arg Inv μ → tie.After-push Inv μ
+  leads-arg→push c = in-loop→push (leads-arg→in-loop c)
 
-  abbrev pub wide→row-at : tie.After-wide Inv μ → tie.After-row-at Inv μ
-  wide→row-at c = c .before .before .before
+  abbrev pub leads→joined1 : tie.After-leads Inv μ → tie.Joined1 Inv μ
+  leads→joined1 c = c .before .before
 
-  abbrev pub wide→in-loop : tie.After-wide Inv μ → tie.In-loop Inv μ
-  wide→in-loop c = shared-slice-known8→in-loop (c .before)
+  abbrev pub leads→in-loop : tie.After-leads Inv μ → tie.In-loop Inv μ
+  leads→in-loop c = joined1→in-loop (leads→joined1 c)
 
-  abbrev pub wide→push : tie.After-wide Inv μ → tie.After-push Inv μ
-  wide→push c = in-loop→push (wide→in-loop c)
+  abbrev pub leads→loop : tie.After-leads Inv μ → tie.At-loop Inv μ
+  leads→loop c = joined1→loop (leads→joined1 c)
 
-  abbrev pub find-arg→row-at : tie.After-find-arg Inv μ → tie.After-row-at Inv μ
-  find-arg→row-at c = wide→row-at (c .before .before .before .before)
+  abbrev pub leads→push : tie.After-leads Inv μ → tie.After-push Inv μ
+  leads→push c = joined1→push (leads→joined1 c)
 
-  abbrev pub find-arg→in-loop : tie.After-find-arg Inv μ → tie.In-loop Inv μ
-  find-arg→in-loop c = find-arg→row-at c .before .before .before
+  abbrev pub leads→start : tie.After-leads Inv μ → tie.Start Inv μ
+  leads→start c = in-loop→start (leads→in-loop c)
 
-  abbrev pub find-arg→push : tie.After-find-arg Inv μ → tie.After-push Inv μ
-  find-arg→push c = in-loop→push (find-arg→in-loop c)
+  abbrev pub enum-told→in-loop : tie.After-enum-told Inv μ → tie.In-loop Inv μ
+  enum-told→in-loop c = leads→in-loop (c .before .before)
 
-  abbrev pub match-came→guess : tie.At-match-came Inv μ → tie.After-guess Inv μ
-  match-came→guess c = c .before
+  abbrev pub via-arg→in-loop : tie.After-via-arg Inv μ → tie.In-loop Inv μ
+  via-arg→in-loop c = enum-told→in-loop (c .before .before)
 
-  abbrev pub match-came→row-at : tie.At-match-came Inv μ → tie.After-row-at Inv μ
-  match-came→row-at c = wide→row-at (c .before .before)
-
-  abbrev pub match-came→joined1 : tie.At-match-came Inv μ → tie.Joined1 Inv μ
-  match-came→joined1 c = match-came→row-at c .before
-
-  abbrev pub match-came→in-loop : tie.At-match-came Inv μ → tie.In-loop Inv μ
-  match-came→in-loop c = joined1→in-loop (match-came→joined1 c)
-
-  abbrev pub match-came→loop : tie.At-match-came Inv μ → tie.At-loop Inv μ
-  match-came→loop c = joined1→loop (match-came→joined1 c)
-
-  abbrev pub match-came→push : tie.At-match-came Inv μ → tie.After-push Inv μ
-  match-came→push c = joined1→push (match-came→joined1 c)
-
-  abbrev pub match-came→start : tie.At-match-came Inv μ → tie.Start Inv μ
-  match-came→start c = in-loop→start (match-came→in-loop c)
-
-  abbrev pub enum-told3→match-came : tie.After-enum-told3 Inv μ → tie.At-match-came Inv μ
-  enum-told3→match-came c = c .before .before
-
-  abbrev pub enum-told3→in-loop : tie.After-enum-told3 Inv μ → tie.In-loop Inv μ
-  enum-told3→in-loop c = match-came→in-loop (enum-told3→match-came c)
-
-  abbrev pub enum-told3→loop : tie.After-enum-told3 Inv μ → tie.At-loop Inv μ
-  enum-told3→loop c = match-came→loop (enum-told3→match-came c)
-
-  abbrev pub enum-told3→push : tie.After-enum-told3 Inv μ → tie.After-push Inv μ
-  enum-told3→push c = match-came→push (enum-told3→match-came c)
-
-  abbrev pub enum-told3→start : tie.After-enum-told3 Inv μ → tie.Start Inv μ
-  enum-told3→start c = match-came→start (enum-told3→match-came c)
+  abbrev pub via-arg→push : tie.After-via-arg Inv μ → tie.After-push Inv μ
+  via-arg→push c = in-loop→push (via-arg→in-loop c)
 
   abbrev pub position-arg→then3 : tie.After-position-arg Inv μ → tie.Then3 Inv μ
-  position-arg→then3 c = c .before
+  position-arg→then3 c = c .before .before .before
 
   abbrev pub position-arg→in-loop : tie.After-position-arg Inv μ → tie.In-loop Inv μ
-  position-arg→in-loop c = enum-told3→in-loop (c .before .before)
+  position-arg→in-loop c = via-arg→in-loop (c .before .before)
 
   abbrev pub position-arg→push : tie.After-position-arg Inv μ → tie.After-push Inv μ
   position-arg→push c = in-loop→push (position-arg→in-loop c)
 
-  abbrev pub position→enum-told3 : tie.After-position Inv μ → tie.After-enum-told3 Inv μ
-  position→enum-told3 c = c .before .before .before
+  abbrev pub position→via : tie.After-position Inv μ → tie.After-via Inv μ
+  position→via c = c .before .before
+
+  abbrev pub position→then3 : tie.After-position Inv μ → tie.Then3 Inv μ
+  position→then3 c = position-arg→then3 (c .before)
+
+  abbrev pub position→enum-told : tie.After-position Inv μ → tie.After-enum-told Inv μ
+  position→enum-told c = position→then3 c .before
+
+  abbrev pub position→leads : tie.After-position Inv μ → tie.After-leads Inv μ
+  position→leads c = position→enum-told c .before .before
 
   abbrev pub position→in-loop : tie.After-position Inv μ → tie.In-loop Inv μ
-  position→in-loop c = enum-told3→in-loop (position→enum-told3 c)
+  position→in-loop c = enum-told→in-loop (position→enum-told c)
 
   abbrev pub position→loop : tie.After-position Inv μ → tie.At-loop Inv μ
-  position→loop c = enum-told3→loop (position→enum-told3 c)
+  position→loop c = leads→loop (position→leads c)
 
-  abbrev pub else3→enum-told3 : tie.Else3 Inv μ → tie.After-enum-told3 Inv μ
-  else3→enum-told3 c = c .before
+  abbrev pub else3→enum-told : tie.Else3 Inv μ → tie.After-enum-told Inv μ
+  else3→enum-told c = c .before
+
+  abbrev pub else3→leads : tie.Else3 Inv μ → tie.After-leads Inv μ
+  else3→leads c = else3→enum-told c .before .before
 
   abbrev pub else3→in-loop : tie.Else3 Inv μ → tie.In-loop Inv μ
-  else3→in-loop c = enum-told3→in-loop (else3→enum-told3 c)
+  else3→in-loop c = enum-told→in-loop (else3→enum-told c)
 
   abbrev pub else3→loop : tie.Else3 Inv μ → tie.At-loop Inv μ
-  else3→loop c = enum-told3→loop (else3→enum-told3 c)
+  else3→loop c = leads→loop (else3→leads c)
 
   abbrev pub push-arg2→found : tie.After-push-arg2 Inv μ → tie.After-found Inv μ
   push-arg2→found c = c .before .before
 
-  abbrev pub push-arg2→match-came : tie.After-push-arg2 Inv μ → tie.At-match-came Inv μ
-  push-arg2→match-came c = push-arg2→found c .before .before
+  abbrev pub push-arg2→leads : tie.After-push-arg2 Inv μ → tie.After-leads Inv μ
+  push-arg2→leads c = push-arg2→found c .before .before
 
   abbrev pub push-arg2→push : tie.After-push-arg2 Inv μ → tie.After-push Inv μ
-  push-arg2→push c = match-came→push (push-arg2→match-came c)
+  push-arg2→push c = leads→push (push-arg2→leads c)
 
   abbrev pub slice-known3→push2 : tie.After-slice-known3 Inv μ → tie.After-push2 Inv μ
   slice-known3→push2 c = c .before .before
@@ -172,11 +152,11 @@ module _ {Inv : tie.InvT-loop} {μ : tie.MeasureT-loop} where
   abbrev pub slice-known3→found : tie.After-slice-known3 Inv μ → tie.After-found Inv μ
   slice-known3→found c = slice-known3→push2 c .before .before .before
 
-  abbrev pub slice-known3→match-came : tie.After-slice-known3 Inv μ → tie.At-match-came Inv μ
-  slice-known3→match-came c = slice-known3→found c .before .before
+  abbrev pub slice-known3→leads : tie.After-slice-known3 Inv μ → tie.After-leads Inv μ
+  slice-known3→leads c = slice-known3→found c .before .before
 
   abbrev pub slice-known3→in-loop : tie.After-slice-known3 Inv μ → tie.In-loop Inv μ
-  slice-known3→in-loop c = match-came→in-loop (slice-known3→match-came c)
+  slice-known3→in-loop c = leads→in-loop (slice-known3→leads c)
 
   abbrev pub slice-known3→push : tie.After-slice-known3 Inv μ → tie.After-push Inv μ
-  slice-known3→push c = match-came→push (slice-known3→match-came c)
+  slice-known3→push c = leads→push (slice-known3→leads c)

@@ -1,0 +1,45 @@
+-- `from_call` has the steps of the call's window tried that are below `below`. The window begins at a bay's own step, since that closes its cell, and at 0 for a lift.
+-- No loop. Assumes nothing.
+use Prim.Native.Nat.{min}
+use mathlib.Core.Path.{_≡_, sym, _∙_, subst₂}
+use mathlib.Core.Logic.{⊎-elim}
+use native.Mathlib.Omega.{arith}
+use denote.Ref.{now}
+use lib.ListN.{getD}
+use Rattle.route.specs.Finds.{Stamped, Tries, firstOf}
+use Rattle.route.proofs.SearchFinds.{first-bay, first-lift}
+use borrow.Author.Needs.{needs}
+use Rattle.route.proofs.search.from_call.Statement.{statement}
+use Rattle.route.proofs.search.from_call.Tie as tie
+mod Places
+use Places.*
+
+-- A cell is open at step 0, so that a call on one that is closed in time is due later.
+sub-first : tie.Need-sub-first
+sub-first c =
+    let (j, h, o, k, l) = then1→start c .pre .0 in
+    omega (arith, c .if1 .taken, o .opens (then1→start c .args .cell) 0 (omega (arith, h .ready .fit .few-cells)) (omega arith) .1 (λ q m b e. omega arith))
+
+past-is : (c : tie.Joined2) → (let a = joined2→start c .args in c .if2 .past ≡ min (getD (now (a .due)) (a .cell) 0) (a .below))
+past-is c = ⊎-elim (λ w. omega (arith, w)) (λ w. omega (arith, w)) (c .if2 .came)
+
+from-steps-requires : tie.Need-from-steps-requires
+from-steps-requires c κs = let (j, h, o, k, l) = joined2→start c .pre .0 in (j, h, k, omega (arith, past-is c))
+
+first-is : (c : tie.Joined1) → (let a = joined1→start c .args in c .if1 .first ≡ firstOf (now (a .due)) (now (a .shut)) (a .cell))
+first-is c =
+    let a = joined1→start c .args in
+    ⊎-elim (λ w. w .1 ∙ sym (first-bay (now (a .due)) (now (a .shut)) (a .cell) (w .0 .taken))) (λ w. w .1 ∙ sym (first-lift (now (a .due)) (now (a .shut)) (a .cell) (w .0 .left))) (c .if1 .came)
+
+returns : tie.Need-returns
+returns c =
+    let a = from-steps→start c .args in
+    subst₂ (λ first past. Tries (a .grid) (now (a .store)) (a .cell) first past (Stamped (a .grid) (now (a .store)) (a .stamp)) (c .from-steps .result))
+    (first-is (from-steps→joined1 c)) (past-is (from-steps→joined2 c)) (c .from-steps .ensures)
+
+pub from-call-spec : {M : Type 1} → statement M
+from-call-spec =
+    tie.close
+    (tie.spec
+    (λ c. search needs) (λ c. search needs) (λ c. search needs) (λ c. search needs) (λ c. search needs) (λ c. search needs) (λ c. search needs) sub-first from-steps-requires
+    returns)
