@@ -119,7 +119,7 @@ mod tests {
     fn the_longest_sheets() {
         let lines =
             |word: &str, more: &str| -> String { (192..256).map(|cell| format!("{word}\t{cell}{more}\n")).collect() };
-        let job = format!("FLOOR\t256\n{}{}", lines("CART", ""), lines("CALL", "\t255")).into_bytes();
+        let job = format!("FLOOR\t256\n{}{}", lines("CART", ""), lines("BAY", "\t255")).into_bytes();
         let mut buffers = Buffers::default();
         let (verdict, sheet) = buffers.plan(&job).expect("a sheet that passes");
         assert_eq!(verdict, Verdict::Plan);

@@ -199,12 +199,12 @@ fn the_owner_stays() {
 fn the_longest_sheet() {
     let folder = Folder::new();
     let lines = |word: &str, more: &str| (192..256).map(|cell| format!("{word} {cell}{more}\n")).collect::<String>();
-    folder.put("x.job", tabs(&format!("FLOOR 256\n{}{}", lines("CART", ""), lines("CALL", " 255"))));
+    folder.put("x.job", tabs(&format!("FLOOR 256\n{}{}", lines("CART", ""), lines("BAY", " 255"))));
     folder.floors(&["plan", "-q"]).expect(0, "", "");
     let path = |i: usize| format!("PATH {i} {i}{}\n", format!(" {}", 192 + i).repeat(256));
     let expected = format!("PLAN 64\n{}", (0..64).map(path).collect::<String>());
     assert!(expected.len() > 65_536);
-    assert_eq!(folder.get("x.sheet"), tabs(&expected), "no track: every cart stands");
+    assert_eq!(folder.get("x.sheet"), tabs(&expected), "no track and no lift: every cart stands");
     folder.floors(&["check", "-q"]).expect(0, "", "");
 }
 

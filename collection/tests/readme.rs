@@ -44,15 +44,17 @@ fn lines(shown: &[String]) -> Vec<u8> {
     shown.iter().map(line).collect::<String>().into_bytes()
 }
 
-/// The job and its plan, that of a job whose calls are in another order than their cells, and a job that has none.
+/// The job and its plan, that of a job whose calls are in another order than their cells, a job that has none, one that needs an
+/// early lift and one that needs a whole call.
 #[test]
 fn the_examples() {
     let example = |name: &str| fs::read(format!("{ROOT}/examples/{name}.job")).expect("an example");
     let sheet = |words: &str| lines(&shown_behind(words));
     let job = lines(&shown_behind("## A job"));
     assert_eq!(job, example("bay"));
-    let sheets = [sheet("## Its sheet"), sheet("In `examples/a.job`"), sheet("In `examples/closed.job`")];
-    for (job, sheet) in [job, example("a"), example("closed")].into_iter().zip(sheets) {
+    let named = |name: &str| (example(name), sheet(&format!("In `examples/{name}.job`")));
+    let shown = [(job, sheet("## Its sheet")), named("a"), named("closed"), named("early"), named("whole")];
+    for (job, sheet) in shown {
         Folder::new().floors_with(&["plan", "-"], &job).expect(0, std::str::from_utf8(&sheet).expect("text"), "");
     }
 }

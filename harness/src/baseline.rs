@@ -1,7 +1,7 @@
 //! A planner in plain Rust without proofs: what the library's planner is timed against.
 //!
-//! The same graph and the same lent buffers, the store wiped at the end. From each call in the written order it searches
-//! back to a free cart, along a guess first. It trusts the job: no line is refused. `map` turns maps into floors.
+//! The same algorithm and the same lent buffers, the store wiped at the end. From each call in the written order it
+//! searches back to a free cart, along a guess first. It trusts the job: no line is refused. `map` turns maps into floors.
 
 mod aim;
 mod augment;
@@ -27,8 +27,6 @@ pub trait Mode {
     const STAND_FIRST: bool = false;
     /// A node that is come back to goes on with the tracks that were not looked at.
     const KEEP_PLACE: bool = true;
-    /// A call is sought with short walks first, and not at once as late as can be.
-    const EARLY: bool = true;
     /// A position is put on the stack.
     fn visit(&mut self) {}
     /// A neighbour of a position is looked at.
@@ -48,13 +46,11 @@ fn solve<M: Mode>(j: &Job, p: &mut Planes, mode: &mut M) -> Result<(), (usize, u
         *hint = j.stand::<M>(c) as u8;
     }
     for &q in &j.order[..j.calls] {
-        let (cell, due) = (j.call[q as usize].0 as usize, j.call[q as usize].1 as usize);
-        let far = aim::<M>(j, p, cell, &mut hint);
-        // Short walks leave the floor to others, and are soon written: at first up to twice as long as the guess.
-        let mut left_out = if M::EARLY && !j.has_bay(cell) { due.saturating_sub(2 * far) } else { 0 };
+        let cell = j.call[q as usize].0 as usize;
+        // Short walks leave the floor to others, and are soon written: first one twice as long as the guess.
+        let soon = 2 * aim::<M>(j, p, cell, &mut hint);
         let depth = loop {
-            match search(j, p, &hint, (cell, left_out), stamp, mode) {
-                0 if left_out > 0 => left_out = 0,
+            match search(j, p, &hint, (cell, soon), stamp, mode) {
                 0 if dirty => (stamp, dirty) = (stamp + 1, false),
                 0 => return Err((q as usize, stamp)),
                 depth => break depth,

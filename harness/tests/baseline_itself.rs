@@ -12,6 +12,7 @@ use harness::model::answer::*;
 use harness::model::check::check;
 use harness::model::job::{Call, Job};
 use harness::model::limits::{sheet_least, store_least};
+use harness::model::sheet::{read, Sheet};
 use harness::tally::Tally;
 
 /// As the library goes.
@@ -20,7 +21,6 @@ struct AsTheLibrary;
 impl Mode for AsTheLibrary {
     const STAND_FIRST: bool = true;
     const KEEP_PLACE: bool = false;
-    const EARLY: bool = false;
 }
 
 /// The answer, the same in both ways, after the model has passed both sheets.
@@ -77,15 +77,32 @@ fn jobs_that_only_an_early_lift_serves_and_lists_that_need_whole_calls() {
     }
 }
 
-/// Two steps away, and a deadline far behind them.
+/// At which step the last call on the sheet is met, the same in both ways.
+fn last_met(job: &Job) -> usize {
+    let (mut store, mut sheet) = (vec![1; store_least(job)], vec![1; sheet_least(job)]);
+    let met = |packed: u64, sheet: &[u8]| match read(&sheet[..unpack(packed).1], job) {
+        Ok(Sheet::Plan(paths)) => paths[paths.len() - 1].cells.len() - 1,
+        other => panic!("{other:?}"),
+    };
+    let quick = plan(&job.text(), &mut store, &mut sheet);
+    let quick = met(quick, &sheet);
+    let other = plan_by(&mut AsTheLibrary, &job.text(), &mut store, &mut sheet);
+    assert_eq!(met(other, &sheet), quick);
+    quick
+}
+
 #[test]
-fn short_walks_come_first() {
-    let job = Job { carts: vec![0], calls: vec![Call::lift(2, 9)], ..line(3) };
-    let (mut store, mut sheet) = (vec![1; store_least(&job)], vec![1; sheet_least(&job)]);
-    let (_, len) = unpack(plan(&job.text(), &mut store, &mut sheet));
-    assert_eq!(&sheet[..len], b"PLAN\t1\nPATH\t0\t0\t0\t0\t0\t1\t2\n");
-    let (_, len) = unpack(plan_by(&mut AsTheLibrary, &job.text(), &mut store, &mut sheet));
-    assert_eq!(&sheet[..len], b"PLAN\t1\nPATH\t0\t0\t0\t0\t0\t0\t0\t0\t0\t0\t1\t2\n");
+fn at_twice_as_many_steps_as_the_way_has_else_as_late_as_can_be() {
+    let called = |call: Call| last_met(&Job { carts: vec![0], calls: vec![call], ..line(3) });
+    assert_eq!(called(Call::lift(2, 9)), 4);
+    assert_eq!(called(Call::lift(2, 4)), 4);
+    assert_eq!(called(Call::lift(2, 3)), 3);
+    assert_eq!(called(Call::lift(0, 9)), 0);
+    assert_eq!(called(Call::bay(2, 9)), 9);
+    // On a ring, where who parks on cell 1 leaves only the other way round, of five steps.
+    let mut ring = Job { carts: vec![0, 1], calls: vec![Call::bay(1, 0), Call::lift(2, 9)], ..line(7) };
+    ring.tracks.push((6, 0));
+    assert_eq!(last_met(&ring), 9);
 }
 
 #[test]

@@ -25,8 +25,12 @@ fn carts_on_the_largest_grid() {
 
 #[test]
 fn a_sheet_over_65_535_bytes() {
-    let (job, _) = standing(ring(), limits::CARTS, limits::DEADLINE);
+    let (mut job, _) = standing(ring(), limits::CARTS, limits::DEADLINE);
     assert_eq!(job.text().len(), 8586);
+    // In bays, since a lift would take the carts early.
+    for call in &mut job.calls {
+        *call = Call::bay(call.cell, call.deadline);
+    }
     let (answer, sheet) = planned(&job);
     assert_eq!(answer, PLAN);
     assert!(sheet.len() > 65_535, "{} bytes", sheet.len());

@@ -54,7 +54,7 @@ fn expand(
     tail
 }
 
-// From the cart's cell c to the call's cell: each cell on the way is told where to come from. No way has more steps than the floor has cells.
+// From the cart's cell c to the call's cell: each cell on the way is told where to come from. Answers how many steps the way has: no more than the floor has cells.
 fn trace<'a>(
     hint: &mut [u8],
     to: &'a [u8; Limits::CELLS],
@@ -62,22 +62,23 @@ fn trace<'a>(
     cells: usize,
     c: usize,
     cell: usize,
-)
+) -> usize
     requires { ⌜ (length (now hint) ≡ maxCells) × (c < maxCells) ⌝ }
-    ensures { λ _. ⌜ length (now (hint .exit)) ≡ maxCells ⌝ }
+    ensures { λ r. ⌜ (length (now (hint .exit)) ≡ maxCells) × (r ≤ cells) ⌝ }
 {
     let mut x = c;
-    for _ in 0..cells {
+    for i in 0..cells {
         if x == cell {
-            return;
+            return i;
         }
         let next = wide(to[x]);
         hint[next] = place[x];
         x = next;
     }
+    cells
 }
 
-// hint[c] is the place in row c of the cell to come from. Nothing rests on what it is.
+// hint[c] is the place in row c of the cell to come from. Answers how many steps the way has, 0 if there is none. Nothing rests on what these are.
 pub fn aim(
     near: &[u8],
     begin: &[u16],
@@ -86,9 +87,9 @@ pub fn aim(
     grid: Grid,
     cell: usize,
     hint: &mut [u8],
-)
+) -> usize
     requires { ⌜ Rows (grid .cells) (now near) (now begin) × (grid .cells ≤ maxCells) × (length (now «cart_on») ≡ maxCells) × Spacious grid (now store) × (grid .cells ≤ grid .nodes) × (cell < grid .cells) × (length (now hint) ≡ maxCells) ⌝ }
-    ensures { λ _. ⌜ length (now (hint .exit)) ≡ maxCells ⌝ }
+    ensures { λ r. ⌜ (length (now (hint .exit)) ≡ maxCells) × (r ≤ maxCells) ⌝ }
 {
     let mut queue = [0u8; Limits::CELLS];
     let mut seen = [0u8; Limits::CELLS];
@@ -102,8 +103,7 @@ pub fn aim(
         let x = wide(queue[tail - 1]);
         if is_free(cart_on, store, grid, x) {
             hint[x] = 0;
-            trace(hint, &to, &place, grid.cells, x, cell);
-            return;
+            return trace(hint, &to, &place, grid.cells, x, cell);
         }
         let c = wide(queue[head]);
         let row = row(near, begin, c);
@@ -121,4 +121,5 @@ pub fn aim(
         );
         head += 1;
     }
+    0
 }

@@ -65,7 +65,7 @@ fn serve_all(
     while i < calls {
         let q = wide(order[i]);
         let cell = wide(targets[q]);
-        aim::aim(near, begin, cart_on, store, grid, cell, &mut hint);
+        let far = aim::aim(near, begin, cart_on, store, grid, cell, &mut hint);
         let fresh = i == 0;
         let node = Node {
             cell,
@@ -81,6 +81,7 @@ fn serve_all(
             store,
             grid,
             node,
+            2 * far,
             stamp,
             fresh,
         );

@@ -22,7 +22,7 @@ use Rattle.network.proofs.Points.{point-eq, point-step}
 use Rattle.network.proofs.HoldsLaws.{leads-on, place-below}
 use Rattle.route.specs.Lay.{pushed}
 use Rattle.route.specs.declared.search.Found.{Found}
-use Rattle.route.specs.Finds.{Stands, Down, By, ByRow, BySteps, firstOf, Stamped, Finds, Guesses, Tries}
+use Rattle.route.specs.Finds.{Stands, Down, By, ByRow, BySteps, firstOf, Stamped, Finds, Guesses, Tries, Aims}
 
 module _ (P Q : Point → Point → Type 0) (M : Point → Type 0) (more : (y via : Point) → P y via → Q y via) where
   pub found-more : (r : Found) {v via : Node} → r ≡ Found.Push v via → Finds P M r → Finds Q M r
@@ -161,3 +161,10 @@ module _ {j : Job} {g : Grid} {s : List ℕ} {n : Node} (h : Stands j g s (asPoi
 
       pub by-down : (u ≡ 0 → ⊥) → (r : Found) → Finds (Down g s (asPoint n)) (Stamped g s stamp) r → Finds (By g s (asPoint n)) (Stamped g s stamp) r
       by-down ne = found-rest (Down g s (asPoint n)) (By g s (asPoint n)) (Stamped g s stamp) (λ y via b. inr b) (λ y via q. ⊎-elim (λ b. absurd (untold (usedAt g s) ev eu ne (b .1))) inl q)
+
+-- What is found by way of one step of a cell.
+pub aims-found : (g : Grid) (s : List ℕ) (c first past ahead stamp : ℕ) (r : Found) {v via : Node} → r ≡ Found.Push v via
+    → Finds (By g s (point c ahead)) (Stamped g s stamp) r → first ≤ ahead → ahead < past → Aims g s c first past ahead (Stamped g s stamp) r
+aims-found g s c first past ahead stamp r {v} {via} e f a b =
+    let h : Finds (By g s (point c ahead)) (Stamped g s stamp) (Found.Push v via) = rw e at f in
+    rw e ((ahead, a, b, h .0), h .1, point-step (by-way g s (h .0)))

@@ -80,9 +80,9 @@ wrote-marks j s t w b p v h = go (ℕ-discrete v w)
 abbrev pub TriedFrom : Job → List ℕ → List ℕ → ℕ → Point → ℕ → Type 0
 TriedFrom j s due stamp v first = v .step ≡ top j → StepsMarked (gridOf j) s (v .cell) stamp first (getD due (v .cell) 0)
 
--- What the calls on the stack have tried: one that was left by way of a step of its cell, that step and all later ones; one on top, those from `below` on.
-pub record Tried (j : Job) (s due : List ℕ) (stamp d below : ℕ) : Type 0 where
-  pub left : (i : ℕ) → suc i < d → TriedFrom j s due stamp (posIn j s i) (viaIn j s i .step)
+-- What the calls on the stack have tried: one that was left by way of a step of its cell other than `soon`, that step and all later ones; one on top, those from `below` on.
+pub record Tried (j : Job) (s due : List ℕ) (stamp soon d below : ℕ) : Type 0 where
+  pub left : (i : ℕ) → suc i < d → (viaIn j s i .step ≡ soon → ⊥) → TriedFrom j s due stamp (posIn j s i) (viaIn j s i .step)
   pub top : (i : ℕ) → suc i ≡ d → TriedFrom j s due stamp (posIn j s i) below
 
 -- No deadline is past the last step.
@@ -99,15 +99,19 @@ pub record Latest (j : Job) (s due : List ℕ) (stamp c below : ℕ) (y via : Po
 tried-none : (j : Job) (s due : List ℕ) (stamp : ℕ) → DueLow j due → (v : Point) → Inside j v → TriedFrom j s due stamp v (top j)
 tried-none j s due stamp low v k e y w (t, l, m, b) = absurd (omega (arith, low (v .cell) (k .0)))
 
-pub tried-start : {j : Job} {s due : List ℕ} {stamp : ℕ} → DueLow j due → Inside j (posIn j s 0) → Tried j s due stamp 1 (top j)
+pub tried-start : {j : Job} {s due : List ℕ} {stamp soon : ℕ} → DueLow j due → Inside j (posIn j s 0) → Tried j s due stamp soon 1 (top j)
 tried-start {j} {s} {due} {stamp} low k = record { left = λ i h. absurd (omega arith); top = λ i e. let z : i ≡ 0 = omega arith in rw z (tried-none j s due stamp low (posIn j s 0) k) }
 
-pub tried-out : {j : Job} {s due : List ℕ} {stamp d below : ℕ} → d ≡ 0 → Tried j s due stamp d below
+pub tried-out : {j : Job} {s due : List ℕ} {stamp soon d below : ℕ} → d ≡ 0 → Tried j s due stamp soon d below
 tried-out z = record { left = λ i h. absurd (omega arith); top = λ i e. absurd (omega arith) }
 
-module _ {j : Job} {s due : List ℕ} {stamp d below : ℕ} (q : Tried j s due stamp d below) where
-  pub tried-pop : 0 < d - 1 → Tried j s due stamp (d - 1) (viaAt (gridOf j) s (d - 1) .step)
-  tried-pop h = record { left = λ i l. q .left i (omega arith); top = λ i e. rw (sym e) (q .left i (omega arith)) }
+module _ {j : Job} {s due : List ℕ} {stamp soon d below : ℕ} (q : Tried j s due stamp soon d below) where
+  pub tried-pop : 0 < d - 1 → (viaAt (gridOf j) s (d - 1) .step ≡ soon → ⊥) → Tried j s due stamp soon (d - 1) (viaAt (gridOf j) s (d - 1) .step)
+  tried-pop h ne = record { left = λ i l. q .left i (omega arith); top = λ i e. rw (sym e) (q .left i (omega arith) (rw (sym e) at ne)) }
+
+  -- Or it begins anew.
+  pub tried-anew : DueLow j due → ((i : ℕ) → suc i < d → Inside j (posIn j s i)) → Tried j s due stamp soon (d - 1) (top j)
+  tried-anew low known = record { left = λ i l. q .left i (omega arith); top = λ i e. tried-none j s due stamp low (posIn j s i) (known i (omega arith)) }
 
   -- With what was tried before, what is tried now is all of the window.
   module _ {i : ℕ} (e : suc i ≡ d) (call : posIn j s i .step ≡ top j) where
@@ -210,8 +214,8 @@ module _ {j : Job} {stamp : ℕ} {x : Point} where
       }
 
       -- What the calls on the stack have tried, after it too.
-      module _ {due : List ℕ} {below : ℕ} (low : DueLow j due) (q : Tried j s due stamp (suc m) below)
-          (latest : posIn j s m .step ≡ top j → Latest j s due stamp (posIn j s m .cell) below y via) where
+      module _ {due : List ℕ} {soon below : ℕ} (low : DueLow j due) (q : Tried j s due stamp soon (suc m) below)
+          (latest : (via .step ≡ soon → ⊥) → posIn j s m .step ≡ top j → Latest j s due stamp (posIn j s m .cell) below y via) where
         known : (i : ℕ) → i < suc m → posIn j s i .cell < j .cells
         known i h = r .dfs .marked i h .0 .0
 
@@ -219,10 +223,10 @@ module _ {j : Job} {stamp : ℕ} {x : Point} where
         kept i h first a e = steps-kept (r .holds) (p .same) keeps (known i h) (low (posIn j s i .cell) (known i h)) (a e)
 
         -- By way of the step that was found one gets to the position that is marked now, and by way of the later ones all was marked.
-        here : TriedFrom j t due stamp (posIn j s m) (via .step)
-        here e =
-            steps-more (gridOf j) t c stamp (via .step + 1) (getD due c 0) (kept m (omega arith) (via .step + 1) (λ e. all-tried q refl e (via .step + 1) (latest e .later)) e)
-            (via .step) (omega arith) (λ z w b. rw (by-one (gridOf j) s (latest e .by) (by-kept (r .holds) (p .same) in-c soon b .0)) (p .mark .here))
+        here : (via .step ≡ soon → ⊥) → TriedFrom j t due stamp (posIn j s m) (via .step)
+        here ne e =
+            steps-more (gridOf j) t c stamp (via .step + 1) (getD due c 0) (kept m (omega arith) (via .step + 1) (λ e. all-tried q refl e (via .step + 1) (latest ne e .later)) e)
+            (via .step) (omega arith) (λ z w b. rw (by-one (gridOf j) s (latest ne e .by) (by-kept (r .holds) (p .same) in-c early b .0)) (p .mark .here))
           where
             c : ℕ
             c = posIn j s m .cell
@@ -230,20 +234,23 @@ module _ {j : Job} {stamp : ℕ} {x : Point} where
             in-c : c < j .cells
             in-c = known m (omega arith)
 
-            soon : via .step < top j
-            soon = omega (arith, latest e .soon, low c in-c)
+            early : via .step < top j
+            early = omega (arith, latest ne e .soon, low c in-c)
 
-        pub tried-push : Tried j t due stamp (suc (suc m)) (top j)
+        abbrev LeftTried : Point → Point → Type 0
+        LeftTried v w = (w .step ≡ soon → ⊥) → TriedFrom j t due stamp v (w .step)
+
+        pub tried-push : Tried j t due stamp soon (suc (suc m)) (top j)
         tried-push = record {
           left = λ i h. left i h (ℕ-discrete i m);
           top = λ i e. let z : i ≡ suc m = omega arith in rw z (subst (λ v. TriedFrom j t due stamp v (top j)) (sym new-pos) (tried-none j t due stamp low y (hop .known)));
         }
           where
-            left : (i : ℕ) → suc i < suc (suc m) → Dec (i ≡ m) → TriedFrom j t due stamp (posIn j t i) (viaIn j t i .step)
-            left i h (yes z) = rw z (subst₂ (λ v w. TriedFrom j t due stamp v (w .step)) (sym (old-pos m (omega arith))) (sym new-via) here)
+            left : (i : ℕ) → suc i < suc (suc m) → Dec (i ≡ m) → LeftTried (posIn j t i) (viaIn j t i)
+            left i h (yes z) = rw z (subst₂ LeftTried (sym (old-pos m (omega arith))) (sym new-via) here)
             left i h (no z) =
-                subst₂ (λ v w. TriedFrom j t due stamp v (w .step)) (sym (old-pos i (omega arith))) (sym (old-via i (omega arith)))
-                (kept i (omega arith) (viaIn j s i .step) (q .left i (omega arith)))
+                subst₂ LeftTried (sym (old-pos i (omega arith))) (sym (old-via i (omega arith)))
+                (λ ne. kept i (omega arith) (viaIn j s i .step) (q .left i (omega arith) ne))
 
 mark-test : (j : Job) (s : List ℕ) (stamp : ℕ) (v : Point) → Marked j s stamp v → isMarked j s stamp v ≡ true
 mark-test j s stamp v (k, e) = and-both (inside j v) (eqb (markAt (gridOf j) s (idx j v)) stamp) (inside-test j v k) (eq-eqb _ _ e)

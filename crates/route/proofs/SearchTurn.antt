@@ -1,9 +1,9 @@
 -- One turn of the search's loop: what it needs, and that it keeps `Going`. The position on top of the stack is known; where it is no goal and nothing is found
 -- from it, it is done and falls off; else what is found is one hop away and not marked, and goes on top. Assumes nothing.
-use Prim.Native.Nat.{ℕ, suc, _+_, _-_, _<_, _≤_}
-use mathlib.Core.Path.{_≡_, sym, _∙_, ap, subst, subst₂}
+use Prim.Native.Nat.{ℕ, suc, _+_, _-_, _<_, _≤_, min}
+use mathlib.Core.Path.{_≡_, refl, sym, _∙_, ap, subst, subst₂}
 use mathlib.Core.List.{List}
-use mathlib.Core.Logic.{inl, inr, ⊎-elim}
+use mathlib.Core.Logic.{_⊎_, inl, inr, ⊎-elim}
 use mathlib.Core.Bool.{true, false, not}
 use native.Mathlib.Omega.{arith}
 use native.Mathlib.Decide.{ℕ-discrete}
@@ -27,18 +27,19 @@ use Rattle.network.proofs.HoldsLaws.{back-same, holds-same, place-below}
 use Rattle.route.specs.declared.search.Found.{Found}
 use Rattle.route.specs.Lay.{pushed}
 use Rattle.route.specs.Search.{Searching, Searched}
-use Rattle.route.specs.Finds.{By, firstOf, From, Stamped, Sees}
+use Rattle.route.specs.Finds.{By, BySteps, firstOf, From, Stamped, CallTries, Sees}
 use Rattle.route.proofs.Stack.{posIn}
 use Rattle.route.proofs.SearchHops.{due-low, HopTo, found-hop, hop-found, via-known}
 use Rattle.route.proofs.SearchFinds.{by-way}
 use Rattle.route.proofs.SearchCount.{unmarked, unmarked-some}
 use Rattle.route.proofs.SearchRuns.{Running, Marked, DoneIn, PushedIn, run-start, run-pop, run-push, run-falls, searched-none, searched-some}
-use Rattle.route.proofs.SearchRuns.{DueLow, Latest, Tried, tried-start, tried-out, tried-pop, all-tried, tried-push}
+use Rattle.route.proofs.SearchRuns.{DueLow, Latest, Tried, tried-start, tried-out, tried-pop, tried-anew, all-tried, tried-push}
 
 -- The search is under way, y is on top of the stack, and of a call there the steps from `below` on were tried.
-pub record Going (j : Job) (due s₁ s : List ℕ) (stamp : ℕ) (x : Point) (d : ℕ) (y : Point) (below : ℕ) : Type 0 where
+pub record Going (j : Job) (due s₁ s : List ℕ) (stamp soon : ℕ) (x : Point) (d : ℕ) (y : Point) (below ahead : ℕ) : Type 0 where
   pub run : Running j s₁ s stamp x d
-  pub tried : Tried j s due stamp d below
+  pub tried : Tried j s due stamp soon d below
+  pub aim : (ahead ≡ soon) ⊎ (ahead ≡ gridOf j .top)
   pub top : 0 < d → y ≡ posIn j s (d - 1)
 
 -- A search may start from a store with the same flow too.
@@ -89,21 +90,21 @@ module _ {j : Job} {near begin due shut cart-on hint s s₁ : List ℕ} {g : Gri
 low : {j : Job} {near begin due shut cart-on hint s : List ℕ} {g : Grid} {x : Point} → Searching j near begin due shut cart-on hint s g x → DueLow j due
 low h = due-low (h .holds .ready .fit) (h .tables)
 
-pub under-way : {j : Job} {near begin due shut cart-on hint : List ℕ} (s : List ℕ) {s₁ : List ℕ} {g : Grid} {x : Point} (stamp : ℕ) → s₁ ≡ pushed g s 0 x (point 0 0) stamp → Spacious g s
-    → Searching j near begin due shut cart-on hint s₁ g x → Going j due s₁ s₁ stamp x 1 x (g .top)
-under-way {j} s {s₁} {x = x} stamp e r h =
+pub under-way : {j : Job} {near begin due shut cart-on hint : List ℕ} (s : List ℕ) {s₁ : List ℕ} {g : Grid} {x : Point} (stamp soon : ℕ) → s₁ ≡ pushed g s 0 x (point 0 0) stamp → Spacious g s
+    → Searching j near begin due shut cart-on hint s₁ g x → Going j due s₁ s₁ stamp soon x 1 x (g .top) soon
+under-way {j} s {s₁} {x = x} stamp soon e r h =
     let p : PushedIn j s s₁ 0 x (point 0 0) stamp = push-in j (h .holds .grid) r (h .known) (omega (arith, idx-below j (h .known))) e in
     let run = run-start (rw (h .holds .grid) at (h .holds)) (h .known) p in
-    rw (h .holds .grid) (record { run = run; tried = tried-start (low h) (run .dfs .marked 0 (omega arith) .0); top = λ z. top-pushed j s s₁ 0 x (point 0 0) stamp p })
+    rw (h .holds .grid) (record { run = run; tried = tried-start (low h) (run .dfs .marked 0 (omega arith) .0); aim = inl refl; top = λ z. top-pushed j s s₁ 0 x (point 0 0) stamp p })
 
 -- What is at hand in a turn at the position y.
-pub record Turn (j : Job) (near begin due shut cart-on hint : List ℕ) (g : Grid) (s₁ s : List ℕ) (x : Point) (stamp d : ℕ) (y : Point) (below : ℕ) : Type 0 where
+pub record Turn (j : Job) (near begin due shut cart-on hint : List ℕ) (g : Grid) (s₁ s : List ℕ) (x : Point) (stamp soon d : ℕ) (y : Point) (below ahead : ℕ) : Type 0 where
   pub for : Searching j near begin due shut cart-on hint s₁ g x
-  pub going : Going j due s₁ s stamp x d y below
+  pub going : Going j due s₁ s stamp soon x d y below ahead
   pub some : 0 < d
 
-module _ {j : Job} {near begin due shut cart-on hint : List ℕ} {g : Grid} {s₁ s : List ℕ} {x : Point} {stamp d : ℕ} {y : Point} {below : ℕ}
-    (w : Turn j near begin due shut cart-on hint g s₁ s x stamp d y below) where
+module _ {j : Job} {near begin due shut cart-on hint : List ℕ} {g : Grid} {s₁ s : List ℕ} {x : Point} {stamp soon d : ℕ} {y : Point} {below ahead : ℕ}
+    (w : Turn j near begin due shut cart-on hint g s₁ s x stamp soon d y below ahead) where
   top : y ≡ posIn j s (d - 1)
   top = w .going .top (w .some)
 
@@ -134,15 +135,15 @@ module _ {j : Job} {near begin due shut cart-on hint : List ℕ} {g : Grid} {s�
       omega (arith, eqb-true (getD cart-on (y .cell) 0) 0 (not-false (eqb (getD cart-on (y .cell) 0) 0) (none (h .0))), w .for .tables .carts .has-cart (y .cell) (h .1))
 
 -- What was found in the turn; and the position is no goal.
-pub record Looked (j : Job) (near begin due shut cart-on hint : List ℕ) (g : Grid) (s₁ s : List ℕ) (x : Point) (stamp d : ℕ) (y : Point) (below : ℕ) (r : Found) : Type 0 where
-  pub turn : Turn j near begin due shut cart-on hint g s₁ s x stamp d y below
-  pub sees : Sees g s near begin due shut y below stamp r
+pub record Looked (j : Job) (near begin due shut cart-on hint : List ℕ) (g : Grid) (s₁ s : List ℕ) (x : Point) (stamp soon d : ℕ) (y : Point) (below ahead : ℕ) (r : Found) : Type 0 where
+  pub turn : Turn j near begin due shut cart-on hint g s₁ s x stamp soon d y below ahead
+  pub sees : Sees g s near begin due shut y below ahead stamp r
   pub dull : (graph j) .Goal (posIn j s (d - 1)) → ⊥
 
-module _ {j : Job} {near begin due shut cart-on hint : List ℕ} {g : Grid} {s₁ s : List ℕ} {x : Point} {stamp d : ℕ} {y : Point} {below : ℕ} {r : Found}
-    (k : Looked j near begin due shut cart-on hint g s₁ s x stamp d y below r) where
-  sees′ : Sees (gridOf j) s near begin due shut (posIn j s (d - 1)) below stamp r
-  sees′ = subst₂ (λ g y. Sees g s near begin due shut y below stamp r) (k .turn .for .holds .grid) (top (k .turn)) (k .sees)
+module _ {j : Job} {near begin due shut cart-on hint : List ℕ} {g : Grid} {s₁ s : List ℕ} {x : Point} {stamp soon d : ℕ} {y : Point} {below ahead : ℕ} {r : Found}
+    (k : Looked j near begin due shut cart-on hint g s₁ s x stamp soon d y below ahead r) where
+  sees′ : Sees (gridOf j) s near begin due shut (posIn j s (d - 1)) below ahead stamp r
+  sees′ = subst₂ (λ g y. Sees g s near begin due shut y below ahead stamp r) (k .turn .for .holds .grid) (top (k .turn)) (k .sees)
 
   depth : d ≡ suc (d - 1)
   depth = omega (arith, k .turn .some)
@@ -155,7 +156,8 @@ module _ {j : Job} {near begin due shut cart-on hint : List ℕ} {g : Grid} {s�
 
   module _ (e : r ≡ Found.Nothing) where
     none : (z via : Point) → FromTop z via → Stamped (gridOf j) s stamp z
-    none z via (inl (c, b)) = all-tried (k .turn .going .tried) (sym depth) c (firstOf due shut (posIn j s (d - 1) .cell)) (rw e at (sees′ .call c)) z via b
+    none z via (inl (c, b)) =
+        all-tried (k .turn .going .tried) (sym depth) c (firstOf due shut (posIn j s (d - 1) .cell)) (⊎-elim (λ a. a) (λ a. absurd a) (rw e at (sees′ .call c))) z via b
     none z via (inr (ne, b)) = (rw e at (sees′ .node ne)) z via b
 
     done : DoneIn j s stamp (posIn j s (d - 1))
@@ -163,31 +165,57 @@ module _ {j : Job} {near begin due shut cart-on hint : List ℕ} {g : Grid} {s�
         ⊎-elim (λ q. subst (λ z. Marked j s stamp z) (sym q) (marked (k .turn))) (λ q. (q .0, none z (q .1 .0) (q .1 .1)))
         (hop-found (k .turn .going .run .holds) (k .turn .for .tables) (posIn j s (d - 1)) (marked (k .turn) .0) u z a b)
 
-    -- The position falls off, and what the code reads off the stack is on top.
-    pub turn-pop : 0 < d - 1 → {v left : Node} → v .cell ≡ cellAt g s (d - 1 - 1) → v .step ≡ stepAt g s (d - 1 - 1) → asPoint left ≡ viaAt g s (d - 1)
-        → Going j due s₁ s stamp x (d - 1) (asPoint v) (left .step)
-    turn-pop some {v} {left} ec es el =
-        let ec′ : v .cell ≡ cellAt (gridOf j) s (d - 1 - 1) = rw (k .turn .for .holds .grid) at ec in
-        let es′ : v .step ≡ stepAt (gridOf j) s (d - 1 - 1) = rw (k .turn .for .holds .grid) at es in
-        let el′ : asPoint left ≡ viaAt (gridOf j) s (d - 1) = rw (k .turn .for .holds .grid) at el in
-        record { run = run-pop run′ (k .dull) done; tried = rw (point-step el′) (tried-pop (k .turn .going .tried) some); top = λ z. point-eq ec′ es′ }
+    -- The position falls off, and what the code reads off the stack is on top. Where it was left by way of the step `soon`, it begins anew.
+    module _ {v : Node} (ec : v .cell ≡ cellAt g s (d - 1 - 1)) (es : v .step ≡ stepAt g s (d - 1 - 1)) where
+      popped : {below′ : ℕ} → Tried j s due stamp soon (d - 1) below′ → Going j due s₁ s stamp soon x (d - 1) (asPoint v) below′ (g .top)
+      popped q =
+          let ec′ : v .cell ≡ cellAt (gridOf j) s (d - 1 - 1) = rw (k .turn .for .holds .grid) at ec in
+          let es′ : v .step ≡ stepAt (gridOf j) s (d - 1 - 1) = rw (k .turn .for .holds .grid) at es in
+          record { run = run-pop run′ (k .dull) done; tried = q; aim = inr (ap (λ (g : Grid). g .top) (k .turn .for .holds .grid)); top = λ z. point-eq ec′ es′ }
 
-    pub turn-out : d - 1 ≡ 0 → Going j due s₁ s stamp x (d - 1) y below
-    turn-out out = record { run = run-pop run′ (k .dull) done; tried = tried-out out; top = λ z. absurd (omega arith) }
+      pub turn-pop : 0 < d - 1 → {left : Node} → asPoint left ≡ viaAt g s (d - 1) → (left .step ≡ soon → ⊥) → Going j due s₁ s stamp soon x (d - 1) (asPoint v) (left .step) (g .top)
+      turn-pop some {left} el ne =
+          let el′ : left .step ≡ viaAt (gridOf j) s (d - 1) .step = point-step (rw (k .turn .for .holds .grid) at el) in
+          popped (rw el′ (tried-pop (k .turn .going .tried) some (rw el′ at ne)))
+
+      pub turn-anew : Going j due s₁ s stamp soon x (d - 1) (asPoint v) (g .top) (g .top)
+      turn-anew = popped (rw (k .turn .for .holds .grid) (tried-anew (k .turn .going .tried) (low (k .turn .for)) (λ i h. k .turn .going .run .dfs .marked i (omega arith) .0)))
+
+    pub turn-out : d - 1 ≡ 0 → Going j due s₁ s stamp soon x (d - 1) y below (g .top)
+    turn-out out = record {
+      run = run-pop run′ (k .dull) done;
+      tried = tried-out out;
+      aim = inr (ap (λ (g : Grid). g .top) (k .turn .for .holds .grid));
+      top = λ z. absurd (omega arith);
+    }
 
   module _ (v via : Node) (e : r ≡ Found.Push v via) where
     some : FromTop (asPoint v) (asPoint via) × (Stamped (gridOf j) s stamp (asPoint v) → ⊥)
     some = go (ℕ-discrete (posIn j s (d - 1) .step) (gridOf j .top))
       where
         go : Dec (posIn j s (d - 1) .step ≡ gridOf j .top) → FromTop (asPoint v) (asPoint via) × (Stamped (gridOf j) s stamp (asPoint v) → ⊥)
-        go (yes c) = let ((t, l, m, b), f, a) = rw e at (sees′ .call c) in (inl (c, (t, l, omega arith, b)), f)
+        go (yes c) = ⊎-elim (λ w. by-step (w .0) (w .1)) (λ w. by-step (w .0) (w .1)) (rw e at (sees′ .call c))
+          where
+            by-step : BySteps (gridOf j) s (posIn j s (d - 1) .cell) (firstOf due shut (posIn j s (d - 1) .cell)) (min (getD due (posIn j s (d - 1) .cell) 0) below) (asPoint v) (asPoint via)
+                → (Stamped (gridOf j) s stamp (asPoint v) → ⊥) → FromTop (asPoint v) (asPoint via) × (Stamped (gridOf j) s stamp (asPoint v) → ⊥)
+            by-step (t, l, m, b) f = (inl (c, (t, l, omega arith, b)), f)
         go (no ne) = let (b, f) = rw e at (sees′ .node ne) in (inr (ne, b), f)
 
-    latest : posIn j s (d - 1) .step ≡ gridOf j .top → Latest j s due stamp (posIn j s (d - 1) .cell) below (asPoint v) (asPoint via)
-    latest c =
-        let ((t, l, m, b), f, a) = rw e at (sees′ .call c) in
-        let q = point-step (by-way (gridOf j) s b) in
-        record { by = subst (λ t. By (gridOf j) s (point (posIn j s (d - 1) .cell) t) (asPoint v) (asPoint via)) (sym q) b; soon = omega arith; later = a }
+    -- Where it is by way of a step other than `soon`, the later ones were tried: what is tried first is `soon`, or no step of a cell.
+    latest : (via .step ≡ soon → ⊥) → posIn j s (d - 1) .step ≡ gridOf j .top → Latest j s due stamp (posIn j s (d - 1) .cell) below (asPoint v) (asPoint via)
+    latest ne c = go (rw e at (sees′ .call c))
+      where
+        low′ : getD due (posIn j s (d - 1) .cell) 0 ≤ gridOf j .top
+        low′ = low (k .turn .for) (posIn j s (d - 1) .cell) (marked (k .turn) .0 .0)
+
+        go : CallTries (gridOf j) s due shut (posIn j s (d - 1) .cell) below ahead (Stamped (gridOf j) s stamp) (Found.Push v via)
+            → Latest j s due stamp (posIn j s (d - 1) .cell) below (asPoint v) (asPoint via)
+        go (inl ((t, l, m, b), f, a)) =
+            let q = point-step (by-way (gridOf j) s b) in
+            record { by = subst (λ t. By (gridOf j) s (point (posIn j s (d - 1) .cell) t) (asPoint v) (asPoint via)) (sym q) b; soon = omega arith; later = a }
+        go (inr ((t, l, m, b), f, a)) =
+            let q = point-step (by-way (gridOf j) s b) in
+            absurd (⊎-elim (λ g. ne (a ∙ g)) (λ g. omega (arith, low′)) (k .turn .going .aim))
 
     hop : HopTo j s (posIn j s (d - 1)) (asPoint via) (asPoint v)
     hop = found-hop (k .turn .going .run .holds) (k .turn .for .tables) (posIn j s (d - 1)) (marked (k .turn) .0) (asPoint v) (asPoint via) (some .0)
@@ -220,11 +248,12 @@ module _ {j : Job} {near begin due shut cart-on hint : List ℕ} {g : Grid} {s�
       pub turn-falls : unmarked (markAt g s) stamp (g .nodes) ≡ suc (unmarked (markAt g s′) stamp (g .nodes))
       turn-falls = rw (k .turn .for .holds .grid) (run-falls run′ (k .dull) hop (some .1) p′)
 
-      pub turn-push : Going j due s₁ s′ stamp x (d + 1) (asPoint v) (g .top)
+      pub turn-push : Going j due s₁ s′ stamp soon x (d + 1) (asPoint v) (g .top) (g .top)
       turn-push =
           let f : d + 1 ≡ suc (suc (d - 1)) = omega (arith, k .turn .some) in
           rw (k .turn .for .holds .grid) (record {
             run = rw f (run-push run′ (k .dull) hop (some .1) p′);
             tried = rw f (tried-push run′ (k .dull) hop (some .1) p′ (low (k .turn .for)) (rw depth at (k .turn .going .tried)) latest);
+            aim = inr refl;
             top = λ z. top-pushed j s s′ d (asPoint v) (asPoint via) stamp p;
           })

@@ -71,7 +71,17 @@ Tries g s c first past M Found.Nothing = (x via : Point) → BySteps g s c first
 Tries g s c first past M (Found.Push v via) =
     BySteps g s c first past (asPoint v) (asPoint via) × (M (asPoint v) → ⊥) × ((x w : Point) → BySteps g s c (via .step + 1) past x w → M x)
 
--- What is found from the position x. Of a call, only the steps below `below` are tried.
-pub record Sees (g : Grid) (s near begin due shut : List ℕ) (x : Point) (below stamp : ℕ) (r : Found) : Type 0 where
-  pub call : x .step ≡ g .top → Tries g s (x .cell) (firstOf due shut (x .cell)) (min (getD due (x .cell) 0) below) (Stamped g s stamp) r
+-- What is found is by way of the step `ahead`, one of these.
+abbrev pub Aims : Grid → List ℕ → ℕ → ℕ → ℕ → ℕ → (Point → Type 0) → Found → Type 0
+Aims g s c first past ahead M Found.Nothing = ⊥
+Aims g s c first past ahead M (Found.Push v via) = BySteps g s c first past (asPoint v) (asPoint via) × (M (asPoint v) → ⊥) × (via .step ≡ ahead)
+
+-- What is found from a call: by way of the step `ahead`, which is tried first, or else of those below `below` from the latest down.
+abbrev pub CallTries : Grid → List ℕ → List ℕ → List ℕ → ℕ → ℕ → ℕ → (Point → Type 0) → Found → Type 0
+CallTries g s due shut c below ahead M r =
+    Tries g s c (firstOf due shut c) (min (getD due c 0) below) M r ⊎ Aims g s c (firstOf due shut c) (min (getD due c 0) below) ahead M r
+
+-- What is found from the position x.
+pub record Sees (g : Grid) (s near begin due shut : List ℕ) (x : Point) (below ahead stamp : ℕ) (r : Found) : Type 0 where
+  pub call : x .step ≡ g .top → CallTries g s due shut (x .cell) below ahead (Stamped g s stamp) r
   pub node : (x .step ≡ g .top → ⊥) → Finds (FromNode g s shut (rowAt near begin shut (x .cell) (x .step)) x) (Stamped g s stamp) r

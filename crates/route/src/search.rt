@@ -13,7 +13,7 @@ use network::planes::set_position;
 use network::planes::used;
 use network::planes::via;
 ghost use mathlib.Core.Path.{_≡_};
-ghost use Prim.Native.Nat.{_<_, _≤_, min};
+ghost use Prim.Native.Nat.{_<_, _≤_};
 ghost use lib.ListN.{length, getD};
 ghost use Rattle.model.specs.Limits.{maxCells};
 ghost use Rattle.model.specs.Job as model;
@@ -23,7 +23,7 @@ ghost use Rattle.network.specs.Holds.{Holds};
 ghost use Rattle.network.specs.Graph.{Inside};
 ghost use Rattle.route.specs.Lay.{pushed};
 ghost use Rattle.route.specs.Search.{Searching, Searched};
-ghost use Rattle.route.specs.Finds.{Stands, By, ByRow, Down, FromNode, firstOf, Stamped, Finds, Guesses, Tries, Sees};
+ghost use Rattle.route.specs.Finds.{Stands, By, ByRow, Down, FromNode, Stamped, Finds, Guesses, Tries, CallTries, Sees};
 
 // Where a position leads: nowhere new, or to another position, by way of a node.
 pub enum Found {
@@ -179,7 +179,8 @@ fn from_steps(store: &[u8], grid: Grid, cell: usize, first: usize, past: usize, 
     Found::Nothing
 }
 
-// Where the call on a cell leads: by way of a step of the cell at which it can be met, the latest first. Those from `below` on were tried.
+// Where the call on a cell leads: by way of a step of the cell at which it can be met, the latest first. Those from `below` on were tried. Before all others comes `ahead`,
+// if it is one of these: a guess, which only saves time.
 fn from_call(
     due: &[u16],
     shut: &[u16],
@@ -187,10 +188,11 @@ fn from_call(
     grid: Grid,
     cell: usize,
     below: usize,
+    ahead: usize,
     stamp: u8,
 ) -> Found
     requires { ⌜ ((j : model.Job) × Holds j grid (now store) × Shut j (now shut) × (cell < j .cells) × (getD (now due) cell 0 ≤ grid .top)) × (length (now due) ≡ maxCells) ⌝ }
-    ensures { λ r. ⌜ Tries grid (now (store .entry)) cell (firstOf (now (due .entry)) (now (shut .entry)) cell) (min (getD (now (due .entry)) cell 0) below) (Stamped grid (now (store .entry)) stamp) r ⌝ }
+    ensures { λ r. ⌜ CallTries grid (now (store .entry)) (now (due .entry)) (now (shut .entry)) cell below ahead (Stamped grid (now (store .entry)) stamp) r ⌝ }
 {
     let mut past = due[cell] as usize;
     let mut first = 0;
@@ -199,6 +201,12 @@ fn from_call(
     }
     if below < past {
         past = below;
+    }
+    if first <= ahead && ahead < past {
+        let found = look(store, grid, Node { cell, step: ahead }, stamp);
+        if let Found::Push { node: _, via: _ } = found {
+            return found;
+        }
     }
     from_steps(store, grid, cell, first, past, stamp)
 }
@@ -214,14 +222,15 @@ fn leads(
     grid: Grid,
     node: Node,
     below: usize,
+    ahead: usize,
     stamp: u8,
 ) -> Found
     requires { ⌜ ((j : model.Job) × Holds j grid (now store) × Inside j (asPoint node) × Near j (now near) (now begin) × Shut j (now shut) × (getD (now due) (node .cell) 0 ≤ grid .top)) × (length (now due) ≡ maxCells) × (length (now hint) ≡ maxCells) ⌝ }
-    ensures { λ r. ⌜ Sees grid (now (store .entry)) (now (near .entry)) (now (begin .entry)) (now (due .entry)) (now (shut .entry)) (asPoint node) below stamp r ⌝ }
+    ensures { λ r. ⌜ Sees grid (now (store .entry)) (now (near .entry)) (now (begin .entry)) (now (due .entry)) (now (shut .entry)) (asPoint node) below ahead stamp r ⌝ }
 {
     let c = node.cell;
     if node.step == grid.top {
-        return from_call(due, shut, store, grid, c, below, stamp);
+        return from_call(due, shut, store, grid, c, below, ahead, stamp);
     }
     from_node(near, begin, shut, store, grid, node, wide(hint[c]), stamp)
 }
@@ -235,7 +244,8 @@ fn push(store: &mut [u8], grid: Grid, depth: usize, node: Node, via: Node, stamp
     set_position(store, grid, depth, node, via);
 }
 
-// A call on top of the stack again was left by way of one of its steps: it goes on below that one.
+// A call on top of the stack again was left by way of one of its steps: it goes on below that one, but from its latest step where it may have been the guess `soon`, which the
+// search begins with: a step at which the call's cart can be there without a detour, since a way from a late step is long, and stands most of the time.
 pub fn search(
     near: &[u8],
     begin: &[u16],
@@ -246,6 +256,7 @@ pub fn search(
     store: &mut [u8],
     grid: Grid,
     node: Node,
+    soon: usize,
     stamp: u8,
 ) -> usize
     requires { ⌜ ((j : model.Job) × Searching j (now near) (now begin) (now due) (now shut) (now «cart_on») (now hint) (now store) grid (asPoint node)) ⌝ }
@@ -255,17 +266,34 @@ pub fn search(
     let mut depth = 1;
     let mut top = node;
     let mut below = grid.top;
+    let mut ahead = soon;
     while 0 < depth {
         let c = top.cell;
         if top.step == 0 && cart_on[c] != 0 {
             return depth;
         }
-        let found = leads(near, begin, due, shut, hint, store, grid, top, below, stamp);
+        let found = leads(
+            near,
+            begin,
+            due,
+            shut,
+            hint,
+            store,
+            grid,
+            top,
+            below,
+            ahead,
+            stamp,
+        );
+        ahead = grid.top;
         let Found::Push { node, via: by } = found else {
             depth -= 1;
             if 0 < depth {
                 let left = via(store, grid, depth);
                 below = left.step;
+                if below == soon {
+                    below = grid.top;
+                }
                 top = position(store, grid, depth - 1);
             }
             continue;

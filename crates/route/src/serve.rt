@@ -28,6 +28,7 @@ fn seek(
     store: &mut [u8],
     grid: Grid,
     node: Node,
+    soon: usize,
     stamp: u8,
 ) -> bool
     requires { ⌜ ((j : model.Job) × Searching j (now near) (now begin) (now due) (now shut) (now «cart_on») (now hint) (now store) grid (asPoint node)) ⌝ }
@@ -43,6 +44,7 @@ fn seek(
         store,
         grid,
         node,
+        soon,
         stamp,
     );
     if depth == 0 {
@@ -64,6 +66,7 @@ pub fn serve(
     store: &mut [u8],
     grid: Grid,
     node: Node,
+    soon: usize,
     stamp: u8,
     fresh: bool,
 ) -> Served
@@ -80,6 +83,7 @@ pub fn serve(
         store,
         grid,
         node,
+        soon,
         stamp,
     ) {
         return Served::Yes(stamp);
@@ -98,6 +102,7 @@ pub fn serve(
         store,
         grid,
         node,
+        soon,
         again,
     ) {
         return Served::Yes(again);

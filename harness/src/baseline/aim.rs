@@ -6,8 +6,8 @@ use super::Mode;
 use crate::model::limits::CELLS;
 
 /// Along a shortest way over the floor from the call's cell back to a free cart: hint[c] is the place in from(c)
-/// of the cell to come from. Answers how long the way is. Only a guess: nothing rests on it but speed; the guards stand
-/// in for proofs.
+/// of the cell to come from. Answers how many steps the way has, 0 if there is none. Only a guess: nothing rests on it but
+/// speed; the guards stand in for proofs.
 pub fn aim<M: Mode>(j: &Job, p: &Planes, call: usize, hint: &mut [u8; CELLS]) -> usize {
     let (mut queue, mut seen) = ([0u8; CELLS], [false; CELLS]);
     let (mut to, mut at) = ([0u8; CELLS], [0u8; CELLS]); // cell x was met at place at[x] of from(to[x])
@@ -41,5 +41,5 @@ pub fn aim<M: Mode>(j: &Job, p: &Planes, call: usize, hint: &mut [u8; CELLS]) ->
             }
         }
     }
-    CELLS
+    0
 }

@@ -43,16 +43,25 @@ struct Top {
     is_new: bool,
 }
 
-/// From a call, its latest step first.
+/// From a call: by way of the step `soon`, if there is one, then its latest step first.
 #[inline(always)]
-fn from_call<M: Mode>(j: &Job, p: &Planes, top: &mut Top, stamp: u8, mode: &mut M) -> Found {
-    while let Some(s) = j.meeting(top.c, top.place) {
+fn from_call<M: Mode>(j: &Job, p: &Planes, top: &mut Top, soon: Option<usize>, stamp: u8, mode: &mut M) -> Found {
+    let mut at = |s: usize| {
         mode.look();
-        let found = look(j, p, top.c, s, s, stamp);
+        look(j, p, top.c, s, s, stamp)
+    };
+    if let Some(s) = soon {
+        let found = at(s);
         if found.is_some() {
             return found;
         }
+    }
+    while let Some(s) = j.meeting(top.c, top.place) {
         top.place += 1;
+        let found = at(s);
+        if found.is_some() {
+            return found;
+        }
     }
     None
 }
@@ -91,17 +100,19 @@ fn from_node<M: Mode>(j: &Job, p: &Planes, hint: &[u8; CELLS], top: &mut Top, st
     unmarked(j, p, follower(j, p, c, t), 0, DROP, stamp)
 }
 
-/// The depth of the stack where its top is a free cart; 0 if there is no way. So many of the call's latest steps are left out.
+/// The depth of the stack where its top is a free cart; 0 if there is no way. It begins at the step `soon`, if the call can
+/// be met then.
 pub fn search<M: Mode>(
     j: &Job,
     p: &mut Planes,
     hint: &[u8; CELLS],
-    (call, left_out): (usize, usize),
+    (call, soon): (usize, usize),
     stamp: u8,
     mode: &mut M,
 ) -> usize {
     let n = j.cells;
-    let mut top = Top { c: call, t: j.beyond, place: left_out, is_new: true };
+    let mut soon = Some(soon).filter(|&s| j.can_meet(call, s));
+    let mut top = Top { c: call, t: j.beyond, place: 0, is_new: true };
     p.cell[0] = call as u8;
     p.how[0] = CALL;
     p.mark[top.t * n + call] = stamp;
@@ -110,7 +121,8 @@ pub fn search<M: Mode>(
     // A position at step 0 is free: nothing takes over what comes before it.
     while !(top.t == 0 && j.cart_on[top.c] != 0) {
         let found = if top.t == j.beyond {
-            from_call(j, p, &mut top, stamp, mode)
+            // The call that the search is from comes first, and takes it.
+            from_call(j, p, &mut top, soon.take(), stamp, mode)
         } else {
             from_node(j, p, hint, &mut top, stamp, mode)
         };

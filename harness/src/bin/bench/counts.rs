@@ -11,15 +11,14 @@ pub struct Counts {
     pub looks: usize,
 }
 
-/// Standing first and calls as late as can be, as the library goes. It begins every scan of a node with the first neighbour;
-/// the same positions come in the same order where each one's place in the neighbour list is kept.
+/// Standing first, as the library goes. It begins every scan of a node with the first neighbour; the same positions come in
+/// the same order where each one's place in the neighbour list is kept.
 #[derive(Default)]
 struct Counting<const KEEP_PLACE: bool>(Counts);
 
 impl<const KEEP_PLACE: bool> Mode for Counting<KEEP_PLACE> {
     const STAND_FIRST: bool = true;
     const KEEP_PLACE: bool = KEEP_PLACE;
-    const EARLY: bool = false;
     fn visit(&mut self) {
         self.0.visits += 1;
     }

@@ -36,8 +36,7 @@ const SIDES: [usize; 5] = [4, 7, 10, 13, 16];
 
 /// What the tables mean.
 const WORDS: &str = "\
-- plan: the library's call whole. baseline: `harness/src/baseline.rs`, the same graph in plain Rust, in the same buffers; it seeks a call with
-  short walks first.
+- plan: the library's call whole. baseline: `harness/src/baseline.rs`, the same algorithm in plain Rust, in the same buffers.
 - memset: the wiping of the store alone, which both of these include. check: the library's check of the planner's sheet.
 - Peers: max flow on the network of calls, and of cells and steps without closed cells, from numbers instead of a text, building included, in the
   better direction: LEMON Preflow, igraph_maxflow_value, Boost push_relabel_max_flow, as their manuals have it. The best peer is that of each job.

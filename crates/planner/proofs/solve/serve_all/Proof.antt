@@ -56,7 +56,7 @@ serving : (c : tie.After-serve-arg Inv-loop μ-loop) (j : Job) → Begins (serve
     (serve-arg→start c .args .grid) (point (serve-arg→wide2 c .wide2 .result) (serve-arg→start c .args .grid .top)) (serve-arg→loop c .loop .stamp) (eqb (serve-arg→loop c .loop .i) 0)
 serving c j b =
     call-serving b (serve-arg→in-loop c .loop-test .taken) (serve-arg→wide c .wide .ensures .0) (serve-arg→wide2 c .wide2 .ensures .0)
-    (serve-arg→loop c .loop .inv .3 j b) (serve-arg→aim c .aim .ensures)
+    (serve-arg→loop c .loop .inv .3 j b) (serve-arg→aim c .aim .ensures .0)
 
 serve-requires : tie.Need-serve-requires Inv-loop μ-loop
 serve-requires c κs = let (j, b) = serve-arg→start c .pre in (j, serving c j b)
@@ -83,7 +83,7 @@ loop-again : tie.Need-loop-again Inv-loop μ-loop
 loop-again c =
     let d = known-told→serve c .serve in (
       d .ensures .0 ∙ known-told→loop c .loop .inv .0,
-      known-told→aim c .aim .ensures,
+      known-told→aim c .aim .ensures .0,
       omega (arith, known-told→in-loop c .loop-test .taken),
       λ j b. call-served b (known-told→in-loop c .loop-test .taken) (known-told→wide c .wide .ensures .0) (known-told→wide2 c .wide2 .ensures .0)
           (known-told→loop c .loop .inv .3 j b)
@@ -101,5 +101,5 @@ serve-all-spec =
     tie.close
     (tie.spec
     Inv-loop μ-loop loop-holds shared-slice-read-wide (λ c κs. search needs) element-copy-out-wide (λ c κs. search needs)
-    (λ c. search needs) aim-requires (λ c. search needs) serve-requires (λ c. search needs) (λ c. search needs) same-length returns add-i loop-less loop-again same-length-2
+    (λ c. search needs) aim-requires (λ c. search needs) (λ c. search needs) serve-requires (λ c. search needs) (λ c. search needs) same-length returns add-i loop-less loop-again same-length-2
     returns-2)

@@ -15,19 +15,19 @@ use Rattle.route.specs.Search.{Searching}
 use Rattle.route.proofs.Stack.{posIn}
 use Rattle.route.proofs.SearchCount.{unmarked}
 use Rattle.route.proofs.SearchTurn.{Going, Turn, Looked, first-needs, under-way, begun, ends-none, ends-some}
-use Rattle.route.proofs.SearchTurn.{holds, top-inside, top-due, entry-within, is-goal, no-goal, turn-pop, turn-out, push-needs, turn-falls, turn-push}
+use Rattle.route.proofs.SearchTurn.{holds, top-inside, top-due, entry-within, is-goal, no-goal, turn-pop, turn-anew, turn-out, push-needs, turn-falls, turn-push}
 use Rattle.route.proofs.search.search.Statement.{statement}
 use Rattle.route.proofs.search.search.Tie as tie
 mod Places
 use Places.*
 
 abbrev Inv-loop : tie.InvT-loop
-Inv-loop near begin due shut cart-on hint store₀ grid stamp depth₀ top₀ below₀ store depth top below =
+Inv-loop near begin due shut cart-on hint store₀ grid soon stamp depth₀ top₀ below₀ ahead₀ store depth top below ahead =
     (length store ≡ length store₀)
-    × ((j : Job) → Searching j near begin due shut cart-on hint store₀ grid (asPoint top₀) → Going j due store₀ store stamp (asPoint top₀) depth (asPoint top) below)
+    × ((j : Job) → Searching j near begin due shut cart-on hint store₀ grid (asPoint top₀) → Going j due store₀ store stamp soon (asPoint top₀) depth (asPoint top) below ahead)
 
 abbrev μ-loop : tie.MeasureT-loop
-μ-loop near begin due shut cart-on hint store₀ grid stamp depth₀ top₀ below₀ store depth top below = 2 * unmarked (markAt grid store) stamp (grid .nodes) + depth
+μ-loop near begin due shut cart-on hint store₀ grid soon stamp depth₀ top₀ below₀ ahead₀ store depth top below ahead = 2 * unmarked (markAt grid store) stamp (grid .nodes) + depth
 
 -- A job that the search may be for, told from the store after the first push.
 abbrev For : tie.After-push Inv-loop μ-loop → Job → Type 0
@@ -42,7 +42,7 @@ one c = (push→start c .pre .0, begun _ (c .push .ensures) (push→start c .pre
 turn : (c : tie.In-loop Inv-loop μ-loop) (j : Job) → For (in-loop→push c) j →
     (let a = in-loop→start c .args in let l = in-loop→loop c .loop in
     Turn j (now (a .near)) (now (a .begin)) (now (a .due)) (now (a .shut)) (now (a .cart-on)) (now (a .hint)) (a .grid) (in-loop→push c .push .last .0) (l .store)
-    (asPoint (a .node)) (a .stamp) (l .depth) (asPoint (l .top)) (l .below))
+    (asPoint (a .node)) (a .stamp) (a .soon) (l .depth) (asPoint (l .top)) (l .below) (l .ahead))
 turn c j h = record { for = h; going = in-loop→loop c .loop .inv .1 j h; some = omega (arith, c .loop-test .taken) }
 
 -- Past the test the position on top is no goal.
@@ -53,14 +53,14 @@ dull c j h = no-goal (turn (joined1→in-loop c) j h) (λ z. ⊎-elim (λ w. w .
 looked : (c : tie.After-leads Inv-loop μ-loop) (j : Job) → For (leads→push c) j →
     (let a = leads→start c .args in let l = leads→loop c .loop in
     Looked j (now (a .near)) (now (a .begin)) (now (a .due)) (now (a .shut)) (now (a .cart-on)) (now (a .hint)) (a .grid) (leads→push c .push .last .0) (l .store)
-    (asPoint (a .node)) (a .stamp) (l .depth) (asPoint (l .top)) (l .below) (c .leads .result))
+    (asPoint (a .node)) (a .stamp) (a .soon) (l .depth) (asPoint (l .top)) (l .below) (l .ahead) (c .leads .result))
 looked c j h = record { turn = turn (leads→in-loop c) j h; sees = c .leads .ensures; dull = dull (leads→joined1 c) j h }
 
 push-requires : tie.Need-push-requires Inv-loop μ-loop
 push-requires c κs = first-needs (push-arg→start c .pre .1)
 
 loop-holds : tie.Need-loop-holds Inv-loop μ-loop
-loop-holds c = (refl, λ j h. under-way (now (slice-known2→start c .args .store)) _ (slice-known2→push c .push .ensures) (slice-known2→start c .pre .1 .holds .room) h)
+loop-holds c = (refl, λ j h. under-way (now (slice-known2→start c .args .store)) _ _ (slice-known2→push c .push .ensures) (slice-known2→start c .pre .1 .holds .room) h)
 
 shared-slice-read-if2 : tie.Need-shared-slice-read-if2 Inv-loop μ-loop
 shared-slice-read-if2 c =
@@ -102,8 +102,15 @@ loop-less c = omega (arith, position→in-loop c .loop-test .taken)
 loop-again : tie.Need-loop-again Inv-loop μ-loop
 loop-again c = (
   position→loop c .loop .inv .0,
-  λ j h. turn-pop (looked (position→leads c) j h) (position→enum-told c .enum-told .given .1) (omega (arith, position→then3 c .if3 .taken)) (c .position .ensures .0) (c .position .ensures .1)
-      (position→via c .via .ensures .0),
+  λ j h.
+      let k = looked (position→leads c) j h in
+      let none = position→enum-told c .enum-told .given .1 in
+      let ec = c .position .ensures .0 in
+      let es = c .position .ensures .1 in
+      ⊎-elim
+      (λ w. rw (w .1) (turn-anew k none ec es))
+      (λ w. rw (w .1) (turn-pop k none ec es (omega (arith, position→then3 c .if3 .taken)) (position→via c .via .ensures .0) (w .0 .left)))
+      (position→joined4 c .if4 .came),
 )
 
 loop-less-2 : tie.Need-loop-less-2 Inv-loop μ-loop

@@ -6,7 +6,7 @@
 -- After-hint3 After-serve-arg After-serve After-store After-slice-known2 At-match-keys1 After-served After-known-told At-match-keys2<After-slice-known2 After-enum-told
 -- The needs, each with its place:
 -- loop-holds@After-slice-known shared-slice-read-wide@After-shared-slice-known7 wide-requires@After-shared-slice-known7 element-copy-out-wide@After-wide
--- wide-requires-2@After-wide-arg slice-aggregate-aim@After-hint aim-requires@After-hint slice-aggregate-serve@After-hint3 serve-requires@After-serve-arg
+-- wide-requires-2@After-wide-arg slice-aggregate-aim@After-hint aim-requires@After-hint slice-aggregate-serve@After-hint3 mul-serve@After-serve-arg serve-requires@After-serve-arg
 -- enum-known-served@At-match-keys1 enum-told@At-match-keys2 same-length@After-enum-told returns@After-enum-told add-i@After-known-told loop-less@After-known-told
 -- loop-again@After-known-told same-length-2@After-loop returns-2@After-loop
 use Rattle.planner.proofs.solve.serve_all.Tie as tie

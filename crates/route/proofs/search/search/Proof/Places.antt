@@ -4,8 +4,8 @@
 -- Start After-shared-slice-known After-shared-slice-known2 After-shared-slice-known3 After-shared-slice-known4 After-shared-slice-known5 After-shared-slice-known6
 -- After-slice-known After-push-arg After-push After-store After-slice-known2 At-loop In-loop After-loop<At-loop After-struct-known<In-loop Then1 After-shared-slice-known7 Then2
 -- Else2<After-shared-slice-known7 Else1<After-struct-known Joined1<After-struct-known After-leads-arg After-leads At-match-keys1 After-found After-known-told
--- At-match-keys2<After-leads After-enum-told Then3 After-via-arg After-via After-position-arg After-position Else3<After-enum-told After-push-arg2<After-known-told After-push2
--- After-store2 After-slice-known3
+-- At-match-keys2<After-leads After-enum-told Then3 After-via-arg After-via Then4 Else4<After-via Joined4<After-via After-position-arg After-position Else3<After-enum-told
+-- After-push-arg2<After-known-told After-push2 After-store2 After-slice-known3
 -- The needs, each with its place:
 -- push-requires@After-push-arg loop-holds@After-slice-known2 shared-slice-read-if2@After-shared-slice-known7 same-length@Then2 returns@Then2 leads-requires@After-leads-arg
 -- enum-known-found@At-match-keys1 enum-told@At-match-keys2 sub-depth@After-enum-told via-requires@After-via-arg sub-position@After-position-arg
@@ -99,16 +99,19 @@ module _ {Inv : tie.InvT-loop} {μ : tie.MeasureT-loop} where
   via-arg→push c = in-loop→push (via-arg→in-loop c)
 
   abbrev pub position-arg→then3 : tie.After-position-arg Inv μ → tie.Then3 Inv μ
-  position-arg→then3 c = c .before .before .before
+  position-arg→then3 c = c .before .before .before .before
 
   abbrev pub position-arg→in-loop : tie.After-position-arg Inv μ → tie.In-loop Inv μ
-  position-arg→in-loop c = via-arg→in-loop (c .before .before)
+  position-arg→in-loop c = via-arg→in-loop (c .before .before .before)
 
   abbrev pub position-arg→push : tie.After-position-arg Inv μ → tie.After-push Inv μ
   position-arg→push c = in-loop→push (position-arg→in-loop c)
 
+  abbrev pub position→joined4 : tie.After-position Inv μ → tie.Joined4 Inv μ
+  position→joined4 c = c .before .before
+
   abbrev pub position→via : tie.After-position Inv μ → tie.After-via Inv μ
-  position→via c = c .before .before
+  position→via c = position→joined4 c .before
 
   abbrev pub position→then3 : tie.After-position Inv μ → tie.Then3 Inv μ
   position→then3 c = position-arg→then3 (c .before)
