@@ -13,6 +13,7 @@ use Rattle.model.specs.Walk.{Open, InTime}
 use Rattle.model.specs.Choke.{Point, point, Choke, cellStep, wholeCall, KnownChoke, ChokesInOrder}
 use Rattle.model.specs.Ready.{Ready}
 use Rattle.model.specs.Contracts.{RightChokes}
+use Rattle.model.proofs.Floor.{time-due}
 use Rattle.model.proofs.Basics.{nope}
 use Rattle.model.proofs.Decisions.{no-lift}
 use Rattle.job.specs.Arrays.{callKind, jobOf}
@@ -81,10 +82,6 @@ lifted-in-time (suc k) d t h = absurd (omega arith)
 parked-in-time : (k d t : ℕ) → t < maxSteps → closesAt k d ≡ t + 1 → (callKind k ≡ lift → ⊥) × InTime (callKind k) d t
 parked-in-time zero d t few e = absurd (omega arith)
 parked-in-time (suc k) d t few e = (no-lift, omega arith)
-
-by-deadline : (k d t : ℕ) → InTime (callKind k) d t → t ≤ d
-by-deadline zero d t h = h
-by-deadline (suc k) d t h = omega arith
 
 module _ (s : Job) (ready : Ready (jobOf s)) where
   pub carts-known : (k : ℕ) → k < s .carts → getD (s .starts) k 0 < s .cells
@@ -218,5 +215,5 @@ module _ (s : Job) (ready : Ready (jobOf s)) where
                   let l : k < s .calls = omega (arith, b, calls-count s) in
                   let q = call-at s k l in
                   let met′ : InTime (callKind (getD (s .kinds) k 0)) (getD (s .deadlines) k 0) t = rw q at met in
-                  let soon : t ≤ last = omega (arith, by-deadline (getD (s .kinds) k 0) (getD (s .deadlines) k 0) t met′, deadline-by s k l) in
+                  let soon : t ≤ last = omega (arith, time-due (callKind (getD (s .kinds) k 0)) (getD (s .deadlines) k 0) t met′, deadline-by s k l) in
                   none (t, soon, (getD (s .targets) k 0, free t (getD (s .targets) k 0) (omega arith) .1 (rw q at f), call-met k t l (λ p. whole (passed k .1 p), met′)))
