@@ -16,19 +16,19 @@ use Rattle.route.proofs.search.from_call.Tie as tie
 mod Places
 use Places.*
 
+first-is : (c : tie.Joined1) → (let a = joined1→start c .args in c .if1 .first ≡ firstOf (now (a .due)) (now (a .shut)) (a .cell))
+first-is c =
+    let a = joined1→start c .args in
+    ⊎-elim (λ w. w .1 ∙ sym (first-bay (now (a .due)) (now (a .shut)) (a .cell) (w .0 .taken))) (λ w. w .1 ∙ sym (first-lift (now (a .due)) (now (a .shut)) (a .cell) (w .0 .left))) (c .if1 .came)
+
+past-is : (c : tie.Joined2) → (let a = joined2→start c .args in c .if2 .past ≡ min (getD (now (a .due)) (a .cell) 0) (a .below))
+past-is c = ⊎-elim (λ w. omega (arith, w)) (λ w. omega (arith, w)) (c .if2 .came)
+
 -- A cell is open at step 0, so that a call on one that is closed in time is due later.
 sub-first : tie.Need-sub-first
 sub-first c =
     let (j, h, o, k, l) = then1→start c .pre .0 in
     omega (arith, c .if1 .taken, o .opens (then1→start c .args .cell) 0 (omega (arith, h .ready .fit .few-cells)) (omega arith) .1 (λ q m b e. omega arith))
-
-past-is : (c : tie.Joined2) → (let a = joined2→start c .args in c .if2 .past ≡ min (getD (now (a .due)) (a .cell) 0) (a .below))
-past-is c = ⊎-elim (λ w. omega (arith, w)) (λ w. omega (arith, w)) (c .if2 .came)
-
-first-is : (c : tie.Joined1) → (let a = joined1→start c .args in c .if1 .first ≡ firstOf (now (a .due)) (now (a .shut)) (a .cell))
-first-is c =
-    let a = joined1→start c .args in
-    ⊎-elim (λ w. w .1 ∙ sym (first-bay (now (a .due)) (now (a .shut)) (a .cell) (w .0 .taken))) (λ w. w .1 ∙ sym (first-lift (now (a .due)) (now (a .shut)) (a .cell) (w .0 .left))) (c .if1 .came)
 
 look-requires : tie.Need-look-requires
 look-requires c κs =
