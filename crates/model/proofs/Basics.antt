@@ -1,7 +1,7 @@
 -- Small facts that every file of proofs cites. Assumes nothing.
 use Prim.Native.Nat.{ℕ}
 use mathlib.Core.Path.{_≡_, refl}
-use mathlib.Core.Bool.{Bool, true, false, _&&_}
+use mathlib.Core.Bool.{Bool, true, false, cond, _&&_}
 use native.Mathlib.Omega.{arith}
 
 -- What contradicts itself proves all: `nope (cc)`.
@@ -21,3 +21,8 @@ and-both x y e f = rw (e, f)
 
 pub and-second : (x y : Bool) → x ≡ true → (x && y) ≡ y
 and-second x y e = rw e
+
+-- both ways lead to the same
+pub either-way : {A : Type 0} (t : Bool) (a : A) → cond t a a ≡ a
+either-way true a = refl
+either-way false a = refl

@@ -10,6 +10,8 @@ pub mod Floor
 pub mod Written
 pub mod Read
 pub mod Ready
+pub mod Digits
+pub mod AsBefore
 pub mod Agree
 pub mod Decisions
 pub mod OneOrder

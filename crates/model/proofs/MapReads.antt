@@ -1,5 +1,6 @@
--- The text that is written for a map reads as its job. Its tracks rise by their ends, and each leads from a lower cell to a higher one: so no two join the same cells, either way round, and
--- every line passes the reader's tests. The counts pass as a cell has two tracks at most: 256 cells have 512, and lines of at most 14 bytes. Assumes nothing.
+-- The text that is written for a map reads as its job. Its numbers are plain, so that it is read as before exponents. Its tracks rise by their ends, and each leads from a lower cell to a
+-- higher one: so no two join the same cells, either way round, and every line passes the reader's tests. The counts pass as a cell has two tracks at most: 256 cells have 512, and lines of at
+-- most 14 bytes. Assumes nothing.
 use Prim.Native.Nat.{ℕ, suc, _+_, _*_, _≤_, _<_}
 use mathlib.Core.Path.{_≡_, refl, sym, ap, subst, _∙_}
 use mathlib.Core.List.{List, [], _∷_, _++_, map, append-assoc, append-nil}
@@ -15,15 +16,16 @@ use Rattle.model.specs.Limits.{maxCells, maxTracks, maxText}
 use Rattle.model.specs.Lists.{In, Rising, Lex, eachBelow}
 use Rattle.model.specs.Job.{Job, Track, track}
 use Rattle.model.specs.Walk.{Arc}
-use Rattle.model.specs.Text.{linesOf, fieldsOf, numeral, fields, line, floorWord, trackWord, numbersOf}
+use Rattle.model.specs.Text.{linesOf, fieldsOf, numeral, fields, line, floorWord, trackWord, numberOf, numbersOf}
 use Rattle.model.specs.SheetText.{linesText}
 use Rattle.model.specs.ReadJob.{Verdict, refused, accepted, Kind, floorLine, trackLine, noJob, leads, mayFollow, fieldCount, inRange, hasRoom, isNew, add, wrong, right}
-use Rattle.model.specs.ReadJob.{numbersSay, fieldsSay, lineSays, goOn, linesSay, readJob}
+use Rattle.model.specs.ReadJob.{numbersSay, fieldsSay, lineSays, goOn, linesSay, readBy, readJob}
 use Rattle.model.specs.GridMap.{Drawn, bad, drawn, readMap, cellAt, mapCells, cellNumber, trackTo, tracksAt, tracksOf, trackNumbers, mapText, floorJob, NextTo, floorText, mapVerdict}
 use Rattle.model.proofs.Basics.{nope, and-left, and-right, and-both}
 use Rattle.model.proofs.Lists.{in-left, in-right}
 use Rattle.model.proofs.Lex.{lex-on, lex-apart}
 use Rattle.model.proofs.Rise.{rising-append, each-rising, rising-across}
+use Rattle.model.proofs.AsBefore.{same-job}
 use Rattle.model.proofs.Room.{line-room, lines-room}
 use Rattle.model.proofs.Written.{AllSmall, numeral-good, line-read, fields-first, fields-apart, numbers-read}
 use Rattle.model.proofs.Numbering.{number-rises, number-below, each-in, tracks-few}
@@ -92,9 +94,9 @@ module _ (m : List (List ℕ)) where
 -- A line that passes its tests says the job with it.
 line-passes : (j : Job) (k : Kind) (n : ℕ) (ns : List ℕ) → AllSmall (n ∷ ns) → eqb (length (map numeral (n ∷ ns))) (fieldCount k) ≡ true → mayFollow j k ≡ true
     → inRange j k n (getD ns 0 0) ≡ true → hasRoom j k ≡ true → isNew j k n (getD ns 0 0) ≡ true
-    → fieldsSay j k (fieldsOf (numeral n ++ fields ns)) ≡ right (add j k n (getD ns 0 0))
+    → fieldsSay numberOf j k (fieldsOf (numeral n ++ fields ns)) ≡ right (add j k n (getD ns 0 0))
 line-passes j k n ns h count follows range room new =
-    ap (fieldsSay j k) (fields-first (numeral n) (fields ns) (map numeral ns) (numeral-good n (h .0) .0) (fields-apart ns (h .1)))
+    ap (fieldsSay numberOf j k) (fields-first (numeral n) (fields ns) (map numeral ns) (numeral-good n (h .0) .0) (fields-apart ns (h .1)))
     ∙ ap (λ x. cond x (numbersSay j k (numbersOf (map numeral (n ∷ ns)))) (wrong BadLine)) (and-both (mayFollow j k) _ follows count)
     ∙ ap (numbersSay j k) (numbers-read (n ∷ ns) h)
     ∙ rw (range, room, new)
@@ -114,7 +116,7 @@ floorOf n ts = record { cells = n; tracks = ts; carts = []; calls = [] }
 
 module _ (n : ℕ) (ts : List Track) (some : 0 < n) (few : n ≤ maxCells) (rise : Rising TrackBefore ts) (known : (t : Track) → In t ts → (t .from < t .to) × (t .to < n))
     (room : length ts ≤ maxTracks) where
-  track-said : (got rest : List Track) (t : Track) → got ++ (t ∷ rest) ≡ ts → lineSays (floorOf n got) (trackWord ++ fields (trackNumbers t)) ≡ right (floorOf n (got ++ (t ∷ [])))
+  track-said : (got rest : List Track) (t : Track) → got ++ (t ∷ rest) ≡ ts → lineSays numberOf (floorOf n got) (trackWord ++ fields (trackNumbers t)) ≡ right (floorOf n (got ++ (t ∷ [])))
   track-said got rest t e =
       let old : (s : Track) → In s got → TrackBefore s t = λ s i. rising-across TrackBefore (λ x y z. lex-on) got (t ∷ rest) (rw e rise) s t i (inl refl) in
       let up : (s : Track) → In s got → s .from < s .to = λ s i. known s (rw e at (in-left s got (t ∷ rest) i)) .0 in
@@ -128,23 +130,25 @@ module _ (n : ℕ) (ts : List Track) (some : 0 < n) (few : n ≤ maxCells) (rise
       (and-both (ltb (t .from) n) (ltb (t .to) n) (lt-ltb (t .from) n (omega arith)) (lt-ltb (t .to) n (k .1)))
       (lt-ltb (length got) maxTracks (omega (arith, length-append got (t ∷ rest), ap length e))) new
 
-  tracks-say : (got rest : List Track) (k : ℕ) → got ++ rest ≡ ts → linesSay (floorOf n got) k (linesOf (linesText (λ t. trackWord) trackNumbers rest)) ≡ accepted (floorOf n ts)
+  tracks-say : (got rest : List Track) (k : ℕ) → got ++ rest ≡ ts → linesSay numberOf (floorOf n got) k (linesOf (linesText (λ t. trackWord) trackNumbers rest)) ≡ accepted (floorOf n ts)
   tracks-say got [] k e = rw (ne-eqb n 0 (λ h. omega arith)) (ap (λ l. accepted (floorOf n l)) (sym (append-nil got) ∙ e))
   tracks-say got (t ∷ rest) k e =
       let h = known t (rw e at (in-right t got (t ∷ rest) (inl refl))) in
-      ap (linesSay (floorOf n got) k) (line-read trackWord (trackNumbers t) (linesText (λ t. trackWord) trackNumbers rest) refl (omega arith, (omega arith, tt)))
-      ∙ ap (λ x. goOn x k (λ j. linesSay j (k + 1) (linesOf (linesText (λ t. trackWord) trackNumbers rest)))) (track-said got rest t e)
+      ap (linesSay numberOf (floorOf n got) k) (line-read trackWord (trackNumbers t) (linesText (λ t. trackWord) trackNumbers rest) refl (omega arith, (omega arith, tt)))
+      ∙ ap (λ x. goOn x k (λ j. linesSay numberOf j (k + 1) (linesOf (linesText (λ t. trackWord) trackNumbers rest)))) (track-said got rest t e)
       ∙ tracks-say (got ++ (t ∷ [])) rest (k + 1) (append-assoc got (t ∷ []) rest ∙ e)
 
-pub map-reads : (m : List (List ℕ)) → 0 < mapCells m → mapCells m ≤ maxCells → readJob (mapText m) ≡ accepted (floorJob m)
-unfolding readJob
-map-reads m some few =
+plain-reads : (m : List (List ℕ)) → 0 < mapCells m → mapCells m ≤ maxCells → readBy numberOf (mapText m) ≡ accepted (floorJob m)
+plain-reads m some few =
     let n = mapCells m in
     rw (le-ltb maxText (length (mapText m)) (omega (arith, text-room m)))
-    (ap (linesSay noJob 1) (line-read floorWord (n ∷ []) (linesText (λ t. trackWord) trackNumbers (tracksOf m)) refl (omega arith, tt))
-    ∙ ap (λ x. goOn x 1 (λ j. linesSay j 2 (linesOf (linesText (λ t. trackWord) trackNumbers (tracksOf m)))))
+    (ap (linesSay numberOf noJob 1) (line-read floorWord (n ∷ []) (linesText (λ t. trackWord) trackNumbers (tracksOf m)) refl (omega arith, tt))
+    ∙ ap (λ x. goOn x 1 (λ j. linesSay numberOf j 2 (linesOf (linesText (λ t. trackWord) trackNumbers (tracksOf m)))))
     (line-passes noJob floorLine n [] (omega arith, tt) refl refl (and-both (ltb 0 n) (leb n maxCells) (lt-ltb 0 n some) (le-leb n maxCells few)) refl refl)
     ∙ tracks-say n (tracksOf m) some few (tracks-rise m) (track-known m) (omega (arith, tracks-few m)) [] (tracksOf m) 2 refl)
+
+pub map-reads : (m : List (List ℕ)) → 0 < mapCells m → mapCells m ≤ maxCells → readJob (mapText m) ≡ accepted (floorJob m)
+map-reads m some few = same-job (mapText m) (floorJob m) (plain-reads m some few)
 
 -- The text b is that of the map in d, reads as its job, and fits.
 abbrev pub Writes : Drawn → ℕ → List ℕ → Type 0

@@ -1,5 +1,5 @@
--- What no filed example shows, each as a row: the least buffers, the form of a sheet and the line of a 11, what is no conflict, early lifts, what a whole call stops, the order
--- of a plan and of a choke list, the form of a map.
+-- What no filed example shows, each as a row: the least buffers, exponents, the form of a sheet and the line of a 11, what is no conflict, early lifts, what a whole call stops, the
+-- order of a plan and of a choke list, the form of a map.
 use Prim.Native.Nat.{ℕ, _+_, _*_}
 use Prim.Native.String.{String}
 use mathlib.Core.List.{List, [], _∷_}
@@ -24,6 +24,35 @@ buffers =
 -- 11 at a line
 abbrev at : ℕ → ℕ
 at line = 11 + 256 * line
+
+-- `e` or `E`, an optional `+` and one digit, and nothing else behind a number; range and doubled lines go by the value; a sheet and a map have plain numbers
+abbrev exponents : List Row
+exponents =
+    plans "FLOOR\t25e1\n" 12096 64 (wrote 0 "PLAN\t0\n")
+    ∷ plans "FLOOR\t25e1\n" 12095 64 (refuses 9 0)
+    ∷ plans "FLOOR\t256e0\n" 12288 64 (wrote 0 "PLAN\t0\n")
+    ∷ plans "FLOOR\t256e0\n" 12287 64 (refuses 9 0)
+    ∷ plans "FLOOR\t1E+0\nCART\t0e5\nCALL\t0\t0e9\n" big big (wrote 0 "PLAN\t1\nPATH\t0\t0\t0\n")
+    ∷ plans "FLOOR\t2\nCART\t1e0\nBAY\t1E0\t0\n" big big (wrote 0 "PLAN\t1\nPATH\t0\t0\t1\n")
+    ∷ plans "FLOOR\t1\nCART\t0\nCALL\t0\t255e0\n" 12287 big (refuses 9 0)
+    ∷ plans "FLOOR\t1\nCART\t0\nCALL\t0\t256e0\n" big big (refuses 5 3)
+    ∷ plans "FLOOR\t0e5\n" big big (refuses 5 1)
+    ∷ plans "FLOOR\t33e8\n" big big (refuses 5 1)
+    ∷ plans "FLOOR\t128e9\n" big big (refuses 5 1)
+    ∷ plans "FLOOR\t2\nTRACK\t0e3\t1e0\nTRACK\t0\t1\n" big big (refuses 7 3)
+    ∷ plans "FLOOR\t2\nTRACK\t1\t1e0\n" big big (refuses 7 2)
+    ∷ plans "FLOOR\t2\nTRACK\t999e9\tx\n" big big (refuses 4 2)
+    ∷ plans "FLOOR\t00e1\n" big big (refuses 4 1)
+    ∷ plans "FLOOR\t1e\n" big big (refuses 4 1)
+    ∷ plans "FLOOR\t1e+\n" big big (refuses 4 1)
+    ∷ plans "FLOOR\t1e-1\n" big big (refuses 4 1)
+    ∷ plans "FLOOR\t1e10\n" big big (refuses 4 1)
+    ∷ plans "FLOOR\t1.0\n" big big (refuses 4 1)
+    ∷ plans "FLOOR\t1 e1\n" big big (refuses 4 1)
+    ∷ plans "FLOOR\te1\n" big big (refuses 4 1)
+    ∷ checks jobD big "PLAN\t1e0\nPATH\t0\t0\t0\n" (at 1)
+    ∷ maps "type octile\nheight 1e0\nwidth 1\nmap\n.\n" big (refuses 13 2)
+    ∷ []
 
 abbrev sheets : List Row
 sheets =
@@ -152,6 +181,10 @@ drawings =
 pub buffers-hold : (x : Row) → In x buffers → RowHolds x
 unfolding readJob readSheet
 buffers-hold x m = row-holds x (decided (all-in dec-row buffers) tt x m)
+
+pub exponents-hold : (x : Row) → In x exponents → RowHolds x
+unfolding readJob readSheet readMap
+exponents-hold x m = row-holds x (decided (all-in dec-row exponents) tt x m)
 
 pub sheets-hold : (x : Row) → In x sheets → RowHolds x
 unfolding readJob readSheet

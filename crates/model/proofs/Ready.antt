@@ -16,7 +16,7 @@ use Rattle.model.specs.Limits.{maxCells, maxTracks, maxCarts, maxCalls, 
 use Rattle.model.specs.Lists.{In, NoDup}
 use Rattle.model.specs.Job.{Job, Track, lift, bay, track, call}
 use Rattle.model.specs.Ready.{SameEnds, Fit, Ready}
-use Rattle.model.specs.Text.{Lines, done, cut, more, linesOf, numbersOf, opens, after, floorWord, trackWord, cartWord, callWord, bayWord}
+use Rattle.model.specs.Text.{Lines, done, cut, more, linesOf, numbersBy, scaledOf, opens, after, floorWord, trackWord, cartWord, callWord, bayWord}
 use Rattle.model.specs.ReadJob.{refused, accepted, Kind, floorLine, trackLine, cartLine, callLine, noJob, member, leads, inRange, hasRoom}
 use Rattle.model.specs.ReadJob.{isNew, add, mayFollow, fieldCount, Said, wrong, right, numbersSay, fieldsSay, lineSays, goOn, linesSay, readJob}
 use Rattle.model.proofs.Basics.{nope, and-left, and-right}
@@ -50,23 +50,26 @@ numbers-added j j′ k (some ns) f e =
     let (h₃, e₃) = cond-right (isNew j k a b) _ _ j′ e₂ in
     record { kind = k; a = a; b = b; follows = f; ranged = h₁; room = h₂; new = h₃; so = right-same (add j k a b) j′ e₃ }
 
-fields-added : (j j′ : Job) (k : Kind) (fs : List (List ℕ)) → fieldsSay j k fs ≡ right j′ → RightLine j j′
-fields-added j j′ k fs e =
-    let h = cond-right (mayFollow j k && eqb (length fs) (fieldCount k)) (numbersSay j k (numbersOf fs)) _ j′ e in
-    numbers-added j j′ k (numbersOf fs) (and-left (mayFollow j k) (eqb (length fs) (fieldCount k)) (h .0)) (h .1)
+module _ (number : List ℕ → Option ℕ) where
+  fields-added : (j j′ : Job) (k : Kind) (fs : List (List ℕ)) → fieldsSay number j k fs ≡ right j′ → RightLine j j′
+  fields-added j j′ k fs e =
+      let h = cond-right (mayFollow j k && eqb (length fs) (fieldCount k)) (numbersSay j k (numbersBy number fs)) _ j′ e in
+      numbers-added j j′ k (numbersBy number fs) (and-left (mayFollow j k) (eqb (length fs) (fieldCount k)) (h .0)) (h .1)
 
-pub line-added : (j j′ : Job) (l : List ℕ) → lineSays j l ≡ right j′ → RightLine j j′
-line-added j j′ l e = go (opens floorWord l) (opens trackWord l) (opens cartWord l) (opens callWord l) (opens bayWord l) e
-  where
-    go : (t u v w x : Bool) → cond t (fieldsSay j floorLine (after floorWord l)) (cond u (fieldsSay j trackLine (after trackWord l))
-        (cond v (fieldsSay j cartLine (after cartWord l)) (cond w (fieldsSay j (callLine lift) (after callWord l))
-        (cond x (fieldsSay j (callLine bay) (after bayWord l)) (wrong BadLine))))) ≡ right j′ → RightLine j j′
-    go true u v w x e = fields-added j j′ floorLine (after floorWord l) e
-    go false true v w x e = fields-added j j′ trackLine (after trackWord l) e
-    go false false true w x e = fields-added j j′ cartLine (after cartWord l) e
-    go false false false true x e = fields-added j j′ (callLine lift) (after callWord l) e
-    go false false false false true e = fields-added j j′ (callLine bay) (after bayWord l) e
-    go false false false false false e = nope (cc)
+  pub line-added : (j j′ : Job) (l : List ℕ) → lineSays number j l ≡ right j′ → RightLine j j′
+  line-added j j′ l e = go (opens floorWord l) (opens trackWord l) (opens cartWord l) (opens callWord l) (opens bayWord l) e
+    where
+      say : Kind → List ℕ → Said
+      say k word = fieldsSay number j k (after word l)
+
+      go : (t u v w x : Bool) → cond t (say floorLine floorWord) (cond u (say trackLine trackWord) (cond v (say cartLine cartWord)
+          (cond w (say (callLine lift) callWord) (cond x (say (callLine bay) bayWord) (wrong BadLine))))) ≡ right j′ → RightLine j j′
+      go true u v w x e = fields-added j j′ floorLine (after floorWord l) e
+      go false true v w x e = fields-added j j′ trackLine (after trackWord l) e
+      go false false true w x e = fields-added j j′ cartLine (after cartWord l) e
+      go false false false true x e = fields-added j j′ (callLine lift) (after callWord l) e
+      go false false false false true e = fields-added j j′ (callLine bay) (after bayWord l) e
+      go false false false false false e = nope (cc)
 
 -- A member more, at the end.
 in-snoc : {A : Type 0} (a x : A) (l : List A) → In a (l ++ (x ∷ [])) → In a l ⊎ (a ≡ x)
@@ -216,7 +219,7 @@ module _ (j : Job) (f : Fit j) (a b : ℕ) where
 pub line-fit : {j j′ : Job} → Fit j → RightLine j j′ → Fit j′
 line-fit {j} f h = subst Fit (h .so) (add-fit j f (h .a) (h .b) (h .kind) (h .follows) (h .ranged) (h .room) (h .new))
 
-lines-ready : (j j′ : Job) (n : ℕ) (ls : Lines) → Fit j → linesSay j n ls ≡ accepted j′ → Ready j′
+lines-ready : (j j′ : Job) (n : ℕ) (ls : Lines) → Fit j → linesSay scaledOf j n ls ≡ accepted j′ → Ready j′
 lines-ready j j′ n done f e = go (eqb (j .cells) 0) refl (eqb (length (j .carts)) (length (j .calls))) refl e
   where
     same : accepted j ≡ accepted j′ → j ≡ j′
@@ -228,17 +231,17 @@ lines-ready j j′ n done f e = go (eqb (j .cells) 0) refl (eqb (length (j .cart
     go false p true q e = subst Ready (same e) (record { fit = f; has-cells = let n = eqb-false (j .cells) 0 p in omega arith; even = eqb-true (length (j .carts)) (length (j .calls)) q })
     go false p false q e = nope (cc)
 lines-ready j j′ n cut f e = nope (cc)
-lines-ready j j′ n (more l ls) f e = go (lineSays j l) refl e (λ k. lines-ready k j′ (n + 1) ls)
+lines-ready j j′ n (more l ls) f e = go (lineSays scaledOf j l) refl e (λ k. lines-ready k j′ (n + 1) ls)
   where
-    go : (s : Said) → lineSays j l ≡ s → goOn s n (λ k. linesSay k (n + 1) ls) ≡ accepted j′
-        → ((k : Job) → Fit k → linesSay k (n + 1) ls ≡ accepted j′ → Ready j′) → Ready j′
+    go : (s : Said) → lineSays scaledOf j l ≡ s → goOn s n (λ k. linesSay scaledOf k (n + 1) ls) ≡ accepted j′
+        → ((k : Job) → Fit k → linesSay scaledOf k (n + 1) ls ≡ accepted j′ → Ready j′) → Ready j′
     go (wrong k) q e ih = nope (cc)
-    go (right k) q e ih = ih k (line-fit f (line-added j k l q)) e
+    go (right k) q e ih = ih k (line-fit f (line-added scaledOf j k l q)) e
 
 pub read-ready : (s : List ℕ) (j : Job) → readJob s ≡ accepted j → Ready j
 unfolding readJob
 read-ready s j e = go (ltb maxText (length s)) e
   where
-    go : (t : Bool) → cond t (refused TextTooLong 0) (linesSay noJob 1 (linesOf s)) ≡ accepted j → Ready j
+    go : (t : Bool) → cond t (refused TextTooLong 0) (linesSay scaledOf noJob 1 (linesOf s)) ≡ accepted j → Ready j
     go true e = nope (cc)
     go false e = lines-ready noJob j 1 (linesOf s) no-fit e

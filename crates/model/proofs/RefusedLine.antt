@@ -18,7 +18,7 @@ use Rattle.model.specs.Contracts.{withStore, withRoom, Told, Planned, te
 use Rattle.model.specs.Limits.{maxCells, maxTracks, maxCarts, maxCalls, maxSide, maxText}
 use Rattle.model.specs.Job.{Job, track, call, storeLeast, sheetLeast}
 use Rattle.model.specs.Ready.{Fit}
-use Rattle.model.specs.Text.{Lines, done, cut, more, linesOf}
+use Rattle.model.specs.Text.{Lines, done, cut, more, linesOf, scaledOf}
 use Rattle.model.specs.Bytes.{bytes}
 use Rattle.model.specs.FirstBad.{orBad, lineDue, restSays}
 use Rattle.model.specs.GridMap.{Drawn, bad, drawn, wordLine, sizeLine, rowLine, readMap, mapCells, mapText, floorText}
@@ -65,7 +65,7 @@ module _ (j : Job) (n : ℕ) where
   behind-few f (inl (_, first)) = omega arith
   behind-few f (inr (_, few)) = omega (arith, f .few-tracks, f .few-carts, f .few-calls)
 
-lines-early : (j : Job) (n : ℕ) (ls : Lines) (a : Answer) (l : ℕ) → Fit j → Behind j n → linesSay j n ls ≡ refused a l → l ≤ jobEnd
+lines-early : (j : Job) (n : ℕ) (ls : Lines) (a : Answer) (l : ℕ) → Fit j → Behind j n → linesSay scaledOf j n ls ≡ refused a l → l ≤ jobEnd
 lines-early j n done a l f h e = go (eqb (j .cells) 0) (eqb (length (j .carts)) (length (j .calls))) e
   where
     go : (t u : Bool) → cond t (refused BadLine n) (cond u (accepted j) (refused Uneven 0)) ≡ refused a l → l ≤ jobEnd
@@ -73,20 +73,20 @@ lines-early j n done a l f h e = go (eqb (j .cells) 0) (eqb (length (j .carts)) 
     go false true e = nope (cc)
     go false false e = omega (arith, line-same Uneven a 0 l e)
 lines-early j n cut a l f h e = omega (arith, line-same BadLine a n l e, behind-few j n f h)
-lines-early j n (more r ls) a l f h e = go (lineSays j r) refl e (λ k. lines-early k (n + 1) ls a l)
+lines-early j n (more r ls) a l f h e = go (lineSays scaledOf j r) refl e (λ k. lines-early k (n + 1) ls a l)
   where
-    go : (s : Said) → lineSays j r ≡ s → goOn s n (λ k. linesSay k (n + 1) ls) ≡ refused a l
-        → ((k : Job) → Fit k → Behind k (n + 1) → linesSay k (n + 1) ls ≡ refused a l → l ≤ jobEnd) → l ≤ jobEnd
+    go : (s : Said) → lineSays scaledOf j r ≡ s → goOn s n (λ k. linesSay scaledOf k (n + 1) ls) ≡ refused a l
+        → ((k : Job) → Fit k → Behind k (n + 1) → linesSay scaledOf k (n + 1) ls ≡ refused a l → l ≤ jobEnd) → l ≤ jobEnd
     go (wrong b) q e ih = omega (arith, line-same b a n l e, behind-few j n f h)
     go (right k) q e ih =
-        let x = line-added j k r q in
+        let x = line-added scaledOf j k r q in
         ih k (line-fit f x) (subst (λ k. Behind k (n + 1)) (x .so) (behind-added j n (x .kind) (x .a) (x .b) h (x .follows) (x .ranged))) e
 
 pub job-line : (s : List ℕ) (a : Answer) (l : ℕ) → readJob s ≡ refused a l → l ≤ jobEnd
 unfolding readJob
 job-line s a l e = go (ltb maxText (length s)) e
   where
-    go : (t : Bool) → cond t (refused TextTooLong 0) (linesSay noJob 1 (linesOf s)) ≡ refused a l → l ≤ jobEnd
+    go : (t : Bool) → cond t (refused TextTooLong 0) (linesSay scaledOf noJob 1 (linesOf s)) ≡ refused a l → l ≤ jobEnd
     go true e = omega (arith, line-same TextTooLong a 0 l e)
     go false e = lines-early noJob 1 (linesOf s) a l no-fit (inl (refl, refl)) e
 

@@ -90,6 +90,10 @@ jobWhole = "FLOOR\t4\nTRACK\t1\t0\nTRACK\t2\t0\nCART\t1\nCART\t2\nCALL\t0\t2\nCA
 abbrev pub jobEarly : String
 jobEarly = "FLOOR\t6\nTRACK\t0\t1\nTRACK\t0\t2\nTRACK\t0\t4\nTRACK\t0\t5\nTRACK\t1\t4\nTRACK\t2\t3\nTRACK\t2\t4\nCART\t5\nCART\t1\nCART\t4\nCART\t0\nCALL\t2\t2\nCALL\t0\t1\nCALL\t3\t2\nCALL\t4\t1\n"
 
+-- as the recipe office writes 250 cells and the cells 100 and 120
+abbrev pub jobOffice : String
+jobOffice = "FLOOR\t25e1\nTRACK\t1E+2\t12e1\nCART\t10e1\nCALL\t120e0\t1e0\n"
+
 abbrev pub mapOfFour : String
 mapOfFour = "type octile\nheight 2\nwidth 2\nmap\n..\nGG\n"
 
@@ -135,6 +139,10 @@ filed =
     ∷ checks jobEarly big "CANNOT\t3\nCHOKE\t0\t1\nCHOKE\t2\t1\nCHOKE\t4\t1\n" 12
     ∷ plans "FLOOR\t1\nCART\t0\nBAY\t0\t1\nCALL\t0\t2\n" big big (refuses 7 4)
     ∷ plans "FLOOR\t2\nCART\t0\nBAY\t0\t1\nCART\t1\n" big big (refuses 3 4)
+    ∷ plans jobOffice big big (wrote 0 "PLAN\t1\nPATH\t0\t0\t100\t120\n")
+    ∷ checks jobOffice big "PLAN\t1\nPATH\t0\t0\t10e1\t120\n" (11 + 256 * 2)
+    ∷ plans "FLOOR\t999e9\n" big big (refuses 5 1)
+    ∷ plans "FLOOR\t1\nCART\t1e0\n" big big (refuses 5 2)
     ∷ maps "type octile\nheight 1\nwidth 1\nmap\n.\n" big (wrote 0 "FLOOR\t1\n")
     ∷ maps mapOfFour big (wrote 0 floorOfFour)
     ∷ maps mapOfFour 48 (wrote 0 floorOfFour)

@@ -9,7 +9,7 @@ use Rattle.model.specs.Limits.{maxCells, maxTracks, maxCarts, maxCalls, 
 use Rattle.model.specs.declared.answer.Answer.{Answer}
 use Rattle.model.specs.declared.answer.Answer.the-variants.{TextTooLong, BadLine, NoNumber, OutOfRange, TooMany, Doubled, Uneven}
 use Rattle.model.specs.Job.{Job, Track, CallKind, lift, bay, track, call}
-use Rattle.model.specs.Text.{Lines, done, cut, more, linesOf, numbersOf, opens, after, floorWord, trackWord, cartWord, callWord, bayWord}
+use Rattle.model.specs.Text.{Lines, done, cut, more, linesOf, numbersBy, scaledOf, opens, after, floorWord, trackWord, cartWord, callWord, bayWord}
 
 -- on a text that says an A
 pub data Verdict (A : Type 0) : Type 0 where
@@ -89,17 +89,17 @@ numbersSay j k (some ns) =
     let b = getD ns 1 0 in
     cond (inRange j k a b) (cond (hasRoom j k) (cond (isNew j k a b) (right (add j k a b)) (wrong Doubled)) (wrong TooMany)) (wrong OutOfRange)
 
-abbrev pub fieldsSay : Job → Kind → List (List ℕ) → Said
-fieldsSay j k fs = cond (mayFollow j k && eqb (length fs) (fieldCount k)) (numbersSay j k (numbersOf fs)) (wrong BadLine)
+abbrev pub fieldsSay : (List ℕ → Option ℕ) → Job → Kind → List (List ℕ) → Said
+fieldsSay number j k fs = cond (mayFollow j k && eqb (length fs) (fieldCount k)) (numbersSay j k (numbersBy number fs)) (wrong BadLine)
 
 -- The word at the line's start decides; what follows it and its tab are the fields.
-abbrev pub lineSays : Job → List ℕ → Said
-lineSays j l =
-    cond (opens floorWord l) (fieldsSay j floorLine (after floorWord l))
-    (cond (opens trackWord l) (fieldsSay j trackLine (after trackWord l))
-    (cond (opens cartWord l) (fieldsSay j cartLine (after cartWord l))
-    (cond (opens callWord l) (fieldsSay j (callLine lift) (after callWord l))
-    (cond (opens bayWord l) (fieldsSay j (callLine bay) (after bayWord l))
+abbrev pub lineSays : (List ℕ → Option ℕ) → Job → List ℕ → Said
+lineSays number j l =
+    cond (opens floorWord l) (fieldsSay number j floorLine (after floorWord l))
+    (cond (opens trackWord l) (fieldsSay number j trackLine (after trackWord l))
+    (cond (opens cartWord l) (fieldsSay number j cartLine (after cartWord l))
+    (cond (opens callWord l) (fieldsSay number j (callLine lift) (after callWord l))
+    (cond (opens bayWord l) (fieldsSay number j (callLine bay) (after bayWord l))
     (wrong BadLine)))))
 
 abbrev pub goOn : Said → ℕ → (Job → Verdict Job) → Verdict Job
@@ -110,11 +110,16 @@ goOn (right j) n on = on j
 abbrev pub wholeJob : Job → ℕ → Verdict Job
 wholeJob j n = cond (eqb (j .cells) 0) (refused BadLine n) (cond (eqb (length (j .carts)) (length (j .calls))) (accepted j) (refused Uneven 0))
 
--- The lines from number n on, after those that said j.
-abbrev pub linesSay : Job → ℕ → Lines → Verdict Job
-linesSay j n done = wholeJob j n
-linesSay j n cut = refused BadLine n
-linesSay j n (more l ls) = goOn (lineSays j l) n (λ j′. linesSay j′ (n + 1) ls)
+-- The lines from line n on, after those that said j.
+abbrev pub linesSay : (List ℕ → Option ℕ) → Job → ℕ → Lines → Verdict Job
+linesSay number j n done = wholeJob j n
+linesSay number j n cut = refused BadLine n
+linesSay number j n (more l ls) = goOn (lineSays number j l) n (λ j′. linesSay number j′ (n + 1) ls)
 
+-- The text, its fields read by `number`.
+abbrev pub readBy : (List ℕ → Option ℕ) → List ℕ → Verdict Job
+readBy number s = cond (ltb maxText (length s)) (refused TextTooLong 0) (linesSay number noJob 1 (linesOf s))
+
+-- Numbers of a job may have exponents.
 unfoldable pub readJob : List ℕ → Verdict Job
-readJob s = cond (ltb maxText (length s)) (refused TextTooLong 0) (linesSay noJob 1 (linesOf s))
+readJob s = readBy scaledOf s

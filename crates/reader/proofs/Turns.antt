@@ -11,7 +11,7 @@ use Rattle.model.specs.declared.answer.Answer.the-variants.{Cannot, TextTooLong
 use Rattle.model.specs.Answers.{number}
 use Rattle.model.specs.Limits.{maxCells, maxTracks, maxCarts, maxCalls, maxText}
 use Rattle.model.specs.Job as model
-use Rattle.model.specs.Text.{linesOf}
+use Rattle.model.specs.Text.{linesOf, scaledOf}
 use Rattle.model.specs.ReadJob as read
 use Rattle.model.specs.ReadJob.{floorLine, trackLine, cartLine, callLine, refused, accepted, add, goOn, lineSays, linesSay, wholeJob, readJob}
 use Rattle.text.specs.Scan.{lineOf}
@@ -47,7 +47,7 @@ pub record ReadSoFar (s : List ℕ) (job : Job) (seen : List ℕ) (at line : ℕ
   pub cells : job .cells ≤ maxCells
   pub table : 8 * length seen ≡ tableSize
   pub notes : Noted seen (jobOf job)
-  pub rest : linesSay (jobOf job) line (linesOf (drop at s)) ≡ readJob s
+  pub rest : linesSay scaledOf (jobOf job) line (linesOf (drop at s)) ≡ readJob s
 
 -- A refusal says that of the text.
 pub turned-back : {s : List ℕ} {r : Reading} {a : Answer} {l : ℕ} → (r .verdict ≡ Refused a l) × Sized (r .job) → refused a l ≡ readJob s
@@ -103,11 +103,11 @@ module _ {s : List ℕ} {job : Job} {seen : List ℕ} {at line : ℕ} (k : ReadS
   -- l is the line at `at`, and q the place behind it
   module _ (l : List ℕ) (q : ℕ) (taken : (l ≡ lineOf (drop at s)) × (q ≡ at + length (lineOf (drop at s)) + 1)) where
     pub ends-cut : at < length s → length s < q → refused BadLine line ≡ readJob s
-    ends-cut inside h = sym (ap (linesSay (jobOf job) line) (next-cut s at l q taken inside h)) ∙ k .rest
+    ends-cut inside h = sym (ap (linesSay scaledOf (jobOf job) line) (next-cut s at l q taken inside h)) ∙ k .rest
 
-    module _ (h : q ≤ length s) (entry : Entry) (said : saidBy (jobOf job) entry ≡ lineSays (jobOf job) l) where
-      turned : goOn (saidBy (jobOf job) entry) line (λ j. linesSay j (line + 1) (linesOf (drop q s))) ≡ readJob s
-      turned = rw said (sym (ap (linesSay (jobOf job) line) (next-more s at l q taken h)) ∙ k .rest)
+    module _ (h : q ≤ length s) (entry : Entry) (said : saidBy (jobOf job) entry ≡ lineSays scaledOf (jobOf job) l) where
+      turned : goOn (saidBy (jobOf job) entry) line (λ j. linesSay scaledOf j (line + 1) (linesOf (drop q s))) ≡ readJob s
+      turned = rw said (sym (ap (linesSay scaledOf (jobOf job) line) (next-more s at l q taken h)) ∙ k .rest)
 
       pub ends-wrong : (f : Fault) → entry ≡ Wrong f → refused (answerTo f) line ≡ readJob s
       ends-wrong f w = rw w at turned
@@ -131,7 +131,7 @@ module _ {s : List ℕ} {job : Job} {seen : List ℕ} {at line : ℕ} (k : ReadS
 
   module _ (over : length s ≤ at) where
     ended : wholeJob (jobOf job) line ≡ readJob s
-    ended = sym (ap (linesSay (jobOf job) line) (lines-done s at over)) ∙ k .rest
+    ended = sym (ap (linesSay scaledOf (jobOf job) line) (lines-done s at over)) ∙ k .rest
 
     pub ends-none : job .cells ≡ 0 → refused BadLine line ≡ readJob s
     ends-none z = simp (eq-eqb _ _ z) at ended

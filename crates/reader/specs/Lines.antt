@@ -11,7 +11,7 @@ use Rattle.model.specs.declared.answer.Answer.the-variants as answer
 use Rattle.model.specs.Limits.{maxCells, maxSteps}
 use Rattle.model.specs.Job as model
 use Rattle.model.specs.Job.{lift, bay}
-use Rattle.model.specs.Text.{numbersOf}
+use Rattle.model.specs.Text.{numbersBy, scaledOf}
 use Rattle.model.specs.ReadJob as read
 use Rattle.model.specs.ReadJob.{floorLine, trackLine, cartLine, callLine}
 use Rattle.reader.specs.declared.fill.Kind.{Kind}
@@ -47,12 +47,16 @@ saidBy j (Wrong f) = read.wrong (answerTo f)
 saidBy j (Right k a b) = read.right (read.add j (kindOf k) a b)
 
 -- n fields, and each a number
-abbrev pub numbersBy : Option (List ℕ) → Numbers
-numbersBy none = Bad Number
-numbersBy (some ns) = Good (getD ns 0 0) (getD ns 1 0)
+abbrev pub twoOf : Option (List ℕ) → Numbers
+twoOf none = Bad Number
+twoOf (some ns) = Good (getD ns 0 0) (getD ns 1 0)
 
 abbrev pub numbersGiven : ℕ → List (List ℕ) → Numbers
-numbersGiven n fs = cond (eqb (length fs) n) (numbersBy (numbersOf fs)) (Bad Form)
+numbersGiven n fs = cond (eqb (length fs) n) (twoOf (numbersBy scaledOf fs)) (Bad Form)
+
+-- why they are not: another count, or else one that is no number
+abbrev pub noNumbers : ℕ → List (List ℕ) → Numbers
+noNumbers n fs = cond (eqb (length fs) n) (Bad Number) (Bad Form)
 
 -- The counts are those of the job.
 pub record SameCounts (c : Counts) (j : model.Job) : Type 0 where

@@ -14,9 +14,9 @@ ghost use Prim.Native.Nat.{_*_, _<_, _≤_};
 ghost use lib.ListN.{length};
 ghost use Rattle.model.specs.Limits.{maxCells};
 ghost use Rattle.model.specs.Job as model;
-ghost use Rattle.model.specs.Text.{fieldsOf};
+ghost use Rattle.model.specs.Text.{fieldsOf, scaledOf};
 ghost use Rattle.model.specs.ReadJob.{trackLine, mayFollow, inRange, hasRoom, isNew, fieldCount, numbersSay, fieldsSay, lineSays};
-ghost use Rattle.reader.specs.Lines.{kindOf, answerTo, saidBy, numbersGiven, SameCounts, Noted, Small, passing, GoesBy, Asks, Sound, tableSize};
+ghost use Rattle.reader.specs.Lines.{kindOf, answerTo, saidBy, noNumbers, numbersGiven, SameCounts, Noted, Small, passing, GoesBy, Asks, Sound, tableSize};
 
 // The first test that a line fails.
 pub enum Fault {
@@ -72,25 +72,40 @@ fn may_follow(kind: Kind, counts: Counts) -> bool
     }
 }
 
-// As many fields as asked for, and each a number.
-fn numbers_of(fields: &[u8], count: usize) -> Numbers
-    requires { ⌜ (count ≡ 1) ⊎ (count ≡ 2) ⌝ }
-    ensures { λ r. ⌜ r ≡ numbersGiven count (fieldsOf (now (fields .entry))) ⌝ }
+// Why there are not as many numbers as asked for: another count of fields, or else one that is none.
+fn no_numbers(fields: &[u8], count: usize) -> Numbers
+    ensures { λ r. ⌜ r ≡ noNumbers count (fieldsOf (now (fields .entry))) ⌝ }
 {
     if text::scan::field_count(fields) != count {
         return Numbers::Bad(Fault::Form);
     }
-    let Scan::Value { value, next } = text::scan::number(fields, 0) else {
-        return Numbers::Bad(Fault::Number);
-    };
-    if count == 1 {
-        return Numbers::Good { a: value, b: 0 };
+    Numbers::Bad(Fault::Number)
+}
+
+// As many fields as asked for, and each a number, with an exponent or without. Fields are counted only where one is no number. The scanner
+// is called at one place: it is too long to be put in line at two, and a call for each number would take a quarter more of the time of reading.
+fn numbers_of(fields: &[u8], count: usize) -> Numbers
+    requires { ⌜ (count ≡ 1) ⊎ (count ≡ 2) ⌝ }
+    ensures { λ r. ⌜ r ≡ numbersGiven count (fieldsOf (now (fields .entry))) ⌝ }
+{
+    let mut a = 0;
+    let mut b = 0;
+    let mut at = 0;
+    for _ in 0..count {
+        let Scan::Value { value, next } = text::scan::scaled(fields, at) else {
+            return no_numbers(fields, count);
+        };
+        a = b;
+        b = value;
+        at = next + 1;
     }
-    let a = value;
-    let Scan::Value { value, next: _ } = text::scan::number(fields, next + 1) else {
-        return Numbers::Bad(Fault::Number);
-    };
-    Numbers::Good { a, b: value }
+    if at <= fields.len() {
+        return Numbers::Bad(Fault::Form);
+    }
+    if count == 1 {
+        return Numbers::Good { a: b, b: 0 };
+    }
+    Numbers::Good { a, b }
 }
 
 fn in_range(kind: Kind, counts: Counts, a: usize, b: usize) -> bool
@@ -171,7 +186,7 @@ fn numbers_say(kind: Kind, counts: Counts, seen: &[u8], a: usize, b: usize) -> E
 // What the fields of a line of this kind say.
 fn fields_say(kind: Kind, fields: &[u8], counts: Counts, seen: &[u8]) -> Entry
     requires { ⌜ (counts .cells ≤ maxCells) × (8 * length (now seen) ≡ tableSize) ⌝ }
-    ensures { λ r. ⌜ Sound counts r × ((j : model.Job) → SameCounts counts j → Noted (now (seen .entry)) j → saidBy j r ≡ fieldsSay j (kindOf kind) (fieldsOf (now (fields .entry)))) ⌝ }
+    ensures { λ r. ⌜ Sound counts r × ((j : model.Job) → SameCounts counts j → Noted (now (seen .entry)) j → saidBy j r ≡ fieldsSay scaledOf j (kindOf kind) (fieldsOf (now (fields .entry)))) ⌝ }
 {
     if !may_follow(kind, counts) {
         return Entry::Wrong(Fault::Form);
@@ -186,7 +201,7 @@ fn fields_say(kind: Kind, fields: &[u8], counts: Counts, seen: &[u8]) -> Entry
 // What a line says. The word at its start decides, and what follows the word and its tab goes on as the fields.
 pub fn entry_of(line: &[u8], counts: Counts, seen: &[u8]) -> Entry
     requires { ⌜ (counts .cells ≤ maxCells) × (8 * length (now seen) ≡ tableSize) ⌝ }
-    ensures { λ r. ⌜ Sound counts r × ((j : model.Job) → SameCounts counts j → Noted (now (seen .entry)) j → saidBy j r ≡ lineSays j (now (line .entry))) ⌝ }
+    ensures { λ r. ⌜ Sound counts r × ((j : model.Job) → SameCounts counts j → Noted (now (seen .entry)) j → saidBy j r ≡ lineSays scaledOf j (now (line .entry))) ⌝ }
 {
     if text::scan::opens_with(line, b"FLOOR\t") {
         return fields_say(Kind::Floor, &line[6..], counts, seen);

@@ -14,7 +14,7 @@ use Rattle.model.specs.Text.{fieldsOf, numberOf, andNumber, numbersOf, startsWi
 use Rattle.model.specs.ReadSheet.{allBelow}
 use Rattle.model.proofs.Basics.{nope, and-left, and-right, and-both}
 use Rattle.text.specs.declared.scan.Scan.the-variants.{Value, Fault}
-use Rattle.text.specs.Scan.{fieldOf, scanned, numberAt}
+use Rattle.text.specs.Scan.{fieldAt, fieldOf, scanned, numberAt}
 use Rattle.text.proofs.Numbers.{fields-some, number-none, number-last, number-more}
 use Rattle.sheet.specs.declared.Two.{Two}
 use Rattle.sheet.specs.declared.Two.the-variants as T
@@ -39,21 +39,21 @@ past w l e = ap (λ t. cond t (numbersAt l (length w)) none) e
 -- One number.
 module _ (s : List ℕ) (at : ℕ) where
   pub only-none : numberAt s at ≡ Fault → onlyOf (numbersAt s at) ≡ none
-  only-none e = ap onlyOf (number-none s at e)
+  only-none e = ap onlyOf (number-none numberOf s at e)
 
   module _ (v next : ℕ) (e : numberAt s at ≡ Value v next) where
     pub only-last : length s ≤ next → onlyOf (numbersAt s at) ≡ some v
-    only-last h = ap onlyOf (number-last s at v next e h)
+    only-last h = ap onlyOf (number-last numberOf s at v next e h)
 
     pub only-more : next < length s → onlyOf (numbersAt s at) ≡ none
-    only-more h = ap onlyOf (number-more s at v next e h) ∙ numbers-cases (λ o. onlyOf (andNumber (some v) o) ≡ none) refl (λ m ns. refl) (drop (next + 1) s)
+    only-more h = ap onlyOf (number-more numberOf s at v next e h) ∙ numbers-cases (λ o. onlyOf (andNumber (some v) o) ≡ none) refl (λ m ns. refl) (drop (next + 1) s)
 
     pub and-behind : numbersAt s at ≡ andNumber (some v) (behind s next)
     and-behind = go (ltb next (length s)) refl
       where
         go : (t : Bool) → ltb next (length s) ≡ t → numbersAt s at ≡ andNumber (some v) (cond t (numbersAt s (next + 1)) (some []))
-        go true q = number-more s at v next e (ltb-true _ _ q)
-        go false q = number-last s at v next e (ltb-false _ _ q)
+        go true q = number-more numberOf s at v next e (ltb-true _ _ q)
+        go false q = number-last numberOf s at v next e (ltb-false _ _ q)
 
 pub behind-more : (s : List ℕ) (next : ℕ) → next < length s → behind s next ≡ numbersAt s (next + 1)
 behind-more s next h = simp (lt-ltb _ _ h)
@@ -64,17 +64,17 @@ behind-none s next h = simp (le-ltb _ _ h)
 -- Two numbers.
 module _ (s : List ℕ) (at : ℕ) where
   pub two-none : numberAt s at ≡ Fault → hasTwo (numbersAt s at) ≡ false
-  two-none e = ap hasTwo (number-none s at e)
+  two-none e = ap hasTwo (number-none numberOf s at e)
 
   module _ (a next : ℕ) (e : numberAt s at ≡ Value a next) where
     pub two-last : length s ≤ next → hasTwo (numbersAt s at) ≡ false
-    two-last h = ap hasTwo (number-last s at a next e h)
+    two-last h = ap hasTwo (number-last numberOf s at a next e h)
 
     pub two-half : next < length s → numberAt s (next + 1) ≡ Fault → hasTwo (numbersAt s at) ≡ false
-    two-half h f = ap hasTwo (number-more s at a next e h ∙ ap (andNumber (some a)) (number-none s (next + 1) f))
+    two-half h f = ap hasTwo (number-more numberOf s at a next e h ∙ ap (andNumber (some a)) (number-none numberOf s (next + 1) f))
 
     pub two-both : next < length s → (b end : ℕ) → numberAt s (next + 1) ≡ Value b end → numbersAt s at ≡ withTwo a b (behind s end)
-    two-both h b end f = number-more s at a next e h ∙ ap (andNumber (some a)) (and-behind s (next + 1) b end f)
+    two-both h b end f = number-more numberOf s at a next e h ∙ ap (andNumber (some a)) (and-behind s (next + 1) b end f)
 
 module _ (w l : List ℕ) (r : Two) (read : TwoPast w l r) where
   pub two-missing : r ≡ T.Missing → hasTwo (numbersPast w l) ≡ false
@@ -102,7 +102,7 @@ opened-none a w (b ∷ l) h e = go (eqb b a) refl e
     go false q e = nope (cc)
 
 pub word-no-number : (u w l : List ℕ) (a : ℕ) → ((s : List ℕ) → numberOf (fieldOf (a ∷ s)) ≡ none) → startsWith (u ++ (a ∷ w)) l ≡ true → numberAt l (length u) ≡ Fault
-unfolding numberAt
+unfolding fieldAt
 word-no-number u w l a h e = ap (scanned (length u) (length (fieldOf (drop (length u) l)))) (opened-none a w (drop (length u) l) h (starts-rest u (a ∷ w) l e))
 
 -- Many numbers: those of the list l, and then the given.
@@ -128,7 +128,7 @@ below-not m v (a ∷ l) ns h = rw (below-not m v l ns h) (and-false (ltb a m))
 
 module _ (limit most : ℕ) (s : List ℕ) (at : ℕ) (l : List ℕ) (p : ℕ) (so : numbersAt s at ≡ prefixed l (numbersAt s p)) where
   pub cells-none : numberAt s p ≡ Fault → cellsGiven limit most (numbersAt s at) ≡ none
-  cells-none e = ap (cellsGiven limit most) (so ∙ ap (prefixed l) (number-none s p e))
+  cells-none e = ap (cellsGiven limit most) (so ∙ ap (prefixed l) (number-none numberOf s p e))
 
   -- there are more than may be
   pub cells-over : length l ≡ most → cellsGiven limit most (numbersAt s at) ≡ none
@@ -148,10 +148,10 @@ module _ (limit most : ℕ) (s : List ℕ) (at : ℕ) (l : List ℕ) (p : ℕ) (
         go (some ns) = rw (below-not limit v l ns h, and-false (leb (length (l ++ (v ∷ ns))) most))
 
     pub cells-more : next < length s → numbersAt s at ≡ prefixed (l ++ (v ∷ [])) (numbersAt s (next + 1))
-    cells-more h = so ∙ ap (prefixed l) (number-more s p v next e h) ∙ prefixed-more l v (numbersAt s (next + 1))
+    cells-more h = so ∙ ap (prefixed l) (number-more numberOf s p v next e h) ∙ prefixed-more l v (numbersAt s (next + 1))
 
     pub cells-end : allBelow limit l ≡ true → v < limit → length s ≤ next → (i : ℕ) (out : List ℕ) → length l ≡ i → i < most → take (i + 1) out ≡ l ++ (v ∷ [])
         → cellsRead (i + 1) (take (i + 1) out) ≡ cellsGiven limit most (numbersAt s at)
     cells-end low h end i out n few t =
         let k : length (l ++ (v ∷ [])) ≤ most = omega (arith, length-append l (v ∷ [])) in
-        rw (t, add-one) (sym (ap (cellsGiven limit most) (so ∙ ap (prefixed l) (number-last s p v next e end)) ∙ simp (le-leb _ _ k, below-snoc limit v l low h)))
+        rw (t, add-one) (sym (ap (cellsGiven limit most) (so ∙ ap (prefixed l) (number-last numberOf s p v next e end)) ∙ simp (le-leb _ _ k, below-snoc limit v l low h)))

@@ -2,5 +2,6 @@ pub mod Owned
 pub mod Steps
 pub mod LineLaws
 pub mod Numbers
+pub mod Powers
 pub mod Wrote
 pub mod Table

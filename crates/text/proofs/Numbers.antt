@@ -1,7 +1,7 @@
 -- The fields of a text from an index on, by the number at it: what a loop over fields cites. The first field is what stands before the first
 -- tab, by induction; a number has at least one digit and at most three. Assumes nothing.
 use Prim.Native.Nat.{ℕ, suc, _+_, _-_, _*_, _≤_, _<_}
-use mathlib.Core.Path.{_≡_, refl, ap, _∙_}
+use mathlib.Core.Path.{_≡_, refl, sym, ap, _∙_}
 use mathlib.Core.List.{List, [], _∷_}
 use mathlib.Core.Option.{Option, none, some}
 use mathlib.Core.Bool.{Bool, true, false, cond, _&&_}
@@ -9,11 +9,11 @@ use native.Mathlib.Omega.{arith}
 use lib.Dec.{ltb, leb, eqb}
 use lib.ListN.{length, drop, length-drop}
 use lib.Seq.{drop-drop}
-use borrow.Author.Tests.{ltb-true, ltb-false, leb-true}
-use Rattle.model.specs.Text.{onField, fieldsOf, isDigit, numberFrom, numberOf, andNumber, numbersOf}
+use borrow.Author.Tests.{ltb-true, ltb-false, leb-true, le-leb, lt-leb}
+use Rattle.model.specs.Text.{onField, fieldsOf, isDigit, numberFrom, numberOf, andNumber, numbersBy}
 use Rattle.model.proofs.Basics.{nope, and-left, and-right}
 use Rattle.text.specs.declared.scan.Scan.the-variants.{Value, Fault}
-use Rattle.text.specs.Scan.{fieldOf, scanned, numberAt}
+use Rattle.text.specs.Scan.{fieldOf, scanned, fieldAt, numberAt}
 
 -- Fields.
 pub fields-some : (l : List ℕ) → 0 < length (fieldsOf l)
@@ -73,6 +73,16 @@ fields-first l = go (ltb (length (fieldOf l)) (length l)) refl
     go true q = (fieldsOf (drop (suc (length (fieldOf l))) l), fields-more l (ltb-true _ _ q))
     go false q = ([], fields-last l (ltb-false _ _ q))
 
+-- The fields from a place on; past the end there are none.
+abbrev pub fieldsFrom : List ℕ → ℕ → List (List ℕ)
+fieldsFrom s at = cond (leb at (length s)) (fieldsOf (drop at s)) []
+
+pub fields-from : (s : List ℕ) (at : ℕ) → at ≤ length s → fieldsFrom s at ≡ fieldsOf (drop at s)
+fields-from s at h = ap (λ t. cond t (fieldsOf (drop at s)) []) (le-leb at (length s) h)
+
+pub fields-past : (s : List ℕ) (at : ℕ) → length s < at → fieldsFrom s at ≡ []
+fields-past s at h = ap (λ t. cond t (fieldsOf (drop at s)) []) (lt-leb at (length s) h)
+
 -- Numbers.
 pub digit-low : (b : ℕ) → isDigit b ≡ true → (48 ≤ b) × (b < 58)
 digit-low b e = (leb-true _ _ (and-left _ _ e), ltb-true _ _ (and-right (leb 48 b) (ltb b 58) e))
@@ -89,7 +99,7 @@ from-small v n (b ∷ l) h e = go (isDigit b && ltb 0 v && ltb v 100) refl e (λ
         let low = digit-low b (and-left (isDigit b) (ltb 0 v) (and-left (isDigit b && ltb 0 v) (ltb v 100) q)) in
         ih (omega arith) e
 
-of-small : (n : ℕ) (f : List ℕ) → numberOf f ≡ some n → (0 < length f) × (n < 1000)
+pub of-small : (n : ℕ) (f : List ℕ) → numberOf f ≡ some n → (0 < length f) × (n < 1000)
 of-small n [] e = nope (cc)
 of-small n (b ∷ f) e = go (isDigit b) refl e
   where
@@ -97,36 +107,33 @@ of-small n (b ∷ f) e = go (isDigit b) refl e
     go false q e = nope (cc)
     go true q e = let low = digit-low b q in (omega arith, from-small (b - 48) n f (omega arith) e)
 
-scanned-fault : (at k : ℕ) (o : Option ℕ) → scanned at k o ≡ Fault → o ≡ none
+pub scanned-fault : (at k : ℕ) (o : Option ℕ) → scanned at k o ≡ Fault → o ≡ none
 scanned-fault at k none e = refl
 scanned-fault at k (some v) e = nope (cc)
 
-scanned-value : (at k v next : ℕ) (o : Option ℕ) → scanned at k o ≡ Value v next → (o ≡ some v) × (next ≡ at + k)
+pub scanned-value : (at k v next : ℕ) (o : Option ℕ) → scanned at k o ≡ Value v next → (o ≡ some v) × (next ≡ at + k)
 scanned-value at k v next none e = nope (cc)
 scanned-value at k v next (some w) e = (cc, cc)
 
-pub record Bound (s : List ℕ) (at v next : ℕ) : Type 0 where
-  pub low : at < next
-  pub high : next ≤ length s
-  pub small : v < 1000
+pub scanned-behind : (at k m : ℕ) (o : Option ℕ) → scanned at (k + m) o ≡ scanned (at + k) m o
+scanned-behind at k m none = refl
+scanned-behind at k m (some v) = ap (Value v) (omega arith)
 
-module _ (s : List ℕ) (at : ℕ) where
-  pub number-none : numberAt s at ≡ Fault → numbersOf (fieldsOf (drop at s)) ≡ none
-  unfolding numberAt
+-- The field at `at`, read as a number of whatever kind.
+module _ (number : List ℕ → Option ℕ) (s : List ℕ) (at : ℕ) where
+  pub number-none : fieldAt number s at ≡ Fault → numbersBy number (fieldsOf (drop at s)) ≡ none
+  unfolding fieldAt
   number-none e =
       let (fs, h) = fields-first (drop at s) in
-      ap numbersOf h ∙ ap (λ o. andNumber o (numbersOf fs)) (scanned-fault at (length (fieldOf (drop at s))) (numberOf (fieldOf (drop at s))) e)
+      ap (numbersBy number) h ∙ ap (λ o. andNumber o (numbersBy number fs)) (scanned-fault at (length (fieldOf (drop at s))) (number (fieldOf (drop at s))) e)
 
-  module _ (v next : ℕ) (e : numberAt s at ≡ Value v next) where
-    parts : (numberOf (fieldOf (drop at s)) ≡ some v) × (next ≡ at + length (fieldOf (drop at s)))
-    unfolding numberAt
-    parts = scanned-value at (length (fieldOf (drop at s))) v next (numberOf (fieldOf (drop at s))) e
+  module _ (v next : ℕ) (e : fieldAt number s at ≡ Value v next) where
+    pub parts : (number (fieldOf (drop at s)) ≡ some v) × (next ≡ at + length (fieldOf (drop at s)))
+    unfolding fieldAt
+    parts = scanned-value at (length (fieldOf (drop at s))) v next (number (fieldOf (drop at s))) e
 
-    pub number-bound : at ≤ length s → Bound s at v next
-    number-bound h =
-        let (f, n) = parts in
-        let (long, small) = of-small v (fieldOf (drop at s)) f in
-        record { low = omega arith; high = omega (arith, field-short (drop at s), length-drop at s); small = small }
+    pub next-inside : at ≤ length s → next ≤ length s
+    next-inside h = let n = parts .1 in omega (arith, field-short (drop at s), length-drop at s)
 
     last : length s ≤ next → fieldsOf (drop at s) ≡ fieldOf (drop at s) ∷ []
     last h = let n = parts .1 in fields-last (drop at s) (omega (arith, length-drop at s))
@@ -138,14 +145,28 @@ module _ (s : List ℕ) (at : ℕ) where
         fields-more (drop at s) (omega (arith, length-drop at s))
         ∙ ap (λ l. fieldOf (drop at s) ∷ fieldsOf l) (drop-drop (suc (length (fieldOf (drop at s)))) at s ∙ ap (λ x. drop x s) k)
 
-    pub number-last : length s ≤ next → numbersOf (fieldsOf (drop at s)) ≡ some (v ∷ [])
-    number-last h = ap numbersOf (last h) ∙ ap (λ o. andNumber o (some [])) (parts .0)
+    pub number-last : length s ≤ next → numbersBy number (fieldsOf (drop at s)) ≡ some (v ∷ [])
+    number-last h = ap (numbersBy number) (last h) ∙ ap (λ o. andNumber o (some [])) (parts .0)
 
-    pub number-more : next < length s → numbersOf (fieldsOf (drop at s)) ≡ andNumber (some v) (numbersOf (fieldsOf (drop (next + 1) s)))
-    number-more h = ap numbersOf (another h) ∙ ap (λ o. andNumber o (numbersOf (fieldsOf (drop (next + 1) s)))) (parts .0)
+    pub number-more : next < length s → numbersBy number (fieldsOf (drop at s)) ≡ andNumber (some v) (numbersBy number (fieldsOf (drop (next + 1) s)))
+    number-more h = ap (numbersBy number) (another h) ∙ ap (λ o. andNumber o (numbersBy number (fieldsOf (drop (next + 1) s)))) (parts .0)
 
-    pub count-last : length s ≤ next → length (fieldsOf (drop at s)) ≡ 1
-    count-last h = ap length (last h)
+    -- the field, and those behind it
+    pub field-first : at ≤ length s → fieldsFrom s at ≡ fieldOf (drop at s) ∷ fieldsFrom s (next + 1)
+    field-first h = fields-from s at h ∙ go (ltb next (length s)) refl
+      where
+        go : (t : Bool) → ltb next (length s) ≡ t → fieldsOf (drop at s) ≡ fieldOf (drop at s) ∷ fieldsFrom s (next + 1)
+        go true q = let l = ltb-true _ _ q in another l ∙ ap (λ fs. fieldOf (drop at s) ∷ fs) (sym (fields-from s (next + 1) (omega arith)))
+        go false q = let l = ltb-false _ _ q in last l ∙ ap (λ fs. fieldOf (drop at s) ∷ fs) (sym (fields-past s (next + 1) (omega arith)))
 
-    pub count-more : next < length s → length (fieldsOf (drop at s)) ≡ suc (length (fieldsOf (drop (next + 1) s)))
-    count-more h = ap length (another h)
+-- A plain number.
+pub record Bound (s : List ℕ) (at v next : ℕ) : Type 0 where
+  pub low : at < next
+  pub high : next ≤ length s
+  pub small : v < 1000
+
+pub number-bound : (s : List ℕ) (at v next : ℕ) → numberAt s at ≡ Value v next → at ≤ length s → Bound s at v next
+number-bound s at v next e h =
+    let (f, n) = parts numberOf s at v next e in
+    let (long, small) = of-small v (fieldOf (drop at s)) f in
+    record { low = omega arith; high = next-inside numberOf s at v next e h; small = small }

@@ -1,9 +1,9 @@
--- The definitions of reading at an index: what a turn of a loop cites. The loop of `number` unfolds `scanFrom`, which reads the bytes in
--- order; by induction over them it is what the field that they start with says (`scan-field`). Assumes nothing.
+-- The definitions of reading at an index: what a turn of a loop cites. The loop of `digits` unfolds `scanFrom`, which reads the bytes in
+-- order; by induction over them it is what the digits that they start with say (`scan-digits`). Assumes nothing.
 use Prim.Native.Nat.{ℕ, suc, _+_, _-_, _*_, _≤_, _<_}
-use mathlib.Core.Path.{_≡_, refl, ap, _∙_}
+use mathlib.Core.Path.{_≡_, refl, sym, ap, _∙_}
 use mathlib.Core.List.{List, [], _∷_}
-use mathlib.Core.Option.{Option, none, some}
+use mathlib.Core.Option.{Option, none}
 use mathlib.Core.Logic.{⊎-elim, _⊎_, inl, inr}
 use mathlib.Core.Bool.{Bool, true, false, cond, _&&_, _||_}
 use native.Mathlib.Omega.{arith}
@@ -12,12 +12,12 @@ use lib.Dec.{ltb, eqb}
 use lib.ListN.{length, getD, drop, drop-of-length-le}
 use lib.Seq.{drop-cons}
 use borrow.Author.Tests.{ltb-true, eqb-true, eq-eqb, ne-eqb}
-use Rattle.model.specs.Text.{isDigit, startsWith, onField, fieldsOf, numberFrom, numberOf}
+use Rattle.model.specs.Text.{isDigit, startsWith, onField, fieldsOf, numberFrom, numberOf, digitsOf}
 use Rattle.model.proofs.Basics.{and-right}
 use Rattle.text.specs.declared.scan.Scan.{Scan}
 use Rattle.text.specs.declared.scan.Scan.the-variants.{Value, Fault}
-use Rattle.text.specs.Scan.{lineOf, fieldOf, scanned, mayGoOn, ended}
-use Rattle.text.proofs.Numbers.{fields-some, fields-tab}
+use Rattle.text.specs.Scan.{lineOf, scanned, mayGoOn, ended}
+use Rattle.text.proofs.Numbers.{fields-some, fields-tab, scanned-behind}
 
 -- A line's end.
 module _ (s : List ℕ) (i : ℕ) where
@@ -74,72 +74,59 @@ may-small n v z e =
     (λ w. ltb-true _ _ (and-right (ltb 0 v) (ltb v 100) w))
     (or-true (eqb n 0) (ltb 0 v && ltb v 100) e)
 
--- The field that goes on at `at`, after digits with the value v (n is 0 where there are none).
+-- The digits that go on at `at`, after some with the value v (n is 0 where there are none).
 unfoldable pub scanFrom : ℕ → ℕ → ℕ → List ℕ → Scan
 scanFrom at n v [] = ended at n v
-scanFrom at n v (b ∷ l) =
-    cond (eqb b 9) (ended at n v)
-    (cond (isDigit b) (cond (mayGoOn n v) (scanFrom (at + 1) 1 (v * 10 + (b - 48)) l) Fault) Fault)
+scanFrom at n v (b ∷ l) = cond (isDigit b) (cond (mayGoOn n v) (scanFrom (at + 1) 1 (v * 10 + (b - 48)) l) Fault) (ended at n v)
 
 module _ (s : List ℕ) (i n v : ℕ) where
   pub scan-end : length s ≤ i → scanFrom i n v (drop i s) ≡ ended i n v
   unfolding scanFrom
   scan-end h = rw (drop-of-length-le s h)
 
-  pub scan-tab : i < length s → getD s i 0 ≡ 9 → scanFrom i n v (drop i s) ≡ ended i n v
-  unfolding scanFrom
-  scan-tab h t = rw (drop-cons s i 0) (simp (eq-eqb _ _ t))
-
-  module _ (h : i < length s) (t : getD s i 0 ≡ 9 → ⊥) where
-    pub scan-bad : isDigit (getD s i 0) ≡ false → scanFrom i n v (drop i s) ≡ Fault
+  module _ (h : i < length s) where
+    pub scan-stop : isDigit (getD s i 0) ≡ false → scanFrom i n v (drop i s) ≡ ended i n v
     unfolding scanFrom
-    scan-bad d = rw (drop-cons s i 0) (simp (ne-eqb _ _ t, d))
+    scan-stop d = rw (drop-cons s i 0) (simp d)
 
     pub scan-long : isDigit (getD s i 0) ≡ true → mayGoOn n v ≡ false → scanFrom i n v (drop i s) ≡ Fault
     unfolding scanFrom
-    scan-long d e = rw (drop-cons s i 0) (simp (ne-eqb _ _ t, d, e))
+    scan-long d e = rw (drop-cons s i 0) (simp (d, e))
 
     pub scan-step : isDigit (getD s i 0) ≡ true → mayGoOn n v ≡ true → scanFrom i n v (drop i s) ≡ scanFrom (i + 1) 1 (v * 10 + (getD s i 0 - 48)) (drop (i + 1) s)
     unfolding scanFrom
-    scan-step d e = rw (drop-cons s i 0, add-one) (simp (ne-eqb _ _ t, d, e))
+    scan-step d e = rw (drop-cons s i 0, add-one) (simp (d, e))
 
 scanned-next : (at k : ℕ) (o : Option ℕ) → scanned (at + 1) k o ≡ scanned at (suc k) o
-scanned-next at k none = refl
-scanned-next at k (some v) = ap (Value v) (omega arith)
+scanned-next at k o = sym (scanned-behind at 1 k o) ∙ ap (λ n. scanned at n o) (omega arith)
 
-scan-after : (at v : ℕ) (l : List ℕ) → scanFrom at 1 v l ≡ scanned at (length (fieldOf l)) (numberFrom v (fieldOf l))
+scan-after : (at v : ℕ) (l : List ℕ) → scanFrom at 1 v l ≡ scanned at (length (digitsOf l)) (numberFrom v (digitsOf l))
 unfolding scanFrom
 scan-after at v [] = ap (Value v) (omega arith)
 scan-after at v (b ∷ l) =
     let w = v * 10 + (b - 48) in
-    go (eqb b 9) refl (scan-after (at + 1) w l ∙ scanned-next at (length (fieldOf l)) (numberFrom w (fieldOf l)))
+    go (isDigit b) refl (scan-after (at + 1) w l ∙ scanned-next at (length (digitsOf l)) (numberFrom w (digitsOf l)))
   where
-    by : (d x y : Bool) (r : Scan) (k : ℕ) (o : Option ℕ) → r ≡ scanned at k o
-        → cond d (cond (x && y) r Fault) Fault ≡ scanned at k (cond (d && x && y) o none)
-    by false x y r k o h = refl
-    by true false y r k o h = refl
-    by true true false r k o h = refl
-    by true true true r k o h = h
+    by : (x y : Bool) (r : Scan) (k : ℕ) (o : Option ℕ) → r ≡ scanned at k o → cond (x && y) r Fault ≡ scanned at k (cond (x && y) o none)
+    by false y r k o h = refl
+    by true false r k o h = refl
+    by true true r k o h = h
 
-    go : (t : Bool) → eqb b 9 ≡ t → scanFrom (at + 1) 1 (v * 10 + (b - 48)) l ≡ scanned at (suc (length (fieldOf l))) (numberFrom (v * 10 + (b - 48)) (fieldOf l))
-        → scanFrom at 1 v (b ∷ l) ≡ scanned at (length (fieldOf (b ∷ l))) (numberFrom v (fieldOf (b ∷ l)))
-    go true q h = simp q (ap (Value v) (omega arith))
-    go false q h = simp q (by (isDigit b) (ltb 0 v) (ltb v 100) _ _ _ h)
+    go : (d : Bool) → isDigit b ≡ d → scanFrom (at + 1) 1 (v * 10 + (b - 48)) l ≡ scanned at (suc (length (digitsOf l))) (numberFrom (v * 10 + (b - 48)) (digitsOf l))
+        → scanFrom at 1 v (b ∷ l) ≡ scanned at (length (digitsOf (b ∷ l))) (numberFrom v (digitsOf (b ∷ l)))
+    go false q h = simp q (ap (Value v) (omega arith))
+    go true q h = simp q (by (ltb 0 v) (ltb v 100) _ _ _ h)
 
-pub scan-field : (at : ℕ) (l : List ℕ) → scanFrom at 0 0 l ≡ scanned at (length (fieldOf l)) (numberOf (fieldOf l))
+pub scan-digits : (at : ℕ) (l : List ℕ) → scanFrom at 0 0 l ≡ scanned at (length (digitsOf l)) (numberOf (digitsOf l))
 unfolding scanFrom
-scan-field at [] = refl
-scan-field at (b ∷ l) =
+scan-digits at [] = refl
+scan-digits at (b ∷ l) =
     go
-    (eqb b 9)
+    (isDigit b)
     refl
-    (ap (λ v. scanFrom (at + 1) 1 v l) (omega arith) ∙ scan-after (at + 1) (b - 48) l ∙ scanned-next at (length (fieldOf l)) (numberFrom (b - 48) (fieldOf l)))
+    (ap (λ v. scanFrom (at + 1) 1 v l) (omega arith) ∙ scan-after (at + 1) (b - 48) l ∙ scanned-next at (length (digitsOf l)) (numberFrom (b - 48) (digitsOf l)))
   where
-    by : (d : Bool) (r : Scan) (k : ℕ) (o : Option ℕ) → r ≡ scanned at k o → cond d r Fault ≡ scanned at k (cond d o none)
-    by true r k o h = h
-    by false r k o h = refl
-
-    go : (t : Bool) → eqb b 9 ≡ t → scanFrom (at + 1) 1 (0 * 10 + (b - 48)) l ≡ scanned at (suc (length (fieldOf l))) (numberFrom (b - 48) (fieldOf l))
-        → scanFrom at 0 0 (b ∷ l) ≡ scanned at (length (fieldOf (b ∷ l))) (numberOf (fieldOf (b ∷ l)))
-    go true q h = simp q
-    go false q h = simp q (by (isDigit b) _ _ _ h)
+    go : (d : Bool) → isDigit b ≡ d → scanFrom (at + 1) 1 (0 * 10 + (b - 48)) l ≡ scanned at (suc (length (digitsOf l))) (numberFrom (b - 48) (digitsOf l))
+        → scanFrom at 0 0 (b ∷ l) ≡ scanned at (length (digitsOf (b ∷ l))) (numberOf (digitsOf (b ∷ l)))
+    go false q h = simp q
+    go true q h = simp q h

@@ -4,7 +4,7 @@ use mathlib.Core.Path.{_≡_, sym, ap, _∙_}
 use denote.Ref.{now}
 use borrow.Author.Tests.{not-true, not-false}
 use Rattle.model.specs.Job as model
-use Rattle.model.specs.Text.{fieldsOf}
+use Rattle.model.specs.Text.{fieldsOf, scaledOf}
 use Rattle.model.specs.ReadJob.{fieldsSay}
 use Rattle.reader.specs.Lines.{kindOf, numbersGiven, SameCounts}
 use Rattle.reader.proofs.Entries.{count-few, givenSay, fields-out, fields-by}
@@ -26,7 +26,7 @@ abbrev start : tie.After-numbers-of → tie.Start
 start c = numbers-of→start c
 
 numbered : (c : tie.After-numbers-of) (j : model.Job) → SameCounts (start c .args .counts) j
-    → fieldsSay j (kindOf (start c .args .kind)) (fieldsOf (now (start c .args .fields))) ≡ givenSay j (kindOf (start c .args .kind)) (c .numbers-of .result)
+    → fieldsSay scaledOf j (kindOf (start c .args .kind)) (fieldsOf (now (start c .args .fields))) ≡ givenSay j (kindOf (start c .args .kind)) (c .numbers-of .result)
 numbered c j q =
     let k = kindOf (start c .args .kind) in
     let fs = fieldsOf (now (start c .args .fields)) in

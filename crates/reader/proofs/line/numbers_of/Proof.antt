@@ -1,79 +1,72 @@
--- `numbers_of` gives the numbers of the fields, or the first test that they fail. The field count leaves one scan or two to try, and they see
--- every field: the laws of `Entries`. No loop. Assumes nothing.
-use Prim.Native.Nat.{_+_}
-use mathlib.Core.Path.{_≡_, sym, _∙_}
+-- `numbers_of` gives the numbers of the fields, or the first test that they fail. Invariant, `Got`: of the fields so far the last two are the numbers a and b, and those from `at` on are
+-- left. So where a scan finds no number, either there is another count of fields or one is none, and where all found one, either fields are left or these are all: the laws of `Entries`.
+-- The measure is what is left to scan. Assumes nothing.
+use Prim.Native.Nat.{_-_, _≤_}
+use mathlib.Core.Path.{_≡_, refl, sym, _∙_}
 use mathlib.Core.Logic.{⊎-elim}
 use native.Mathlib.Omega.{arith}
 use denote.Ref.{now}
-use lib.ListN.{length}
-use Rattle.model.specs.Text.{fieldsOf}
+use Rattle.model.specs.Text.{scaledOf}
 use Rattle.text.specs.declared.scan.Scan.the-variants as scan
-use Rattle.text.specs.Scan.{numberAt}
-use Rattle.text.proofs.Numbers.{number-bound}
-use Rattle.reader.proofs.Entries.{numbers-form, numbers-none, numbers-one, numbers-second, numbers-two}
+use Rattle.text.specs.Scan.{scaledAt}
+use Rattle.text.proofs.Numbers.{fields-from, next-inside}
+use Rattle.reader.proofs.Entries.{Got, nothing, number-inside, got-fault, got-more, got-one, got-over, got-two}
 use borrow.Author.Needs.{needs}
 use Rattle.reader.proofs.line.numbers_of.Statement.{statement}
 use Rattle.reader.proofs.line.numbers_of.Tie as tie
 mod Places
 use Places.*
 
-returns : tie.Need-returns
+abbrev Inv-loop : tie.InvT-loop
+Inv-loop fields count a₀ b₀ at₀ counter₀ a b at counter = (counter ≤ count) × Got fields counter a b at
+
+abbrev μ-loop : tie.MeasureT-loop
+μ-loop fields count a₀ b₀ at₀ counter₀ a b at counter = count - counter
+
+loop-holds : tie.Need-loop-holds Inv-loop μ-loop
+loop-holds c = (search needs, nothing refl (sym (fields-from (now (shared-slice-known→start c .args .fields)) 0 (omega arith))))
+
+few : (c : tie.At-loop Inv-loop μ-loop) → loop→start c .args .count ≤ 2
+few c = ⊎-elim (λ e. omega arith) (λ e. omega arith) (loop→start c .pre)
+
+returns : tie.Need-returns Inv-loop μ-loop
 returns c =
-    let a = then1→start c .args in
-    sym (numbers-form (now (a .fields)) (a .count) (λ e. c .if1 .taken (then1→field-count c .field-count .ensures ∙ e)))
+    let a = no-numbers→start c .args in
+    c .no-numbers .ensures
+    ∙ got-fault (now (a .fields)) _ _ _ _ (a .count) (no-numbers→loop c .loop .inv .1) (no-numbers→in-loop c .loop-test .taken)
+    (sym (no-numbers→scaled c .scaled .ensures) ∙ no-numbers→enum-told c .enum-told .given .1)
 
-returns-2 : tie.Need-returns-2
-returns-2 c =
-    let n = enum-told→field-count c in
-    let a = field-count→start n .args in
-    let e : numberAt (now (a .fields)) 0 ≡ scan.Fault = sym (enum-told→number c .number .ensures) ∙ c .enum-told .given .1 in
-    sym (numbers-none (now (a .fields)) (a .count) (sym (n .field-count .ensures) ∙ enum-told→else1 c .if1 .left) e)
+-- A number stands at `at`.
+value : (c : tie.After-known-told Inv-loop μ-loop) → let v = known-told→value c .value .given .0 in
+    scaledAt (now (known-told→start c .args .fields)) (known-told→loop c .loop .at) ≡ scan.Value (v .0) (v .1 .0)
+value c = sym (known-told→scaled c .scaled .ensures) ∙ known-told→value c .value .given .1
 
-returns-3 : tie.Need-returns-3
-returns-3 c =
-    let n = then2→field-count c in
-    let s = now (field-count→start n .args .fields) in
-    let v = then2→value c .value .given .0 in
-    let one : length (fieldsOf s) ≡ 1 = sym (n .field-count .ensures) ∙ then2→else1 c .if1 .left ∙ c .if2 .taken in
-    let e : numberAt s 0 ≡ scan.Value (v .0) (v .1 .0) = sym (then2→number c .number .ensures) ∙ then2→value c .value .given .1 in
-    rw (c .if2 .taken) (sym (numbers-one s (v .0) (v .1 .0) e one))
+add-at : tie.Need-add-at Inv-loop μ-loop
+add-at c =
+    let s = now (known-told→start c .args .fields) in
+    let v = c .before .value .given .0 in
+    let at = known-told→loop c .loop .at in
+    omega (arith, next-inside scaledOf s at (v .0) (v .1 .0) (value c) (omega (arith, number-inside s at (v .0) (v .1 .0) (value c))))
 
--- Past the test for one field there are two, and the first is a number.
-two : (c : tie.Else2) → else2→start c .args .count ≡ 2
-two c = ⊎-elim (λ h. absurd (c .if2 .left h)) (λ h. h) (else2→start c .pre)
+loop-again : tie.Need-loop-again Inv-loop μ-loop
+loop-again c =
+    let v = known-told→value c .value .given .0 in
+    (omega arith, got-more (now (known-told→start c .args .fields)) _ _ _ _ (known-told→loop c .loop .inv .1) (omega (arith, few (known-told→loop c))) (v .0) (v .1 .0) (value c))
 
-fields : (c : tie.Else2) → length (fieldsOf (now (else2→start c .args .fields))) ≡ 2
-fields c = sym (else2→field-count c .field-count .ensures) ∙ else2→else1 c .if1 .left ∙ two c
+returns-2 : tie.Need-returns-2 Inv-loop μ-loop
+returns-2 c = let a = then1→start c .args in got-over (now (a .fields)) _ _ _ _ (a .count) (then1→loop c .loop .inv .1) (omega arith) (c .if1 .taken)
 
-first : (c : tie.Else2) → numberAt (now (else2→start c .args .fields)) 0 ≡ scan.Value (else2→value c .value .given .0 .0) (else2→value c .value .given .0 .1 .0)
-first c = sym (else2→number c .number .ensures) ∙ else2→value c .value .given .1
+returns-3 : tie.Need-returns-3 Inv-loop μ-loop
+returns-3 c = let a = then2→start c .args in got-one (now (a .fields)) _ _ _ _ (a .count) (then2→loop c .loop .inv .1) (omega arith) (omega arith) (c .if2 .taken)
 
-add-number : tie.Need-add-number
-add-number c =
-    let v = else2→value c .value .given .0 in
-    let b = number-bound (now (else2→start c .args .fields)) 0 (v .0) (v .1 .0) (first c) (omega arith) in
-    omega arith
-
-returns-4 : tie.Need-returns-4
+returns-4 : tie.Need-returns-4 Inv-loop μ-loop
 returns-4 c =
-    let d = enum-told2→else2 c in
-    let s = now (else2→start d .args .fields) in
-    let v = else2→value d .value .given .0 in
-    let f : numberAt s (v .1 .0 + 1) ≡ scan.Fault = sym (enum-told2→number2 c .number2 .ensures) ∙ c .enum-told2 .given .1 in
-    rw (two d) (sym (numbers-second s (v .0) (v .1 .0) (first d) (fields d) f))
-
-returns-5 : tie.Need-returns-5
-returns-5 c =
-    let d = known-told2→else2 c in
-    let s = now (else2→start d .args .fields) in
-    let v = else2→value d .value .given .0 in
-    let w = known-told2→value2 c .value2 .given .0 in
-    let f : numberAt s (v .1 .0 + 1) ≡ scan.Value (w .0) (w .1 .0) = sym (known-told2→number2 c .number2 .ensures) ∙ known-told2→value2 c .value2 .given .1 in
-    rw (two d) (sym (numbers-two s (v .0) (v .1 .0) (first d) (fields d) (w .0) (w .1 .0) f))
+    let a = else2→start c .args in
+    got-two (now (a .fields)) _ _ _ _ (a .count) (else2→loop c .loop .inv .1) (omega arith) (omega arith) (⊎-elim (λ e. absurd (c .if2 .left e)) (λ e. e) (else2→start c .pre))
 
 pub numbers-of-spec : {M : Type 1} → statement M
 numbers-of-spec =
     tie.close
     (tie.spec
-    (λ c κs. search needs) returns (λ c κs. search needs) (λ c. search needs) (λ c. search needs) returns-2 returns-3 add-number (λ c κs. search needs) (λ c. search needs)
-    (λ c. search needs) returns-4 returns-5)
+    Inv-loop μ-loop loop-holds (λ c κs. search needs) (λ c. search needs) (λ c. search needs) (λ c κs. search needs) returns add-at (λ c. search needs) (λ c. search needs) loop-again
+    returns-2 returns-3 returns-4)

@@ -6,6 +6,7 @@ use mathlib.Core.Path.{_≡_, ap, _∙_}
 use mathlib.Core.List.{List}
 use mathlib.Core.Bool.{true}
 use Rattle.model.specs.ReadJob.{hasRoom, lineSays}
+use Rattle.model.specs.Text.{scaledOf}
 use Rattle.reader.specs.declared.read.Verdict.the-variants.{Refused}
 use Rattle.job.specs.declared.state.Job.{Job}
 use Rattle.job.specs.Arrays.{jobOf}
@@ -57,7 +58,7 @@ head m = entry-of→loop m
 
 -- What the entry says is what the line says.
 line-said : (m : tie.After-entry-of Inv-loop μ-loop)
-    → saidBy (jobOf (jobAt (head m))) (m .entry-of .result) ≡ lineSays (jobOf (jobAt (head m))) (now (entry-of→next m .next .result))
+    → saidBy (jobOf (jobAt (head m))) (m .entry-of .result) ≡ lineSays scaledOf (jobOf (jobAt (head m))) (now (entry-of→next m .next .result))
 line-said m = let k = head m .loop .inv in m .entry-of .ensures .1 (jobOf (jobAt (head m))) (so-far-counts k) (k .notes)
 
 returns-3 : tie.Need-returns-3 Inv-loop μ-loop

@@ -1,84 +1,36 @@
--- `number` reads the number that is the field at `at`. Invariant: `scanFrom` at `i`, with the digits so far, is what the contract asks for; the
--- value has at most three digits, and is 0 before the first. The measure is what is left of the text. Assumes nothing.
-use Prim.Native.Nat.{_-_, _<_, _≤_}
-use mathlib.Core.Path.{_∙_, _≡_, refl, sym}
-use native.Mathlib.Omega.{arith}
-use Rattle.text.proofs.Numbers.{digit-low}
-use lib.ListN.{drop, getD, length}
-use mathlib.Core.Bool.{false, true}
-use Rattle.model.specs.Text.{isDigit}
-use Rattle.text.proofs.Steps.{may-small, scan-bad, scan-end, scan-field, scan-long, scan-step, scan-tab, scanFrom}
-use Rattle.text.specs.Scan.{mayGoOn, numberAt}
+-- `number` reads the number that is the field at `at`: the digits there, if the field ends behind them. No loop. Assumes nothing.
+use mathlib.Core.Path.{_≡_, sym, _∙_}
 use borrow.Author.Needs.{needs}
 use borrow.Author.Tests.{not-false, not-true}
 use denote.Ref.{now}
+use Rattle.text.specs.declared.scan.Scan.the-variants.{Value}
+use Rattle.text.specs.Scan.{digitsAt}
+use Rattle.text.proofs.Powers.{number-ends, number-goes-on, number-without}
 use Rattle.text.proofs.scan.number.Statement.{statement}
 use Rattle.text.proofs.scan.number.Tie as tie
 mod Places
 use Places.*
 
-abbrev Inv-loop : tie.InvT-loop
-Inv-loop s at i₀ n₀ v₀ i n v = (v ≤ 999) × (n ≡ 0 → v ≡ 0) × (scanFrom i n v (drop i s) ≡ numberAt s at)
+returns : tie.Need-returns
+returns c = let a = enum-told→start c .args in number-without (now (a .s)) (a .at) (sym (enum-told→digits c .digits .ensures) ∙ c .enum-told .given .1)
 
-abbrev μ-loop : tie.MeasureT-loop
-μ-loop s at i₀ n₀ v₀ i n v = length s - i
+-- Past the test for a fault the digits are a number.
+value : (c : tie.After-field-ends) → let v = field-ends→value c .value .given .0 in digitsAt (now (field-ends→start c .args .s)) (field-ends→start c .args .at) ≡ Value (v .0) (v .1 .0)
+value c = sym (field-ends→digits c .digits .ensures) ∙ field-ends→value c .value .given .1
 
-loop-holds : tie.Need-loop-holds Inv-loop μ-loop
-unfolding numberAt
-loop-holds c = (search needs, λ e. refl, scan-field (shared-slice-known→start c .args .at) (drop (shared-slice-known→start c .args .at) (now (shared-slice-known→start c .args .s))))
-
-returns : tie.Need-returns Inv-loop μ-loop
-returns c =
-    let l = finish→loop c .loop in
-    c .finish .ensures ∙ sym (scan-tab (now (finish→start c .args .s)) (l .i) (l .n) (l .v) (finish→in-loop c .loop-test .taken) (finish→then1 c .if1 .taken)) ∙ l .inv .2
-
-returns-2 : tie.Need-returns-2 Inv-loop μ-loop
+returns-2 : tie.Need-returns-2
 returns-2 c =
-    let l = then2→loop c .loop in
-    let s = now (then2→start c .args .s) in
-    let d : isDigit (getD s (l .i) 0) ≡ false = sym (then2→digit c .digit .ensures) ∙ not-true (then2→digit c .digit .result) (c .if2 .taken) in
-    sym (scan-bad s (l .i) (l .n) (l .v) (then2→in-loop c .loop-test .taken) (then2→else1 c .if1 .left) d) ∙ l .inv .2
+    let f = then1→field-ends c in
+    let a = then1→start c .args in
+    let v = then1→value c .value .given .0 in
+    number-goes-on (now (a .s)) (a .at) (v .0) (v .1 .0) (value f) (sym (f .field-ends .ensures) ∙ not-true (f .field-ends .result) (c .if1 .taken))
 
-returns-3 : tie.Need-returns-3 Inv-loop μ-loop
+returns-3 : tie.Need-returns-3
 returns-3 c =
-    let l = then3→loop c .loop in
-    let s = now (then3→start c .args .s) in
-    let d : isDigit (getD s (l .i) 0) ≡ true = sym (then3→digit c .digit .ensures) ∙ not-false (then3→digit c .digit .result) (then3→else2 c .if2 .left) in
-    let e : mayGoOn (l .n) (l .v) ≡ false = sym (then3→may-go-on c .may-go-on .ensures) ∙ not-true (then3→may-go-on c .may-go-on .result) (c .if3 .taken) in
-    sym (scan-long s (l .i) (l .n) (l .v) (then3→in-loop c .loop-test .taken) (then3→else1 c .if1 .left) d e) ∙ l .inv .2
-
-is-digit : (c : tie.After-wide Inv-loop μ-loop) → isDigit (getD (now (wide→start c .args .s)) (wide→loop c .loop .i) 0) ≡ true
-is-digit c = sym (wide→digit c .digit .ensures) ∙ not-false (wide→digit c .digit .result) (wide→else2 c .if2 .left)
-
-may : (c : tie.After-wide Inv-loop μ-loop) → mayGoOn (wide→loop c .loop .n) (wide→loop c .loop .v) ≡ true
-may c = sym (wide→may-go-on c .may-go-on .ensures) ∙ not-false (wide→may-go-on c .may-go-on .result) (wide→else3 c .if3 .left)
-
-low : (c : tie.After-wide Inv-loop μ-loop) → (48 ≤ c .wide .result) × (c .wide .result < 58)
-low c = rw (c .wide .ensures .0) (digit-low _ (is-digit c))
-
-small : (c : tie.After-wide Inv-loop μ-loop) → wide→loop c .loop .v < 100
-small c = may-small (wide→loop c .loop .n) (wide→loop c .loop .v) (wide→loop c .loop .inv .1) (may c)
-
-sub-v : tie.Need-sub-v Inv-loop μ-loop
-sub-v c = omega (arith, low c)
-
-add-v : tie.Need-add-v Inv-loop μ-loop
-add-v c = omega (arith, low c, small c)
-
-loop-again : tie.Need-loop-again Inv-loop μ-loop
-loop-again c =
-    let l = wide→loop c .loop in (
-      omega (arith, low c, small c),
-      λ z. omega arith,
-      rw (c .wide .ensures .0) (sym (scan-step (now (wide→start c .args .s)) (l .i) (l .n) (l .v) (wide→in-loop c .loop-test .taken) (wide→else1 c .if1 .left) (is-digit c) (may c)) ∙ l .inv .2),
-    )
-
-returns-4 : tie.Need-returns-4 Inv-loop μ-loop
-returns-4 c = c .finish2 .ensures ∙ sym (scan-end _ _ _ _ (finish2→after-loop c .loop-test .left)) ∙ finish2→loop c .loop .inv .2
+    let f = else1→field-ends c in
+    let a = else1→start c .args in
+    let v = else1→value c .value .given .0 in
+    number-ends (now (a .s)) (a .at) (v .0) (v .1 .0) (value f) (sym (f .field-ends .ensures) ∙ not-false (f .field-ends .result) (c .if1 .left))
 
 pub number-spec : {M : Type 1} → statement M
-number-spec =
-    tie.close
-    (tie.spec
-    Inv-loop μ-loop loop-holds (λ c. search needs) (λ c κs. search needs) returns (λ c κs. search needs) returns-2 (λ c κs. search needs) returns-3 (λ c. search needs)
-    (λ c κs. search needs) sub-v add-v (λ c. search needs) (λ c. search needs) loop-again (λ c κs. search needs) returns-4)
+number-spec = tie.close (tie.spec (λ c κs. search needs) (λ c. search needs) (λ c. search needs) returns (λ c κs. search needs) returns-2 returns-3)
