@@ -1,4 +1,5 @@
-//! Lines, fields and numbers, the same in jobs and in sheets. Maps have such numbers too.
+//! Lines, fields and numbers. Jobs and sheets have the same lines; sheets and maps have plain numbers, and in a job one can
+//! be followed by a power of ten.
 
 pub const LF: u8 = 10;
 pub const TAB: u8 = 9;
@@ -36,6 +37,22 @@ pub fn number(field: &[u8]) -> Option<usize> {
 /// All fields as numbers, if every one of them is a number.
 pub fn numbers(fields: &[&[u8]]) -> Option<Vec<usize>> {
     fields.iter().map(|field| number(field)).collect()
+}
+
+/// A number of a job. Behind a plain one may stand `e` or `E`, an optional `+`, and one digit: the value is that number
+/// times ten to this power.
+pub fn scaled(field: &[u8]) -> Option<usize> {
+    let Some(at) = field.iter().position(|b| b"eE".contains(b)) else { return number(field) };
+    let (digits, power) = (&field[..at], &field[at + 1..]);
+    match power.strip_prefix(b"+").unwrap_or(power) {
+        [power] if power.is_ascii_digit() => Some(number(digits)? * 10_usize.pow(u32::from(power - b'0'))),
+        _ => None,
+    }
+}
+
+/// All fields as numbers of a job, if every one of them is one.
+pub fn scaled_numbers(fields: &[&[u8]]) -> Option<Vec<usize>> {
+    fields.iter().map(|field| scaled(field)).collect()
 }
 
 /// Writes a line.

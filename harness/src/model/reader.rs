@@ -1,11 +1,12 @@
 //! The reader of job texts: the job, or the refusal of the first test that fails.
 //!
-//! Lines are tested from the first. The five tests of a line go one after the other, each over the whole line.
+//! Lines are tested from the first. The five tests of a line go one after the other, each over the whole line. Ranges and
+//! what stands twice are matters of the values, however they are written.
 
 use super::answer::*;
 use super::job::{Call, End, Job};
 use super::limits;
-use super::lines::{lines, numbers, Line};
+use super::lines::{lines, scaled_numbers, Line};
 
 /// The kinds of lines. CALL and BAY lines are of one kind but for how they end.
 #[derive(Clone, Copy, PartialEq)]
@@ -51,7 +52,7 @@ pub fn read(text: &[u8]) -> Result<Job, Refusal> {
 /// Takes one line into the job and says its kind, or the number of the refusal.
 fn take(job: &mut Job, before: Option<Kind>, line: &Line) -> Result<Kind, u8> {
     let kind = kind_in_form(before, line).ok_or(BAD_LINE)?;
-    let n = numbers(&line.fields).ok_or(NO_NUMBER)?;
+    let n = scaled_numbers(&line.fields).ok_or(NO_NUMBER)?;
     if !in_range(job, kind, &n) {
         return Err(OUT_OF_RANGE);
     }
