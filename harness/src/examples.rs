@@ -1,6 +1,8 @@
 //! The filed examples: jobs with the answers that whoever asked for the planner, and later for bays and for early lifts,
 //! wrote down. Tabs are shown as spaces. Each job is in `examples/` too, with its sheet, under its name in small letters.
 
+pub mod exponents;
+
 use crate::model::answer::*;
 
 /// A text with its tabs.
@@ -130,7 +132,10 @@ pub const REFUSED: &[(&str, u8, usize)] = &[
     ("FLOOR 2\nTRACK 0 1\nTRACK 1 0\n", DOUBLED, 3),
     ("FLOOR 1\nCART 0\n", UNEVEN, 0),
     ("FLOOR 1\nCART 00\nCALL 0 0\n", NO_NUMBER, 2),
-    ("FLOOR 1\nCART 1e0\nCALL 0 0\n", NO_NUMBER, 2),
+    ("FLOOR 1\nCART 1e0\nCALL 0 0\n", OUT_OF_RANGE, 2),
+    ("FLOOR 1\nCART 999e9\nCALL 0 0\n", OUT_OF_RANGE, 2),
+    ("FLOOR 1\nCART 1e-1\nCALL 0 0\n", NO_NUMBER, 2),
+    ("FLOOR 1\nCART 1e10\nCALL 0 0\n", NO_NUMBER, 2),
     ("FLOOR 1\nCART 0\nBAY 0\n", BAD_LINE, 3),
     ("FLOOR 2\nCART 0\nBAY 0 0\nCART 1\n", BAD_LINE, 4),
     ("FLOOR 1\nCART 0\nBAY 0 256\n", OUT_OF_RANGE, 3),

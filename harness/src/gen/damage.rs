@@ -1,15 +1,17 @@
-//! Damaged texts, jobs and sheets alike: bytes, lines and fields changed, lost or added.
+//! Damaged texts, jobs and sheets alike: bytes, lines and fields changed, lost or added, and numbers written otherwise.
 
+use super::spelled::some_spelling;
 use super::Rng;
 use crate::model::limits;
-use crate::model::lines::{LF, TAB};
+use crate::model::lines::{number, LF, TAB};
 
 pub type Damage = fn(&[u8], &mut Rng) -> Vec<u8>;
 
 const BYTES: [Damage; 6] = [changed_byte, lost_byte, added_byte, cut_off, trailing, repeated];
 const LINES: [Damage; 8] =
     [lost_line, doubled_line, swapped_lines, other_word, other_end, added_bay, other_choke, added_whole_call];
-const FIELDS: [Damage; 6] = [other_number, leading_zero, lost_field, added_field, other_count, other_length];
+const FIELDS: [Damage; 8] =
+    [other_number, leading_zero, lost_field, added_field, other_count, other_length, other_spelling, added_exponent];
 
 /// A text with one damage, now and then with more. A changed number comes most often, since it mostly leaves the form
 /// whole and so gets furthest. It can be the same text: a number changed into itself, a line swapped with itself.
@@ -42,7 +44,7 @@ pub(super) fn changed_by(damage: Damage, text: &[u8], rng: &mut Rng) -> Vec<u8> 
 }
 
 /// Bytes that could stand in a text, and some that could not.
-const ANY: &[u8] = b"\t\t\n\n00123456789ABCFHKLNOPRTY \r-+x\0\xff";
+const ANY: &[u8] = b"\t\t\n\n00123456789ABCFHKLNOPRTYeE+-. \rx\0\xff";
 
 fn changed_byte(text: &[u8], rng: &mut Rng) -> Vec<u8> {
     with_other_byte(ANY, text, rng)
@@ -227,6 +229,33 @@ fn leading_zero(text: &[u8], rng: &mut Rng) -> Vec<u8> {
         let at = rng.below(parts.len()).max(1);
         if let Some(part) = parts.get_mut(at) {
             part.insert(0, b'0');
+        }
+    })
+}
+
+/// The same value written in another way: a job stays the same, and a sheet is none any more.
+fn other_spelling(text: &[u8], rng: &mut Rng) -> Vec<u8> {
+    on_parts(text, rng, |parts, rng| {
+        let at = rng.below(parts.len()).max(1);
+        let Some(part) = parts.get_mut(at) else { return };
+        if let Some(value) = number(part.strip_suffix(&[LF]).unwrap_or(part)) {
+            set_digits(part, &some_spelling(value, rng));
+        }
+    })
+}
+
+/// A power of ten behind a number, or what is none. Half of the powers leave the value as it is.
+fn added_exponent(text: &[u8], rng: &mut Rng) -> Vec<u8> {
+    const WRONG: [&str; 16] =
+        ["e", "E+", "e-0", "e-1", "e10", "E00", ".0", ".", "e.1", " e1", "ee1", "e++1", "e1e1", "e1 ", "e1\r", "%1"];
+    on_parts(text, rng, |parts, rng| {
+        let at = rng.below(parts.len()).max(1);
+        let power = if rng.once_in(2) { 0 } else { rng.below(10) };
+        let right = format!("{}{power}", rng.pick(&["e", "E", "e+", "E+"]));
+        let behind = if rng.once_in(4) { rng.pick(&WRONG) } else { right.as_str() };
+        if let Some(part) = parts.get_mut(at) {
+            let end = part.len() - usize::from(part.ends_with(&[LF]));
+            part.splice(end..end, behind.bytes());
         }
     })
 }

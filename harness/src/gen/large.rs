@@ -3,6 +3,7 @@
 use super::bays::some_bays;
 use super::floors::{line, ring, star};
 use super::lists::ends;
+use super::spelled::at_full_length;
 use super::Rng;
 use crate::model::job::{Call, End, Job};
 use crate::model::limits;
@@ -163,9 +164,14 @@ pub fn with_lost_call(mut job: Job) -> (Job, Vec<Choke>) {
     (job, chokes)
 }
 
-/// The longest text that is accepted: a job at every limit, with three digits in every number.
+/// The longest text that is accepted without an exponent: a job at every limit, with three digits in every number.
 pub fn full_text() -> Vec<u8> {
     standing(ring(), limits::CARTS, limits::DEADLINE).0.text()
+}
+
+/// The longest text that is accepted: the same with six bytes for every number.
+pub fn longest_text() -> Vec<u8> {
+    at_full_length(&full_text())
 }
 
 /// Carts and calls anywhere on the floor, deadlines up to the given one. Nobody knows whether it has a plan.

@@ -5,6 +5,7 @@ use super::damage::{
     Damage,
 };
 use super::maps::LETTERS;
+use super::spelled::some_spelling;
 use super::Rng;
 use crate::model::lines::LF;
 
@@ -24,7 +25,7 @@ pub fn changed_map(text: &[u8], rng: &mut Rng) -> Vec<u8> {
 }
 
 /// Bytes that could stand in a map, and some that could not.
-const ANY: &[u8] = b"..GG@OT\n\n  \t\r0123456789hwtypemap+-#SW\0\xff";
+const ANY: &[u8] = b"..GG@OT\n\n  \t\r0123456789hwtypemapE+-#SW\0\xff";
 
 fn changed_byte(text: &[u8], rng: &mut Rng) -> Vec<u8> {
     with_other_byte(ANY, text, rng)
@@ -117,7 +118,7 @@ fn set_number(text: &[u8], rng: &mut Rng, other: impl Fn(usize, &mut Rng) -> Str
 
 /// The edges, and what is no number.
 fn other_number(text: &[u8], rng: &mut Rng) -> Vec<u8> {
-    const NUMBERS: [&str; 22] = [
+    const NUMBERS: [&str; 25] = [
         "0",
         "1",
         "2",
@@ -138,15 +139,19 @@ fn other_number(text: &[u8], rng: &mut Rng) -> Vec<u8> {
         "-1",
         "",
         "1e1",
+        "1e0",
+        "2E0",
+        "6e+1",
         "6 4",
         "4294967297",
     ];
     set_number(text, rng, |_, rng| rng.pick(&NUMBERS).to_string())
 }
 
-/// One more, one less, 256 more, and the same with a byte before or behind it.
+/// One more, one less, 256 more, and the same with a byte before or behind it or written as in a job.
 fn near_number(text: &[u8], rng: &mut Rng) -> Vec<u8> {
-    set_number(text, rng, |was, rng| match rng.below(7) {
+    set_number(text, rng, |was, rng| match rng.below(8) {
+        7 => some_spelling(was, rng),
         6 => (was + 256).to_string(),
         0 => (was + 1).to_string(),
         1 => was.saturating_sub(1).to_string(),
