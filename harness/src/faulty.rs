@@ -1,13 +1,15 @@
 //! A second check, into which one fault can be put. The tests of the harness see that the comparison finds each.
 //!
-//! It reads jobs as the model does, since the faults are about sheets. The rest goes other ways than the model: the
+//! It reads jobs as the model does, since its faults are about sheets. The rest goes other ways than the model: the
 //! sheet in one pass of bytes, conflicts by a table of who stands where, choke lists backwards from the calls, closed cells
-//! by a table of steps, the order of paths by looking at each two. `map` has a second converter of maps.
+//! by a table of steps, the order of paths by looking at each two. `job` has a second reader of jobs, and `map` a second
+//! converter of maps.
 
 mod backwards;
 mod bays;
 mod conflicts;
 mod form;
+pub mod job;
 pub mod map;
 mod order;
 
@@ -69,6 +71,8 @@ pub enum Fault {
     PassesWholeCallsFalling,
     CountsNoWholeCalls,
     BoundsCellsAlone,
+    TakesExponents,
+    TakesPowerZero,
 }
 
 /// The faults, without `None`.
@@ -120,6 +124,8 @@ pub const FAULTS: &[Fault] = &[
     Fault::PassesWholeCallsFalling,
     Fault::CountsNoWholeCalls,
     Fault::BoundsCellsAlone,
+    Fault::TakesExponents,
+    Fault::TakesPowerZero,
 ];
 
 /// The second check with a fault.

@@ -6,7 +6,7 @@ use crate::model::job::{Call, End, Job};
 use crate::model::sheet::{Choke, Path, Sheet};
 
 /// The bytes that are left to read.
-struct Rest<'a>(&'a [u8]);
+struct Rest<'a>(&'a [u8], Fault);
 
 impl Rest<'_> {
     fn bytes(&mut self, wanted: &[u8]) -> Option<()> {
@@ -20,10 +20,28 @@ impl Rest<'_> {
         let digits = self.0.iter().take_while(|b| b.is_ascii_digit()).count();
         let (number, rest) = self.0.split_at(digits);
         self.0 = rest;
-        match number {
-            [b'0', _, ..] => None,
-            _ if digits > 3 => None,
-            _ => std::str::from_utf8(number).ok()?.parse().ok(),
+        let number: usize = match number {
+            [b'0', _, ..] => return None,
+            _ if digits > 3 => return None,
+            _ => std::str::from_utf8(number).ok()?.parse().ok()?,
+        };
+        Some(number * 10_usize.pow(self.power()))
+    }
+
+    /// The power behind a number that the fault takes; else none.
+    fn power(&mut self) -> u32 {
+        let (is_taken, sign) = match (self.1, self.0) {
+            (Fault::TakesExponents, [b'e' | b'E', b'+', ..]) => (true, 1),
+            (Fault::TakesExponents, [b'e' | b'E', ..]) => (true, 0),
+            (Fault::TakesPowerZero, [b'e', b'0', ..]) => (true, 0),
+            _ => (false, 0),
+        };
+        match self.0.get(1 + sign) {
+            Some(digit @ b'0'..=b'9') if is_taken => {
+                self.0 = &self.0[2 + sign..];
+                u32::from(digit - b'0')
+            }
+            _ => 0,
         }
     }
 
@@ -34,7 +52,7 @@ impl Rest<'_> {
 
 /// The sheet, or its first bad line.
 pub fn read(sheet: &[u8], job: &Job, fault: Fault) -> Result<Sheet, usize> {
-    let mut rest = Rest(sheet);
+    let mut rest = Rest(sheet, fault);
     let calls = job.calls.len();
     let is_plan = sheet.starts_with(b"PLAN");
     let count = head(&mut rest, is_plan).ok_or(1usize)?;

@@ -134,8 +134,20 @@ impl Rest<'_> {
         };
         match self.fault {
             MapFault::WrapsNumbers => Some(number % 256),
+            MapFault::PassesExponent => Some(number * 10_usize.pow(self.power())),
             _ => Some(number),
         }
+    }
+
+    /// The power behind a number, as in a job; none where nothing of the kind follows.
+    fn power(&mut self) -> u32 {
+        let (power, rest) = match self.bytes {
+            [b'e' | b'E', b'+', power @ b'0'..=b'9', rest @ ..] => (power, rest),
+            [b'e' | b'E', power @ b'0'..=b'9', rest @ ..] => (power, rest),
+            _ => return 0,
+        };
+        self.bytes = rest;
+        u32::from(power - b'0')
     }
 
     fn row(&mut self, width: usize) -> Option<Vec<u8>> {
