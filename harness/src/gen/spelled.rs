@@ -45,3 +45,12 @@ pub fn at_full_length(text: &[u8]) -> Vec<u8> {
     let line = |line: &str| line.split('\t').map(spelled).collect::<Vec<_>>().join("\t") + "\n";
     String::from_utf8_lossy(text).lines().map(line).collect::<String>().into_bytes()
 }
+
+/// The text with something else for a field, counted from 0, of a line, counted from 1.
+pub fn with_field(text: &[u8], line: usize, field: usize, with: &str) -> Vec<u8> {
+    let mut lines: Vec<String> = String::from_utf8_lossy(text).lines().map(str::to_string).collect();
+    let mut parts: Vec<&str> = lines[line - 1].split('\t').collect();
+    parts[1 + field] = with;
+    lines[line - 1] = parts.join("\t");
+    (lines.join("\n") + "\n").into_bytes()
+}
