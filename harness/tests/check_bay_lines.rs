@@ -43,7 +43,7 @@ fn a_field_that_is_no_number_is_4() {
             ("FLOOR 2\nBAY 0 \n", 2),
             ("FLOOR 2\nBAY 00 0\n", 2),
             ("FLOOR 2\nBAY 0 01\n", 2),
-            ("FLOOR 2\nBAY 9 1e0\n", 2),
+            ("FLOOR 2\nBAY 9 1e-1\n", 2),
             ("FLOOR 2\nBAY x 256\n", 2),
             ("FLOOR 2\nBAY 0 1000\n", 2),
             ("FLOOR 2\nBAY 0 0\r\n", 2),
@@ -103,7 +103,7 @@ fn carts_are_compared_with_calls_and_bays_together() {
     }
 }
 
-/// The longest job with bays for so many of its calls, the first or the last ones, and lines behind it.
+/// A job at every limit with bays for so many of its calls, the first or the last ones, and lines behind it.
 fn full_with(bays: usize, first: bool, more: &str) -> Vec<u8> {
     // Lines 578 to 641 are the calls.
     let mut text = String::new();

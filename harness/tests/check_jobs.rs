@@ -77,7 +77,7 @@ fn a_field_that_is_no_number_is_4() {
             ("FLOOR 2\nTRACK 999 x\n", 2),
             ("FLOOR 2\nTRACK x 999\n", 2),
             ("FLOOR 2\nCART 00\n", 2),
-            ("FLOOR 2\nCALL 9 1e0\n", 2),
+            ("FLOOR 2\nCALL 9 1e-1\n", 2),
         ],
     );
     assert_eq!(answer_to(b"FLOOR\t 1\n"), (NO_NUMBER, 1));

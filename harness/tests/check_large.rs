@@ -149,7 +149,7 @@ fn damaged_texts_of_the_longest_job() {
     let mut rng = Rng::new(6);
     let mut tally = Tally::default();
     for _ in 0..1000 {
-        let case = Case { job: damaged(&full_text(), &mut rng), store_len: 4096, sheet: Vec::new() };
+        let case = Case { job: damaged(&longest_text(), &mut rng), store_len: 4096, sheet: Vec::new() };
         tally.count(library_on(&case, &mut rng).0);
     }
     tally.assert_each(&[BAD_LINE, NO_NUMBER, OUT_OF_RANGE, DOUBLED, UNEVEN, STORE_TOO_SHORT], 5);

@@ -7,6 +7,7 @@ use harness::gen::early::early_many_times;
 use harness::gen::floors::*;
 use harness::gen::large::*;
 use harness::gen::maps::{corridor, scattered, Drawing};
+use harness::gen::spelled::at_full_length;
 use harness::gen::Rng;
 use harness::model::answer::*;
 use harness::model::job::Job;
@@ -72,10 +73,10 @@ fn jobs_planned_at_every_limit() {
 fn refusals_at_the_limits() {
     let store = store_least(&standing(ring(), limits::CARTS, limits::DEADLINE).0);
     let noise = Rng::new(5).noise(10_000_000);
-    assert_eq!(check_with_little_stack(full_text(), store, noise), (BAD_SHEET, 1));
-    assert_eq!(check_with_little_stack(full_text(), store - 1, Vec::new()), (STORE_TOO_SHORT, 0));
+    assert_eq!(check_with_little_stack(longest_text(), store, noise), (BAD_SHEET, 1));
+    assert_eq!(check_with_little_stack(longest_text(), store - 1, Vec::new()), (STORE_TOO_SHORT, 0));
     assert_eq!(check_with_little_stack(vec![b'\n'; limits::TEXT], store, Vec::new()), (BAD_LINE, 1));
-    let one_more = [full_text(), b"CALL\t0\t0\n".to_vec()].concat();
+    let one_more = [longest_text(), b"CALL\t0e0\t0\n".to_vec()].concat();
     assert_eq!(check_with_little_stack(one_more, store, Vec::new()), (TOO_MANY, 642));
 }
 
@@ -86,9 +87,9 @@ fn assert_high_water_mark(name: &str, depths: &[usize]) {
     assert!(*mark < LITTLE, "{name} goes down {depths:?}");
 }
 
-/// How deep the check goes, and its answer.
+/// How deep the check goes with the longest spelling of a job, and its answer.
 fn depth_of_check(job: &Job, sheet: &[u8]) -> (usize, u8) {
-    let (text, mut store) = (job.text(), vec![1; store_least(job)]);
+    let (text, mut store) = (at_full_length(&job.text()), vec![1; store_least(job)]);
     let mut packed = 0;
     let depth = depth_of(|| packed = cartfloor::check(&text, &mut store, sheet));
     (depth, unpack(packed).0)
@@ -121,7 +122,8 @@ fn high_water_mark_of_the_planner() {
     let mut depths = Vec::new();
     for (job, _, answer) in right_sheets() {
         for (sheet_len, expected) in [(sheet_least(&job), answer), (0, SHEET_TOO_SHORT)] {
-            let (depth, found) = depth_of_plan(&job.text(), store_least(&job), sheet_len);
+            let text = at_full_length(&job.text());
+            let (depth, found) = depth_of_plan(&text, store_least(&job), sheet_len);
             assert_eq!(found, expected);
             depths.push(depth);
         }
