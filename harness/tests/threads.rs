@@ -7,6 +7,7 @@ use harness::ffi::{check, map, plan, Library};
 use harness::gen::damage::changed;
 use harness::gen::map_cases::{damaged_maps, large_maps, MapCase};
 use harness::gen::sizes::{at_the_limits, medium};
+use harness::gen::spelled::respelled;
 use harness::gen::Rng;
 use harness::model::answer::unpack;
 use harness::model::job::Job;
@@ -23,7 +24,7 @@ struct Given {
 /// The same seed lends the same bytes.
 fn given(job: &Job, seed: u64) -> Given {
     let mut rng = Rng::new(seed);
-    let (text, store_len) = (job.text(), store_least(job));
+    let (text, store_len) = (respelled(&job.text(), &mut rng), store_least(job));
     let planned = plan(&text, store_len, sheet_least(job), &mut rng).expect("guards as lent");
     let sheet = &planned.sheet[..unpack(planned.packed).1];
     let right = check(&Library, &text, store_len, sheet, &mut rng).expect("guards as lent");

@@ -8,6 +8,7 @@ use harness::gen::large::scattered;
 use harness::gen::map_cases::{damaged_maps, large_maps, small_maps, MapCase};
 use harness::gen::sizes::{at_the_limits, medium};
 use harness::gen::small::small;
+use harness::gen::spelled::respelled;
 use harness::gen::Rng;
 use harness::model::answer::*;
 use harness::model::job::Job;
@@ -62,10 +63,11 @@ fn mapped(case: &MapCase) {
     assert!(all.windows(2).all(|pair| pair[0] == pair[1]), "not the same twice: {}", show(&case.map));
 }
 
-/// A job and its sheet, and both damaged.
+/// A job and its sheet, the job written otherwise, and both damaged.
 fn try_out(job: &Job, rng: &mut Rng) {
     let (text, store_len) = (job.text(), store_least(job));
     let (packed, sheet) = planned(&text, store_len, sheet_least(job));
+    assert_eq!(planned(&respelled(&text, rng), store_len, sheet_least(job)), (packed, sheet.clone()));
     assert_eq!(unpack(checked(&text, store_len, &sheet)), (unpack(packed).0, 0));
     checked(&text, store_len, &changed(&sheet, rng));
     let damaged = changed(&text, rng);

@@ -4,7 +4,7 @@ use std::env;
 use std::process::ExitCode;
 use std::time::{Duration, Instant, SystemTime};
 
-use harness::compare;
+use harness::compare::{self, show};
 use harness::ffi::Library;
 use harness::gen::cases::{
     changed_jobs, changed_sheets, choke_lists, doubled_points, other_lengths, other_orders, right_sheets, stores,
@@ -15,6 +15,7 @@ use harness::gen::map_cases::MAP_KINDS;
 use harness::gen::orders;
 use harness::gen::sizes::{at_the_limits, medium};
 use harness::gen::small::{small, small_at_one_step};
+use harness::gen::spelled::respelled;
 use harness::gen::Rng;
 use harness::model::job::Job;
 use harness::model::limits::{sheet_least, store_least};
@@ -137,7 +138,7 @@ impl Run {
 }
 
 impl Tried {
-    /// A job, planned, and the kinds of cases it gives; then maps. Each turn has its own chance, so that it can be had
+    /// A job, planned, in plain digits and otherwise, and the kinds of cases it gives; then maps. Each turn has its own chance, so that it can be had
     /// alone.
     fn turn(&mut self, seed: u64, turn: u64) -> Result<(), String> {
         let mut rng = Rng::new(seed.wrapping_add(turn << 32));
@@ -154,6 +155,10 @@ impl Tried {
         self.with_bays += usize::from(job.has_bays());
         self.with_other_order += usize::from(orders::differ(&job));
         let right = self.plan(&job.text(), store_least(&job), sheet_least(&job), &mut rng)?;
+        let other = respelled(&job.text(), &mut rng);
+        if self.plan(&other, store_least(&job), sheet_least(&job), &mut rng)? != right {
+            return Err(format!("another sheet than in plain digits for the job\n{}", show(&other)));
+        }
         // The planner's sheet has passed the model's check.
         let right = sheet::read(&right, &job).expect("a sheet in the form");
         match &right {
@@ -181,11 +186,10 @@ impl Tried {
     }
 
     fn try_kind(&mut self, kind: usize, known: &Known, rng: &mut Rng) -> Result<(), String> {
-        let planned = known.job.text();
         for case in KINDS[kind].1(known, rng) {
             self.kinds[kind] += 1;
             self.checks.count(compare::check(&Library, &case, rng)?.0);
-            if case.job != planned {
+            if reader::read(&case.job).as_ref() != Ok(&known.job) {
                 self.plan_near(&case, rng)?;
             }
         }

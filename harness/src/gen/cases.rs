@@ -5,6 +5,7 @@ use super::bays::walks_over_bays;
 use super::damage::{changed, damaged, Damage};
 use super::orders::{exchanged_at_one_step, ORDERS};
 use super::plans::{early_and_late_plans, plans_by};
+use super::spelled::respelled;
 use super::{lists, wrong, Rng};
 use crate::model::job::{Call, Job};
 use crate::model::limits::{self, store_least};
@@ -58,7 +59,15 @@ impl Known {
     /// The sheet with a store that is long enough, often just so.
     fn case(&self, sheet: Vec<u8>, rng: &mut Rng) -> Case {
         let more = if rng.once_in(3) { rng.below(100) } else { 0 };
-        Case { job: self.job.text(), store_len: store_least(&self.job) + more, sheet }
+        Case { job: some_text(&self.job, rng), store_len: store_least(&self.job) + more, sheet }
+    }
+}
+
+/// The job's text, now and then with its numbers written in other ways.
+fn some_text(job: &Job, rng: &mut Rng) -> Vec<u8> {
+    match rng.once_in(3) {
+        true => respelled(&job.text(), rng),
+        false => job.text(),
     }
 }
 
@@ -264,7 +273,7 @@ pub fn changed_jobs(known: &Known, rng: &mut Rng) -> Vec<Case> {
 
 fn jobs_after(damage: Damage, known: &Known, rng: &mut Rng) -> Vec<Case> {
     let case = |_| {
-        let job = damage(&known.job.text(), rng);
+        let job = damage(&some_text(&known.job, rng), rng);
         let store_len = reader::read(&job).map_or(4096, |job| store_least(&job));
         let sheet = known.right_sheet(rng).text();
         Case { job, store_len, sheet }
