@@ -7,6 +7,7 @@ use harness::gen::floors::line;
 use harness::gen::plans::has_plan;
 use harness::gen::sizes::{at_the_limits, medium};
 use harness::gen::small::{small_at_one_step, small_with_bays, small_without_bays};
+use harness::gen::spelled::at_full_length;
 use harness::gen::Rng;
 use harness::model::answer::*;
 use harness::model::check::check;
@@ -23,7 +24,7 @@ impl Mode for AsTheLibrary {
     const KEEP_PLACE: bool = false;
 }
 
-/// The answer, the same in both ways, after the model has passed both sheets.
+/// The answer, the same in both ways, and with exponents in one of them, after the model has passed both sheets.
 fn answer(job: &Job) -> u8 {
     let text = job.text();
     let (mut store, mut sheet) = (vec![1; store_least(job)], vec![1; sheet_least(job)]);
@@ -34,7 +35,7 @@ fn answer(job: &Job) -> u8 {
     };
     let quick = plan(&text, &mut store, &mut sheet);
     let quick = passed(quick, &sheet);
-    let other = plan_by(&mut AsTheLibrary, &text, &mut store, &mut sheet);
+    let other = plan_by(&mut AsTheLibrary, &at_full_length(&text), &mut store, &mut sheet);
     assert_eq!(passed(other, &sheet), quick);
     quick
 }
