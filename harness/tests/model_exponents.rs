@@ -1,11 +1,15 @@
 //! Numbers of jobs with exponents, as the model reads them: by hand, by plain arithmetic, and against the second reader.
 //! Tabs are shown as spaces.
 
+use std::collections::BTreeSet;
+
 use harness::examples::exponents::{NO_NUMBERS, READ, REFUSED};
 use harness::examples::tabs;
 use harness::faulty::job::{self, JobFault};
 use harness::gen::places::{fields_over, places};
-use harness::gen::spelled::{spellings, with_power, POWERS};
+use harness::gen::small::small;
+use harness::gen::spelled::{at_full_length, respelled, spellings, with_power, POWERS};
+use harness::gen::Rng;
 use harness::model::answer::*;
 use harness::model::lines::{number, scaled};
 use harness::model::reader::read;
@@ -58,6 +62,22 @@ fn jobs_told_by_hand() {
         let job = read(&tabs(plain)).expect("a job");
         assert_eq!((job.text(), read(&tabs(text))), (tabs(plain), Ok(job)), "{text:?}");
     }
+}
+
+/// A job that is written in other ways is the same, and all ways come.
+#[test]
+fn what_is_respelled_is_read_to_the_same_job() {
+    let mut rng = Rng::new(1);
+    let mut fields = BTreeSet::new();
+    for _ in 0..2000 {
+        let job = small(&mut rng);
+        let text = respelled(&job.text(), &mut rng);
+        fields.extend(text.split(|b| b"\t\n".contains(b)).map(<[u8]>::to_vec));
+        assert_eq!(read(&text), Ok(job.clone()), "{}", text.escape_ascii());
+        assert_eq!(read(&at_full_length(&job.text())), Ok(job));
+    }
+    let ways = (0..5).flat_map(spellings).filter(|way| fields.contains(way.as_bytes())).count();
+    assert_eq!(ways, 41 + 4 * 5);
 }
 
 /// So that it makes no difference whether a reader has 32 bits or more.
