@@ -217,37 +217,40 @@ impl Pass {
 
     /// 4 to 7, and the line is taken.
     fn tests(&mut self, rank: usize, end: End, fields: &[Field]) -> Result<(), u8> {
-        let fault = self.fault;
-        let mut values = Vec::new();
-        let mut in_range = true;
-        for (i, field) in fields.iter().enumerate() {
-            if field.has_letter() && refuses_in(fault, rank, end, i, fields.len()) {
-                return Err(NO_NUMBER);
-            }
-            let value = field.value(fault).ok_or(NO_NUMBER)?;
-            let tested = if fault == JobFault::TestsRangeBeforePower { field.number() } else { value };
-            in_range &= self.taken.is_in_range(rank, i, tested);
-            if fault == JobFault::TestsFieldByField && !in_range {
-                return Err(OUT_OF_RANGE);
-            }
-            values.push(value.try_into().unwrap_or(usize::MAX));
-        }
+        let (values, in_range) = self.values(rank, end, fields)?;
         let spelled: Vec<&[u8]> = fields.iter().map(Field::spelled).collect();
-        let doubled = match fault {
+        let doubled = match self.fault {
             JobFault::FindsDoubledBySpelling => self.taken.is_spelled_twice(rank, &spelled),
             _ => self.taken.is_doubled(rank, &values),
         };
-        let has_room = self.taken.has_room(rank);
-        match (in_range, has_room, doubled) {
-            (_, false, _) if fault == JobFault::CountsBeforeRange => return Err(TOO_MANY),
+        match (in_range, self.taken.has_room(rank), doubled, self.fault) {
+            (_, false, _, JobFault::CountsBeforeRange) => return Err(TOO_MANY),
             (false, ..) => return Err(OUT_OF_RANGE),
-            (_, _, true) if fault == JobFault::FindsDoubledBeforeCount => return Err(DOUBLED),
-            (_, false, _) => return Err(TOO_MANY),
-            (_, _, true) => return Err(DOUBLED),
+            (_, _, true, JobFault::FindsDoubledBeforeCount) => return Err(DOUBLED),
+            (_, false, ..) => return Err(TOO_MANY),
+            (_, _, true, _) => return Err(DOUBLED),
             _ => (),
         }
         self.taken.add(rank, end, &values, &spelled);
         Ok(())
+    }
+
+    /// The values of the fields, and whether all are in range.
+    fn values(&self, rank: usize, end: End, fields: &[Field]) -> Result<(Vec<usize>, bool), u8> {
+        let (mut values, mut in_range) = (Vec::new(), true);
+        for (i, field) in fields.iter().enumerate() {
+            if field.has_letter() && refuses_in(self.fault, rank, end, i, fields.len()) {
+                return Err(NO_NUMBER);
+            }
+            let value = field.value(self.fault).ok_or(NO_NUMBER)?;
+            let tested = if self.fault == JobFault::TestsRangeBeforePower { field.number() } else { value };
+            in_range &= self.taken.is_in_range(rank, i, tested);
+            if self.fault == JobFault::TestsFieldByField && !in_range {
+                return Err(OUT_OF_RANGE);
+            }
+            values.push(value.try_into().unwrap_or(usize::MAX));
+        }
+        Ok((values, in_range))
     }
 }
 
