@@ -1,15 +1,25 @@
 -- A plain number is the digits that its field starts with, and nothing stands behind them (`plain-digits`), by induction over the digits. So read with exponents it is the same number, with
 -- the power 0 (`number-scaled`). Assumes nothing.
-use Prim.Native.Nat.{ℕ, _+_, _-_, _*_}
+use Prim.Native.Nat.{ℕ, suc, _+_, _-_, _*_}
 use mathlib.Core.Path.{_≡_, refl, sym, ap, _∙_}
 use mathlib.Core.List.{List, [], _∷_}
 use mathlib.Core.Option.{none, some}
 use mathlib.Core.Bool.{Bool, true, false, cond, _&&_}
 use native.Mathlib.Omega.{arith}
 use lib.Dec.{ltb}
+use lib.ListN.{length}
 use Rattle.model.specs.Text.{isDigit, numberFrom, numberOf, digitsOf, behindDigits, powerOf, scaled, scaledOf}
 use Rattle.model.specs.ReadJob.{isEmpty}
 use Rattle.model.proofs.Basics.{nope, either-way}
+
+pub both-long : (f : List ℕ) → length f ≡ length (digitsOf f) + length (behindDigits f)
+both-long [] = refl
+both-long (b ∷ f) = go (isDigit b) (both-long f)
+  where
+    go : (d : Bool) → length f ≡ length (digitsOf f) + length (behindDigits f)
+        → suc (length f) ≡ length (cond d (b ∷ digitsOf f) []) + length (cond d (behindDigits f) (b ∷ f))
+    go true h = omega arith
+    go false h = omega arith
 
 plain-from : (v : ℕ) (f : List ℕ) → numberFrom v f ≡ cond (isEmpty (behindDigits f)) (numberFrom v (digitsOf f)) none
 plain-from v [] = refl

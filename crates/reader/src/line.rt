@@ -92,7 +92,7 @@ fn numbers_of(fields: &[u8], count: usize) -> Numbers
     let mut b = 0;
     let mut at = 0;
     for _ in 0..count {
-        let Scan::Value { value, next } = text::scan::scaled(fields, at) else {
+        let Scan::Value { value, next } = text::exponent::number(fields, at) else {
             return no_numbers(fields, count);
         };
         a = b;

@@ -15,7 +15,7 @@ use borrow.Author.Tests.{eqb-true, eq-eqb, ne-eqb, ltb-true, ltb-false}
 use Rattle.model.specs.Text.{isDigit, isMark, numberOf, digitsOf, behindDigits, withoutPlus, oneDigit, powerOf, scaled}
 use Rattle.model.specs.ReadJob.{isEmpty}
 use Rattle.model.proofs.Basics.{nope, either-way}
-use Rattle.model.proofs.Digits.{plain-digits}
+use Rattle.model.proofs.Digits.{both-long, plain-digits}
 use Rattle.text.specs.declared.scan.Scan.the-variants.{Value, Fault}
 use Rattle.text.specs.Scan.{fieldOf, scanned, fieldAt, numberAt, scaledAt, digitsAt, withPower, plusSize}
 use Rattle.text.proofs.Numbers.{digit-low, of-small, scanned-behind, scanned-fault, scanned-value, parts}
@@ -41,15 +41,6 @@ behind-field (b ∷ l) = go (eqb b 9) refl (isDigit b) refl (behind-field l)
     go true q d r h = simp (q, no-digit b q)
     go false q true r h = simp (q, r) h
     go false q false r h = simp (q, r)
-
-both-long : (f : List ℕ) → length f ≡ length (digitsOf f) + length (behindDigits f)
-both-long [] = refl
-both-long (b ∷ f) = go (isDigit b) (both-long f)
-  where
-    go : (d : Bool) → length f ≡ length (digitsOf f) + length (behindDigits f)
-        → suc (length f) ≡ length (cond d (b ∷ digitsOf f) []) + length (cond d (behindDigits f) (b ∷ f))
-    go true h = omega arith
-    go false h = omega arith
 
 -- The field at `at`, by its digits.
 module _ (s : List ℕ) (at : ℕ) where

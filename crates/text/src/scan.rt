@@ -1,11 +1,11 @@
 // Reading: where a line ends, the word it opens with, its fields and their numbers.
 use model::bytes::wide;
 ghost use mathlib.Core.Path.{_≡_};
-ghost use Prim.Native.Nat.{_+_, _*_, _^_, _<_, _≤_};
+ghost use Prim.Native.Nat.{_+_, _≤_};
 ghost use lib.ListN.{length, drop};
-ghost use Rattle.model.specs.Text.{isDigit, isMark, startsWith, fieldsOf};
+ghost use Rattle.model.specs.Text.{isDigit, startsWith, fieldsOf};
 ghost use Rattle.model.specs.ReadJob.{isEmpty};
-ghost use Rattle.text.specs.Scan.{lineOf, fieldOf, numberAt, scaledAt, digitsAt, withPower, plusSize, mayGoOn, ended};
+ghost use Rattle.text.specs.Scan.{lineOf, fieldOf, numberAt, digitsAt, mayGoOn, ended};
 
 // A number and the place after it, or none. The number may be too large for any use: it has no bound but that of its spelling.
 pub enum Scan {
@@ -100,7 +100,7 @@ fn finish(i: usize, n: usize, v: usize) -> Scan
 }
 
 // The number that the digits from `at` on are, and the place behind them.
-fn digits(s: &[u8], at: usize) -> Scan
+pub fn digits(s: &[u8], at: usize) -> Scan
     ensures { λ r. ⌜ r ≡ digitsAt (now (s .entry)) at ⌝ }
 {
     let mut i = at;
@@ -122,7 +122,7 @@ fn digits(s: &[u8], at: usize) -> Scan
 }
 
 // Whether nothing of a field is left from `at` on: it ends before a tab or at the end.
-fn field_ends(s: &[u8], at: usize) -> bool
+pub fn field_ends(s: &[u8], at: usize) -> bool
     ensures { λ r. ⌜ r ≡ isEmpty (fieldOf (drop at (now (s .entry)))) ⌝ }
 {
     s.len() <= at || s[at] == 9
@@ -139,69 +139,4 @@ pub fn number(s: &[u8], at: usize) -> Scan
         return Scan::Fault;
     }
     Scan::Value { value, next }
-}
-
-fn mark(b: u8) -> bool
-    ensures { λ r. ⌜ r ≡ isMark b ⌝ }
-{
-    b == 101 || b == 69
-}
-
-// The place behind a plus at `at`, or `at` where there is none.
-fn past_plus(s: &[u8], at: usize) -> usize
-    ensures { λ r. ⌜ r ≡ at + plusSize (drop at (now (s .entry))) ⌝ }
-{
-    if s.len() <= at {
-        return at;
-    }
-    if s[at] == 43 {
-        return at + 1;
-    }
-    at
-}
-
-// A number times ten to a power: 999 billion at most.
-fn raised(value: usize, power: usize) -> usize
-    requires { ⌜ (value < 1000) × (power < 10) ⌝ }
-    ensures { λ r. ⌜ r ≡ value * 10 ^ power ⌝ }
-{
-    let mut v = value;
-    for _ in 0..power {
-        v = v * 10;
-    }
-    v
-}
-
-// A number with the exponent that is the rest of its field, from `at` on, or with none where nothing is left.
-fn with_power(s: &[u8], at: usize, value: usize) -> Scan
-    requires { ⌜ value < 1000 ⌝ }
-    ensures { λ r. ⌜ r ≡ withPower (now (s .entry)) at value ⌝ }
-{
-    if field_ends(s, at) {
-        return Scan::Value { value, next: at };
-    }
-    if !mark(s[at]) {
-        return Scan::Fault;
-    }
-    let from = past_plus(s, at + 1);
-    let Scan::Value { value: power, next } = number(s, from) else {
-        return Scan::Fault;
-    };
-    if next != from + 1 {
-        return Scan::Fault;
-    }
-    Scan::Value {
-        value: raised(value, power),
-        next,
-    }
-}
-
-// The number that is the field from `at` on, with an exponent or without one.
-pub fn scaled(s: &[u8], at: usize) -> Scan
-    ensures { λ r. ⌜ r ≡ scaledAt (now (s .entry)) at ⌝ }
-{
-    let Scan::Value { value, next } = digits(s, at) else {
-        return Scan::Fault;
-    };
-    with_power(s, next, value)
 }

@@ -34,12 +34,12 @@ returns c =
     let a = no-numbers→start c .args in
     c .no-numbers .ensures
     ∙ got-fault (now (a .fields)) _ _ _ _ (a .count) (no-numbers→loop c .loop .inv .1) (no-numbers→in-loop c .loop-test .taken)
-    (sym (no-numbers→scaled c .scaled .ensures) ∙ no-numbers→enum-told c .enum-told .given .1)
+    (sym (no-numbers→number c .number .ensures) ∙ no-numbers→enum-told c .enum-told .given .1)
 
 -- A number stands at `at`.
 value : (c : tie.After-known-told Inv-loop μ-loop) → let v = known-told→value c .value .given .0 in
     scaledAt (now (known-told→start c .args .fields)) (known-told→loop c .loop .at) ≡ scan.Value (v .0) (v .1 .0)
-value c = sym (known-told→scaled c .scaled .ensures) ∙ known-told→value c .value .given .1
+value c = sym (known-told→number c .number .ensures) ∙ known-told→value c .value .given .1
 
 add-at : tie.Need-add-at Inv-loop μ-loop
 add-at c =

@@ -1,10 +1,10 @@
 -- The earlier places that the proof of `numbers_of` names: `x→y c` is what is known at y, seen from the place x.
 -- Made of the code by proof-names, which reads the lists below when the code has changed.
 -- All places in the code's order, each behind the one in front of it; where it is behind another, `X<Y` names that:
--- Start After-shared-slice-known At-loop In-loop After-loop<At-loop After-scaled<In-loop At-match-keys1 After-value After-known-told At-match-keys2<After-scaled After-enum-told
+-- Start After-shared-slice-known At-loop In-loop After-loop<At-loop After-number<In-loop At-match-keys1 After-value After-known-told At-match-keys2<After-number After-enum-told
 -- After-no-numbers Then1<After-loop Else1<After-loop Then2 Else2<Else1
 -- The needs, each with its place:
--- loop-holds@After-shared-slice-known scaled-requires@In-loop enum-known-value@At-match-keys1 enum-told@At-match-keys2 no-numbers-requires@After-enum-told returns@After-no-numbers
+-- loop-holds@After-shared-slice-known number-requires@In-loop enum-known-value@At-match-keys1 enum-told@At-match-keys2 no-numbers-requires@After-enum-told returns@After-no-numbers
 -- add-at@After-known-told add-counter@After-known-told loop-less@After-known-told loop-again@After-known-told returns-2@Then1 returns-3@Then2 returns-4@Else2
 use Rattle.reader.proofs.line.numbers_of.Tie as tie
 
@@ -18,11 +18,11 @@ module _ {Inv : tie.InvT-loop} {μ : tie.MeasureT-loop} where
   abbrev pub known-told→value : tie.After-known-told Inv μ → tie.After-value Inv μ
   known-told→value c = c .before
 
-  abbrev pub known-told→scaled : tie.After-known-told Inv μ → tie.After-scaled Inv μ
-  known-told→scaled c = known-told→value c .before .before
+  abbrev pub known-told→number : tie.After-known-told Inv μ → tie.After-number Inv μ
+  known-told→number c = known-told→value c .before .before
 
   abbrev pub known-told→loop : tie.After-known-told Inv μ → tie.At-loop Inv μ
-  known-told→loop c = known-told→scaled c .before .before
+  known-told→loop c = known-told→number c .before .before
 
   abbrev pub known-told→start : tie.After-known-told Inv μ → tie.Start Inv μ
   known-told→start c = loop→start (known-told→loop c)
@@ -30,11 +30,11 @@ module _ {Inv : tie.InvT-loop} {μ : tie.MeasureT-loop} where
   abbrev pub no-numbers→enum-told : tie.After-no-numbers Inv μ → tie.After-enum-told Inv μ
   no-numbers→enum-told c = c .before
 
-  abbrev pub no-numbers→scaled : tie.After-no-numbers Inv μ → tie.After-scaled Inv μ
-  no-numbers→scaled c = no-numbers→enum-told c .before .before
+  abbrev pub no-numbers→number : tie.After-no-numbers Inv μ → tie.After-number Inv μ
+  no-numbers→number c = no-numbers→enum-told c .before .before
 
   abbrev pub no-numbers→in-loop : tie.After-no-numbers Inv μ → tie.In-loop Inv μ
-  no-numbers→in-loop c = no-numbers→scaled c .before
+  no-numbers→in-loop c = no-numbers→number c .before
 
   abbrev pub no-numbers→loop : tie.After-no-numbers Inv μ → tie.At-loop Inv μ
   no-numbers→loop c = no-numbers→in-loop c .before

@@ -1,7 +1,7 @@
 -- `mark` says whether a byte is the mark of an exponent: its two comparisons are those of `isMark`. Assumes nothing.
 use borrow.Author.Tests.{eq-eqb, ne-eqb}
-use Rattle.text.proofs.scan.mark.Statement.{statement}
-use Rattle.text.proofs.scan.mark.Tie as tie
+use Rattle.text.proofs.exponent.mark.Statement.{statement}
+use Rattle.text.proofs.exponent.mark.Tie as tie
 
 returns : tie.Need-returns
 returns c = simp (eq-eqb _ _ (c .if1 .taken))

@@ -4,8 +4,8 @@ use mathlib.Core.Path.{_∙_, _≡_, ap}
 use native.Mathlib.Omega.{arith}
 use borrow.Author.Needs.{needs}
 use Rattle.text.proofs.Powers.{power-more}
-use Rattle.text.proofs.scan.raised.Statement.{statement}
-use Rattle.text.proofs.scan.raised.Tie as tie
+use Rattle.text.proofs.exponent.raised.Statement.{statement}
+use Rattle.text.proofs.exponent.raised.Tie as tie
 
 abbrev Inv-loop : tie.InvT-loop
 Inv-loop value power v₀ counter₀ v counter = (counter ≤ power) × (v ≡ value * 10 ^ counter)

@@ -3,8 +3,8 @@ use native.Mathlib.Omega.{arith}
 use denote.Ref.{now}
 use borrow.Author.Needs.{needs}
 use Rattle.text.proofs.Powers.{plus-missing, plus-past, plus-there}
-use Rattle.text.proofs.scan.past_plus.Statement.{statement}
-use Rattle.text.proofs.scan.past_plus.Tie as tie
+use Rattle.text.proofs.exponent.past_plus.Statement.{statement}
+use Rattle.text.proofs.exponent.past_plus.Tie as tie
 
 returns : tie.Need-returns
 returns c = plus-past (now (c .before .args .s)) (c .before .args .at) (c .if1 .taken)

@@ -7,7 +7,7 @@
 -- field-ends-requires@After-shared-slice-known returns@Then1 shared-slice-read-mark@After-shared-slice-known2 mark-requires@After-shared-slice-known2 returns-2@Then2
 -- add-past-plus@Else2 past-plus-requires@Else2 number-requires@After-past-plus enum-known-power@At-match-keys1 enum-told@At-match-keys2 returns-3@After-enum-told
 -- add-if3@After-known-told returns-4@Then3 raised-requires@Else3 returns-5@After-raised
-use Rattle.text.proofs.scan.with_power.Tie as tie
+use Rattle.text.proofs.exponent.with_power.Tie as tie
 
 abbrev pub then1→field-ends : tie.Then1 → tie.After-field-ends
 then1→field-ends c = c .before

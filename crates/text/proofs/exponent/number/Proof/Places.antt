@@ -1,11 +1,11 @@
--- The earlier places that the proof of `scaled` names: `x→y c` is what is known at y, seen from the place x.
+-- The earlier places that the proof of `number` names: `x→y c` is what is known at y, seen from the place x.
 -- Made of the code by proof-names, which reads the lists below when the code has changed.
 -- All places in the code's order, each behind the one in front of it; where it is behind another, `X<Y` names that:
 -- Start After-shared-slice-known After-digits At-match-keys1 After-value After-known-told At-match-keys2<After-digits After-enum-told After-with-power<After-known-told
 -- The needs, each with its place:
 -- digits-requires@After-shared-slice-known enum-known-value@At-match-keys1 enum-told@At-match-keys2 returns@After-enum-told with-power-requires@After-known-told
 -- returns-2@After-with-power
-use Rattle.text.proofs.scan.scaled.Tie as tie
+use Rattle.text.proofs.exponent.number.Tie as tie
 
 abbrev pub known-told→value : tie.After-known-told → tie.After-value
 known-told→value c = c .before

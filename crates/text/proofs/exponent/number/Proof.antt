@@ -1,12 +1,12 @@
--- `scaled` reads the number that is the field at `at`, with an exponent or without: the digits there, and then the rest of the field. No loop. Assumes nothing.
+-- `number` reads the number that is the field at `at`, with an exponent or without: the digits there, and then the rest of the field. No loop. Assumes nothing.
 use mathlib.Core.Path.{_≡_, sym, _∙_}
 use borrow.Author.Needs.{needs}
 use denote.Ref.{now}
 use Rattle.text.specs.declared.scan.Scan.the-variants.{Value}
 use Rattle.text.specs.Scan.{digitsAt}
 use Rattle.text.proofs.Powers.{digits-small, scaled-rest, scaled-without}
-use Rattle.text.proofs.scan.scaled.Statement.{statement}
-use Rattle.text.proofs.scan.scaled.Tie as tie
+use Rattle.text.proofs.exponent.number.Statement.{statement}
+use Rattle.text.proofs.exponent.number.Tie as tie
 mod Places
 use Places.*
 
@@ -29,5 +29,5 @@ returns-2 c =
     let v = with-power→value c .value .given .0 in
     c .with-power .ensures ∙ scaled-rest (now (a .s)) (a .at) (v .0) (v .1 .0) (value (with-power→known-told c))
 
-pub scaled-spec : {M : Type 1} → statement M
-scaled-spec = tie.close (tie.spec (λ c κs. search needs) (λ c. search needs) (λ c. search needs) returns with-power-requires returns-2)
+pub number-spec : {M : Type 1} → statement M
+number-spec = tie.close (tie.spec (λ c κs. search needs) (λ c. search needs) (λ c. search needs) returns with-power-requires returns-2)
