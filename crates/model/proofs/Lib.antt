@@ -27,3 +27,4 @@ pub mod MapReads
 pub mod ByCell
 pub mod MapPrefix
 pub mod RefusedLine
+pub mod JobShort

@@ -1,5 +1,5 @@
 -- A job that is read is fit: each line's tests keep it so. Assumes nothing.
-use Prim.Native.Nat.{ℕ, _+_, _<_}
+use Prim.Native.Nat.{ℕ, _+_, _<_, _≤_}
 use mathlib.Core.Path.{_≡_, refl, sym, ap, subst, _∙_}
 use mathlib.Core.List.{List, [], _∷_, _++_, map, map-append}
 use mathlib.Core.Option.{Option, none, some}
@@ -22,11 +22,24 @@ use Rattle.model.specs.ReadJob.{isNew, add, mayFollow, fieldCount, Said,
 use Rattle.model.proofs.Basics.{nope, and-left, and-right}
 use Rattle.model.proofs.Lists.{in-getD}
 
--- A line that is right passed its tests.
-pub record RightLine (j j′ : Job) : Type 0 where
+-- The longest word of a kind of line.
+abbrev pub wordMost : Kind → ℕ
+wordMost floorLine = 5
+wordMost trackLine = 5
+wordMost cartLine = 4
+wordMost (callLine k) = 4
+
+-- A line that is right passed its tests: a word opens it, as many fields as due follow, each is a number, and these pass too.
+pub record RightLine (number : List ℕ → Option ℕ) (j : Job) (l : List ℕ) (j′ : Job) : Type 0 where
   pub kind : Kind
+  pub word : List ℕ
   pub a : ℕ
   pub b : ℕ
+  pub opened : opens word l ≡ true
+  pub known : length word ≤ wordMost kind
+  pub count : length (after word l) ≡ fieldCount kind
+  pub numbers : List ℕ
+  pub given : numbersBy number (after word l) ≡ some numbers
   pub follows : mayFollow j kind ≡ true
   pub ranged : inRange j kind a b ≡ true
   pub room : hasRoom j kind ≡ true
@@ -40,36 +53,53 @@ cond-right false x a j e = nope (cc)
 right-same : (j k : Job) → right j ≡ right k → j ≡ k
 right-same j k e = cc
 
-numbers-added : (j j′ : Job) (k : Kind) (o : Option (List ℕ)) → mayFollow j k ≡ true → numbersSay j k o ≡ right j′ → RightLine j j′
-numbers-added j j′ k none f e = nope (cc)
-numbers-added j j′ k (some ns) f e =
-    let a = getD ns 0 0 in
-    let b = getD ns 1 0 in
-    let (h₁, e₁) = cond-right (inRange j k a b) _ _ j′ e in
-    let (h₂, e₂) = cond-right (hasRoom j k) _ _ j′ e₁ in
-    let (h₃, e₃) = cond-right (isNew j k a b) _ _ j′ e₂ in
-    record { kind = k; a = a; b = b; follows = f; ranged = h₁; room = h₂; new = h₃; so = right-same (add j k a b) j′ e₃ }
+module _ (number : List ℕ → Option ℕ) (j j′ : Job) (l : List ℕ) where
+  fields-added : (k : Kind) (word : List ℕ) → opens word l ≡ true → length word ≤ wordMost k → fieldsSay number j k (after word l) ≡ right j′ → RightLine number j l j′
+  fields-added k word o w e =
+      let fs = after word l in
+      let (t, f) = cond-right (mayFollow j k && eqb (length fs) (fieldCount k)) (numbersSay j k (numbersBy number fs)) _ j′ e in
+      go (numbersBy number fs) refl (and-left (mayFollow j k) (eqb (length fs) (fieldCount k)) t) (eqb-true _ _ (and-right (mayFollow j k) (eqb (length fs) (fieldCount k)) t)) f
+    where
+      go : (x : Option (List ℕ)) → numbersBy number (after word l) ≡ x → mayFollow j k ≡ true → length (after word l) ≡ fieldCount k → numbersSay j k x ≡ right j′ → RightLine number j l j′
+      go none q m c e = nope (cc)
+      go (some ns) q m c e =
+          let a = getD ns 0 0 in
+          let b = getD ns 1 0 in
+          let (h₁, e₁) = cond-right (inRange j k a b) _ _ j′ e in
+          let (h₂, e₂) = cond-right (hasRoom j k) _ _ j′ e₁ in
+          let (h₃, e₃) = cond-right (isNew j k a b) _ _ j′ e₂ in
+          record {
+            kind = k;
+            word = word;
+            a = a;
+            b = b;
+            opened = o;
+            known = w;
+            count = c;
+            numbers = ns;
+            given = q;
+            follows = m;
+            ranged = h₁;
+            room = h₂;
+            new = h₃;
+            so = right-same (add j k a b) j′ e₃;
+          }
 
-module _ (number : List ℕ → Option ℕ) where
-  fields-added : (j j′ : Job) (k : Kind) (fs : List (List ℕ)) → fieldsSay number j k fs ≡ right j′ → RightLine j j′
-  fields-added j j′ k fs e =
-      let h = cond-right (mayFollow j k && eqb (length fs) (fieldCount k)) (numbersSay j k (numbersBy number fs)) _ j′ e in
-      numbers-added j j′ k (numbersBy number fs) (and-left (mayFollow j k) (eqb (length fs) (fieldCount k)) (h .0)) (h .1)
-
-  pub line-added : (j j′ : Job) (l : List ℕ) → lineSays number j l ≡ right j′ → RightLine j j′
-  line-added j j′ l e = go (opens floorWord l) (opens trackWord l) (opens cartWord l) (opens callWord l) (opens bayWord l) e
+  pub line-added : lineSays number j l ≡ right j′ → RightLine number j l j′
+  line-added e = go (opens floorWord l) refl (opens trackWord l) refl (opens cartWord l) refl (opens callWord l) refl (opens bayWord l) refl e
     where
       say : Kind → List ℕ → Said
       say k word = fieldsSay number j k (after word l)
 
-      go : (t u v w x : Bool) → cond t (say floorLine floorWord) (cond u (say trackLine trackWord) (cond v (say cartLine cartWord)
-          (cond w (say (callLine lift) callWord) (cond x (say (callLine bay) bayWord) (wrong BadLine))))) ≡ right j′ → RightLine j j′
-      go true u v w x e = fields-added j j′ floorLine (after floorWord l) e
-      go false true v w x e = fields-added j j′ trackLine (after trackWord l) e
-      go false false true w x e = fields-added j j′ cartLine (after cartWord l) e
-      go false false false true x e = fields-added j j′ (callLine lift) (after callWord l) e
-      go false false false false true e = fields-added j j′ (callLine bay) (after bayWord l) e
-      go false false false false false e = nope (cc)
+      go : (t : Bool) → opens floorWord l ≡ t → (u : Bool) → opens trackWord l ≡ u → (v : Bool) → opens cartWord l ≡ v → (w : Bool) → opens callWord l ≡ w
+          → (x : Bool) → opens bayWord l ≡ x → cond t (say floorLine floorWord) (cond u (say trackLine trackWord) (cond v (say cartLine cartWord)
+          (cond w (say (callLine lift) callWord) (cond x (say (callLine bay) bayWord) (wrong BadLine))))) ≡ right j′ → RightLine number j l j′
+      go true o u _ v _ w _ x _ e = fields-added floorLine floorWord o (omega arith) e
+      go false _ true o v _ w _ x _ e = fields-added trackLine trackWord o (omega arith) e
+      go false _ false _ true o w _ x _ e = fields-added cartLine cartWord o (omega arith) e
+      go false _ false _ false _ true o x _ e = fields-added (callLine lift) callWord o (omega arith) e
+      go false _ false _ false _ false _ true o e = fields-added (callLine bay) bayWord o (omega arith) e
+      go false _ false _ false _ false _ false _ e = nope (cc)
 
 -- A member more, at the end.
 in-snoc : {A : Type 0} (a x : A) (l : List A) → In a (l ++ (x ∷ [])) → In a l ⊎ (a ≡ x)
@@ -216,10 +246,10 @@ module _ (j : Job) (f : Fit j) (a b : ℕ) where
     own-targets = rw map-append (nodup-snoc (map (λ q. q .cell) (j .calls)) a (f .own-targets) (member-in a (map (λ q. q .cell) (j .calls)) (not-true (member a (map (λ q. q .cell) (j .calls))) n)));
   }
 
-pub line-fit : {j j′ : Job} → Fit j → RightLine j j′ → Fit j′
-line-fit {j} f h = subst Fit (h .so) (add-fit j f (h .a) (h .b) (h .kind) (h .follows) (h .ranged) (h .room) (h .new))
+pub line-fit : {number : List ℕ → Option ℕ} {j j′ : Job} {l : List ℕ} → Fit j → RightLine number j l j′ → Fit j′
+line-fit {number} {j} f h = subst Fit (h .so) (add-fit j f (h .a) (h .b) (h .kind) (h .follows) (h .ranged) (h .room) (h .new))
 
-lines-ready : (j j′ : Job) (n : ℕ) (ls : Lines) → Fit j → linesSay scaledOf j n ls ≡ accepted j′ → Ready j′
+pub lines-ready : (j j′ : Job) (n : ℕ) (ls : Lines) → Fit j → linesSay scaledOf j n ls ≡ accepted j′ → Ready j′
 lines-ready j j′ n done f e = go (eqb (j .cells) 0) refl (eqb (length (j .carts)) (length (j .calls))) refl e
   where
     same : accepted j ≡ accepted j′ → j ≡ j′
