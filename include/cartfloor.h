@@ -52,9 +52,11 @@
  *     BAY cell step         a cell to park on, and a step in the same range, which is its deadline
  *
  * CALL and BAY lines stand in any order, up to CARTFLOOR_CALLS_MAX together, as many as carts. A number has 1 to 3 decimal digits
- * and no leading zero; 0 is one. A cell is a number below the number of cells. Tracks and carts are numbered from 0 in the order
- * of their lines, and so are calls and bays together. No track joins a cell to itself, and no two join the same cells, either way
- * round. No two carts stand on one cell, and a cell has one call or bay at most. A text has at most CARTFLOOR_TEXT_MAX bytes.
+ * and no leading zero; 0 is one. In a job an exponent may stand behind it, e or E, an optional + and one digit: its value is then
+ * the number times ten to that power, as 250 for 25e1 or 25E+1, and all that is said of a number goes by its value. A cell is a
+ * number below the number of cells. Tracks and carts are numbered from 0 in the order of their lines, and so are calls and bays
+ * together. No track joins a cell to itself, and no two join the same cells, either way round. No two carts stand on one cell,
+ * and a cell has one call or bay at most. A text has at most CARTFLOOR_TEXT_MAX bytes.
  *
  *     FLOOR 5               five cells, 0 to 4
  *     TRACK 0 1
@@ -75,10 +77,10 @@
  *
  * ITS SHEET
  *
- * Lines, tabs and numbers are as in a job. A plan is a line PLAN with the number of calls and bays, and one PATH for each: its
- * cart, the call or bay, and the cart's cells from step 0 to the one at which it is lifted or parks: 1 to deadline + 1 of them to
- * a call, deadline + 1 to a bay. PATH lines go by deadline, whenever the cart is lifted, equal deadlines by the number of the
- * lift or bay cell.
+ * Lines, tabs and numbers are as in a job, but without exponents. A plan is a line PLAN with the number of calls and bays, and
+ * one PATH for each: its cart, the call or bay, and the cart's cells from step 0 to the one at which it is lifted or parks: 1 to
+ * deadline + 1 of them to a call, deadline + 1 to a bay. PATH lines go by deadline, whenever the cart is lifted, equal deadlines
+ * by the number of the lift or bay cell.
  *
  *     PLAN 2                a plan for a bay and a call
  *     PATH 1 0 4 3 1        cart 1 parks in bay 0: on cell 4 at step 0, on cell 3 at step 1, on cell 1 at step 2
@@ -113,7 +115,7 @@
  * A MAP
  *
  * A drawing of a floor in letters, in the MovingAI format. LF ends every line, the last one too. The lines come in this order and
- * no other, with one space (byte 32) behind the first word of three of them and none elsewhere; numbers are as in a job:
+ * no other, with one space (byte 32) behind the first word of three of them and none elsewhere; numbers are as on a sheet:
  *
  *     type octile           always so
  *     height 2              the number of rows, 1 to CARTFLOOR_SIDE_MAX
@@ -159,10 +161,11 @@ extern "C" {
  * before, or where calls are added: programs compile as they are. The major number moves where a program has to change. Since
  * 1.2 equal deadlines go by cell: sheets of 1.1 and before are out of order (12) where they have them in another order. Since 1.3
  * there is cartfloor_map. Since 1.4 a lift takes a cart at any step up to the deadline: plans of 1.3 are still plans, but a choke
- * list of 1.3 and before may let a walk through that is lifted early, and is turned back then (12). */
+ * list of 1.3 and before may let a walk through that is lifted early, and is turned back then (12). Since 1.5 the numbers of a
+ * job may have exponents: what was a job is the same job, and only texts that got 4 may be answered otherwise. */
 #define CARTFLOOR_VERSION_MAJOR 1
-#define CARTFLOOR_VERSION_MINOR 4
-#define CARTFLOOR_VERSION "1.4"
+#define CARTFLOOR_VERSION_MINOR 5
+#define CARTFLOOR_VERSION "1.5"
 
 /* C++ compilers can be asked to warn of C's casts. */
 #ifdef __cplusplus
@@ -215,7 +218,8 @@ enum {
     /* a line has no LF, a wrong word, a word out of order or a wrong count of fields; or the text is empty. To do: mend that
      * line: one FLOOR, then TRACK, then CART, then CALL and BAY lines, one tab before each field. */
     CARTFLOOR_BAD_LINE = 3,
-    /* a field is no number. To do: mend that line: one to three digits, no leading zero, no sign, no space, no CR. */
+    /* a field is no number. To do: mend that line: one to three digits, no leading zero, no sign, no space, no CR; and behind them
+     * nothing, or e or E, an optional + and one digit. */
     CARTFLOOR_NO_NUMBER = 4,
     /* a number is out of range. To do: mend that line: 1 to 256 cells, cells below their number, deadlines and steps to 255. */
     CARTFLOOR_OUT_OF_RANGE = 5,

@@ -48,7 +48,8 @@ pub const NUMBERS: [Words; 15] = [
         number: 4,
         name: "NO_NUMBER",
         says: "a field is no number",
-        advice: "mend that line: one to three digits, no leading zero, no sign, no space, no CR",
+        advice: "mend that line: one to three digits, no leading zero, no sign, no space, no CR; \
+                 and behind them nothing, or e or E, an optional + and one digit",
         of_lines: &[],
     },
     Words {

@@ -47,7 +47,8 @@ impl Case {
     }
 }
 
-/// Some with their numbers written in other ways. By turns: as it is, without a sheet, with a damaged sheet, with the sheet of the job as it was before, damaged itself.
+/// Some with their numbers written in other ways. By turns: as it is, without a sheet, with a damaged sheet, with the sheet
+/// of the job as it was before, damaged itself.
 fn cases(count: usize, seed: u64, folder: &Folder) -> Vec<Case> {
     let rng = &mut Rng::new(seed);
     let mut former: Vec<u8> = b"PLAN\t0\n".to_vec();

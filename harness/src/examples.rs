@@ -1,5 +1,5 @@
-//! The filed examples: jobs with the answers that whoever asked for the planner, and later for bays and for early lifts,
-//! wrote down. Tabs are shown as spaces. Each job is in `examples/` too, with its sheet, under its name in small letters.
+//! The filed examples: jobs with the answers that whoever asked for the planner, and later for bays, for early lifts and for
+//! exponents, wrote down. Tabs are shown as spaces. Each job is in `examples/` too, with its sheet, under its name in small letters.
 
 pub mod exponents;
 
@@ -21,7 +21,7 @@ pub struct Example {
     pub answer: u8,
 }
 
-pub const EXAMPLES: &[Example] = &[A, B, C, D, G, BAY, CLOSED, WHOLE];
+pub const EXAMPLES: &[Example] = &[A, B, C, D, G, BAY, CLOSED, WHOLE, OFFICE];
 
 /// A job that has plans. Which of them is written is left open.
 pub struct Planned {
@@ -106,6 +106,14 @@ pub const WHOLE: Example = Example {
     job: "FLOOR 4\nTRACK 1 0\nTRACK 2 0\nCART 1\nCART 2\nCALL 0 2\nCALL 3 2\n",
     sheet: "CANNOT 1\nCHOKE CALL 0\n",
     answer: CANNOT,
+};
+
+/// 250 cells, with a track between the cells 100 and 120, as the recipe office writes numbers.
+pub const OFFICE: Example = Example {
+    name: "office",
+    job: "FLOOR 25e1\nTRACK 1E+2 12e1\nCART 10e1\nCALL 120e0 1e0\n",
+    sheet: "PLAN 1\nPATH 0 0 100 120\n",
+    answer: PLAN,
 };
 
 /// Only an early lift serves it: a cart is lifted before its deadline, so that another may cross its cell.

@@ -81,7 +81,7 @@ const NUMBERS: &[(&str, u64)] = &[
 ];
 
 /// What it has that is no number.
-const TEXTS: &[(&str, &str)] = &[("CARTFLOOR_VERSION", "1.4")];
+const TEXTS: &[(&str, &str)] = &[("CARTFLOOR_VERSION", "1.5")];
 
 /// The guard of the header, and the calls, which `header_calls.rs` and `header_map.rs` hold.
 const NO_NUMBERS: &[&str] = &["CARTFLOOR_H", "cartfloor_plan", "cartfloor_check", "cartfloor_map"];

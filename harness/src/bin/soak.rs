@@ -138,8 +138,8 @@ impl Run {
 }
 
 impl Tried {
-    /// A job, planned, in plain digits and otherwise, and the kinds of cases it gives; then maps. Each turn has its own chance, so that it can be had
-    /// alone.
+    /// A job, planned, in plain digits and otherwise, and the kinds of cases it gives; then maps. Each turn has its own
+    /// chance, so that it can be had alone.
     fn turn(&mut self, seed: u64, turn: u64) -> Result<(), String> {
         let mut rng = Rng::new(seed.wrapping_add(turn << 32));
         // A call at the limits takes a thousand times as long as a small one.
