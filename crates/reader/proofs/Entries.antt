@@ -26,7 +26,7 @@ use Rattle.reader.specs.declared.line.Fault.the-variants.{Form}
 use Rattle.reader.specs.declared.line.Numbers.{Numbers}
 use Rattle.reader.specs.declared.line.Numbers.the-variants.{Bad, Good}
 use Rattle.reader.specs.declared.fill.Counts.{Counts}
-use Rattle.reader.specs.Lines.{answerTo, twoOf, numbersGiven, noNumbers, SameCounts}
+use Rattle.reader.specs.Lines.{answerTo, twoOf, numbersGiven, firstFault, SameCounts}
 
 -- What a loop over the fields has read: of k numbers b is the last and a the one in front of it, and the other fields are those from `at` on.
 pub data Got (s : List ℕ) (k a b at : ℕ) : Type 0 where
@@ -60,10 +60,10 @@ module _ (s : List ℕ) (k a b at : ℕ) where
       go h n (one f z fs x) = two f (fieldOf (drop at s)) (omega arith) (fs ∙ ap (λ r. f ∷ r) h) x n
       go h n (two f g z fs x y) = absurd (omega arith)
 
-  counted : Got s k a b at → length (fieldsOf s) ≡ k + length (fieldsFrom s at)
-  counted (nothing z fs) = omega (arith, ap length fs)
-  counted (one f z fs x) = omega (arith, ap length fs)
-  counted (two f g z fs x y) = omega (arith, ap length fs)
+  count-left : Got s k a b at → length (fieldsOf s) ≡ k + length (fieldsFrom s at)
+  count-left (nothing z fs) = omega (arith, ap length fs)
+  count-left (one f z fs x) = omega (arith, ap length fs)
+  count-left (two f g z fs x y) = omega (arith, ap length fs)
 
   -- the numbers, by those of the fields that are left
   abbrev WithRead : Option (List ℕ) → Option (List ℕ) → Type 0
@@ -78,7 +78,7 @@ module _ (s : List ℕ) (k a b at : ℕ) where
     given : (o : Option (List ℕ)) → length (fieldsOf s) ≡ n → numbersBy scaledOf (fieldsOf s) ≡ o → numbersGiven n (fieldsOf s) ≡ twoOf o
     given o h e = simp (eq-eqb _ _ h) (ap twoOf e)
 
-    pub got-fault : k < n → scaledAt s at ≡ scan.Fault → noNumbers n (fieldsOf s) ≡ numbersGiven n (fieldsOf s)
+    pub got-fault : k < n → scaledAt s at ≡ scan.Fault → Bad (firstFault n (fieldsOf s)) ≡ numbersGiven n (fieldsOf s)
     got-fault l e = go (eqb (length (fieldsOf s)) n) refl
       where
         none-read : 0 < length (fieldsFrom s at) → numbersBy scaledOf (fieldsOf s) ≡ none
@@ -89,17 +89,17 @@ module _ (s : List ℕ) (k a b at : ℕ) where
             by (inr (inl (z, h))) = h
             by (inr (inr (z, h))) = h
 
-        go : (t : Bool) → eqb (length (fieldsOf s)) n ≡ t → noNumbers n (fieldsOf s) ≡ numbersGiven n (fieldsOf s)
+        go : (t : Bool) → eqb (length (fieldsOf s)) n ≡ t → Bad (firstFault n (fieldsOf s)) ≡ numbersGiven n (fieldsOf s)
         go false q = simp q
-        go true q = simp q (ap twoOf (sym (none-read (omega (arith, counted g, eqb-true (length (fieldsOf s)) n q)))))
+        go true q = simp q (ap twoOf (sym (none-read (omega (arith, count-left g, eqb-true (length (fieldsOf s)) n q)))))
 
     module _ (z : k ≡ n) where
-      pub got-over : at ≤ length s → Bad Form ≡ numbersGiven n (fieldsOf s)
-      got-over h = simp (ne-eqb (length (fieldsOf s)) n (λ e. omega (arith, counted g, ap length (fields-from s at h), fields-some (drop at s))))
+      pub got-over : at ≤ length s → Bad (firstFault n (fieldsOf s)) ≡ numbersGiven n (fieldsOf s)
+      got-over h = simp (ne-eqb (length (fieldsOf s)) n (λ e. omega (arith, count-left g, ap length (fields-from s at h), fields-some (drop at s))))
 
       module _ (h : length s < at) where
         all-read : length (fieldsOf s) ≡ n
-        all-read = omega (arith, counted g, ap length (fields-past s at h))
+        all-read = omega (arith, count-left g, ap length (fields-past s at h))
 
         all-numbers : WithRead (numbersBy scaledOf (fieldsOf s)) (some [])
         all-numbers = numbered g (some []) (ap (numbersBy scaledOf) (fields-past s at h))

@@ -55,8 +55,13 @@ abbrev pub numbersGiven : ℕ → List (List ℕ) → Numbers
 numbersGiven n fs = cond (eqb (length fs) n) (twoOf (numbersBy scaledOf fs)) (Bad Form)
 
 -- why they are not: another count, or else one that is no number
-abbrev pub noNumbers : ℕ → List (List ℕ) → Numbers
-noNumbers n fs = cond (eqb (length fs) n) (Bad Number) (Bad Form)
+abbrev pub firstFault : ℕ → List (List ℕ) → Fault
+firstFault n fs = cond (eqb (length fs) n) Number Form
+
+-- what was read, once the count has decided on a fault
+abbrev pub counted : ℕ → List (List ℕ) → Numbers → Numbers
+counted n fs (Bad f) = Bad (firstFault n fs)
+counted n fs (Good a b) = Good a b
 
 -- The counts are those of the job.
 pub record SameCounts (c : Counts) (j : model.Job) : Type 0 where

@@ -31,10 +31,8 @@ few c = ⊎-elim (λ e. omega arith) (λ e. omega arith) (loop→start c .pre)
 
 returns : tie.Need-returns Inv-loop μ-loop
 returns c =
-    let a = no-numbers→start c .args in
-    c .no-numbers .ensures
-    ∙ got-fault (now (a .fields)) _ _ _ _ (a .count) (no-numbers→loop c .loop .inv .1) (no-numbers→in-loop c .loop-test .taken)
-    (sym (no-numbers→number c .number .ensures) ∙ no-numbers→enum-told c .enum-told .given .1)
+    let a = enum-told→start c .args in
+    got-fault (now (a .fields)) _ _ _ _ (a .count) (enum-told→loop c .loop .inv .1) (enum-told→in-loop c .loop-test .taken) (sym (enum-told→number c .number .ensures) ∙ c .enum-told .given .1)
 
 -- A number stands at `at`.
 value : (c : tie.After-known-told Inv-loop μ-loop) → let v = known-told→value c .value .given .0 in
@@ -68,5 +66,5 @@ pub numbers-of-spec : {M : Type 1} → statement M
 numbers-of-spec =
     tie.close
     (tie.spec
-    Inv-loop μ-loop loop-holds (λ c κs. search needs) (λ c. search needs) (λ c. search needs) (λ c κs. search needs) returns add-at (λ c. search needs) (λ c. search needs) loop-again
+    Inv-loop μ-loop loop-holds (λ c κs. search needs) (λ c. search needs) (λ c. search needs) returns add-at (λ c. search needs) (λ c. search needs) loop-again
     returns-2 returns-3 returns-4)
