@@ -13,7 +13,7 @@ mod sheet;
 
 use aim::aim;
 use augment::augment;
-use job::{read, Job};
+use job::Job;
 use planes::{planes, Planes};
 use search::search;
 use sheet::{write_cannot, write_plan, Writer};
@@ -62,13 +62,18 @@ fn solve<M: Mode>(j: &Job, p: &mut Planes, mode: &mut M) -> Result<(), (usize, u
     Ok(())
 }
 
+/// Reading alone.
+pub fn read(text: &[u8]) -> Job {
+    job::read::<Quick>(text)
+}
+
 /// The whole call: read, search, write the sheet, wipe the store. Answers as the library does.
 pub fn plan(text: &[u8], store: &mut [u8], sheet: &mut [u8]) -> u64 {
     plan_by(&mut Quick, text, store, sheet)
 }
 
 pub fn plan_by<M: Mode>(mode: &mut M, text: &[u8], store: &mut [u8], sheet: &mut [u8]) -> u64 {
-    let j = read::<M>(text);
+    let j = job::read::<M>(text);
     let positions = j.cells * (j.beyond + 1);
     store[..2 * positions].fill(0); // used and mark: the store may hold anything
     let mut p = planes(store, positions);
