@@ -19,7 +19,7 @@ pub struct Size {
 }
 
 pub const LIMITS: Size = Size { side: 16, carts: CARTS, last: DEADLINE };
-const BELOW: Size = Size { side: 12, carts: 36, last: 120 };
+pub const BELOW: Size = Size { side: 12, carts: 36, last: 120 };
 
 /// Makes the i-th job of a family.
 type Make = fn(Size, usize, &mut Rng) -> Job;
@@ -30,6 +30,9 @@ pub struct Family {
 }
 
 pub const OPEN_GRID: Family = Family { name: "open grid", make: |s, i, r| on(grid(s.side, s.side), s, i, r) };
+pub const SMALL_HALL: Family = Family { name: "small hall", make: |_, i, r| small_hall(i, r) };
+pub const HALF_BAYS: Family =
+    Family { name: "open grid, half bays", make: |s, i, r| to_bays_on(grid(s.side, s.side), s, i, r) };
 
 pub const FAMILIES: [Family; 18] = [
     OPEN_GRID,
@@ -42,11 +45,11 @@ pub const FAMILIES: [Family; 18] = [
     Family { name: "random sparse", make: |s, i, r| on(sparse(s.side * s.side, 5 * s.side, r), s, i, r) },
     Family { name: "just feasible", make: |s, i, r| tight(s, i, r).0 },
     Family { name: "just infeasible", make: |s, i, r| tight(s, i, r).1 },
-    Family { name: "small hall", make: |_, i, r| small_hall(i, r) },
+    SMALL_HALL,
     Family { name: "star", make: |s, i, r| on(star(s.side * s.side - 1), s, i, r) },
     Family { name: "two hubs", make: |s, i, r| on(two_hubs(s.side * s.side), s, i, r) },
     Family { name: "clique", make: |s, i, r| on(clique(2 * s.side), Size { carts: s.carts / 3, ..s }, i, r) },
-    Family { name: "open grid, half bays", make: |s, i, r| to_bays_on(grid(s.side, s.side), s, i, r) },
+    HALF_BAYS,
     Family { name: "aisles that bays shut", make: |s, i, r| by_turns(shut_aisles(s, r), i) },
     Family { name: "lifts on the main aisle", make: |s, i, r| by_turns(main_aisle(s, i % 4 < 2, r), i) },
     Family { name: "gap behind lifts", make: |s, i, r| by_turns(gap_behind_lifts(s, r), i) },
