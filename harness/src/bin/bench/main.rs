@@ -2,8 +2,8 @@
 //!
 //! For every job of every family, by turns in one process and in processor time of the thread: the planner's call, the
 //! baseline's, the wiping of the store alone, the check of the planner's sheet, the max-flow libraries that are there, and
-//! with `--before OBJECT` the calls of a former library. Maps turned into floors, by the call and by plain Rust. With
-//! `--floors PROGRAM` also a collection planned by that program.
+//! with `--before OBJECT` the calls of a former library. Maps turned into floors, and job texts read alone, by the
+//! call and by plain Rust. With `--floors PROGRAM` also a collection planned by that program.
 
 mod before;
 mod clock;
@@ -17,6 +17,7 @@ mod peers;
 mod report;
 mod shared;
 mod table;
+mod texts;
 mod tight;
 
 use before::Before;
@@ -44,6 +45,9 @@ const WORDS: &str = "\
 - before: a former library's calls, where `./bench --before ARCHIVE` names one, on the jobs that it answers alike; its check gets its own sheet.
 - Times are processor time of the thread, by turns in one process; the best of many runs counts.
 - map: the library's call for maps, for eight maps of a family in turn. Its baseline: `harness/src/baseline/map.rs`, the same in plain Rust.
+- read: a job text read alone, by the planner's call without a store, which it misses only once the whole text is accepted; for eight texts of a family
+  in turn. Its baseline: `harness/src/baseline/job.rs`, which tests nothing, but lists the neighbours and sorts the calls too. Respelled: most numbers
+  with a power of ten behind them, 250 as 25e1; at full length: all of them, 250 as 250e+0.
 - floors: a collection (`harness/src/gen/collection.rs`) planned, checked and filed by one run of `floors plan`, beside both calls of the library and
   the file system's own (write, flush, rename) for the same sheets, by as many threads. Time on the clock; the best of three runs each.
 - A node is a cell at a step. A visit puts a position, a node or a call, on the search's stack; a look is at one of its neighbours. Place
@@ -78,11 +82,14 @@ fn main() {
     eprintln!("maps");
     let maps = maps::measure(before, effort.rounds);
 
+    eprintln!("texts");
+    let texts = texts::measure(before, effort.rounds);
+
     eprintln!("collection");
     let (count, rounds) = if is_quick { SMALL_COLLECTION } else { COLLECTION };
     let filed = after("--floors").map(|program| collection::measure(program, count, rounds));
 
-    report::ratios(&families, &open_grid, &maps, filed);
+    report::ratios(&families, &open_grid, &maps, &texts, filed);
     let names: Vec<&str> = peers.iter().map(|p| p.name).collect();
     let missing: Vec<&str> = peers::NAMES.into_iter().filter(|name| !names.contains(name)).collect();
     println!("Peers: {}. Missing: {}.\n", listed(&names), listed(&missing));
@@ -93,6 +100,8 @@ fn main() {
     report::family_times(&families, &names);
     println!("## Maps, microseconds each\n");
     report::maps(&maps);
+    println!("## Job texts, nanoseconds each\n");
+    report::texts(&texts);
     println!("## Growth\n");
     report::growth(&sizes);
 }

@@ -1,10 +1,11 @@
-//! What is printed: the ratios that are asked for, then the families, the maps, and the growth.
+//! What is printed: the ratios that are asked for, then the families, the maps, the job texts, and the growth.
 
 use crate::collection::Filed;
 use crate::families::Size;
 use crate::maps;
 use crate::measure::Figures;
 use crate::table::{geometric_mean, least, median, most, Table};
+use crate::texts::{self, Spelled};
 
 /// The figures of a family, its jobs as they are made or renumbered.
 pub struct Measured {
@@ -55,7 +56,13 @@ fn visits(f: &Figures) -> f64 {
 }
 
 /// Each ratio beside what is asked of it. `open_grid` has the jobs at the limits.
-pub fn ratios(families: &[Measured], open_grid: &Measured, maps: &[maps::Figures], filed: Option<Filed>) {
+pub fn ratios(
+    families: &[Measured],
+    open_grid: &Measured,
+    maps: &[maps::Figures],
+    texts: &[Spelled],
+    filed: Option<Filed>,
+) {
     let all = || families.iter().flat_map(|family| &family.jobs);
     let medians = |of: fn(&Figures) -> f64| families.iter().map(move |family| family.median(of));
     let without =
@@ -80,6 +87,11 @@ pub fn ratios(families: &[Measured], open_grid: &Measured, maps: &[maps::Figures
     row("map / baseline, geometric mean of the families", "", geometric_mean(map_ratios()));
     row("map / baseline, worst family", "at most 1.5", most(map_ratios()));
     row("map / map before, worst family", "", most(maps.iter().map(|f| f.map / f.before)));
+    let read_ratios = || texts.iter().map(|f| f.plain.read / f.plain.before);
+    let to_reader = texts.iter().map(|f| f.plain.read / f.plain.baseline);
+    row("read / baseline, geometric mean of the families", "", geometric_mean(to_reader));
+    row("read / read before, geometric mean of the families", "at most 1.05", geometric_mean(read_ratios()));
+    row("read / read before, worst family", "", most(read_ratios()));
     if let Some(Filed { jobs, one, all }) = filed {
         row(&format!("floors / calls and files, {jobs} jobs, one thread"), "at most 2", one);
         row(&format!("floors / calls and files, {jobs} jobs, all cores"), "at most 2", all);
@@ -152,6 +164,29 @@ pub fn maps(families: &[maps::Figures]) {
             shown(f.map / f.before, 2),
             shown(f.bytes / f.map, 0),
         ]);
+    }
+    table.print();
+}
+
+/// Job texts a family, each spelling beside the plain one.
+pub fn texts(families: &[Spelled]) {
+    let head = ["family", "bytes", "read", "baseline", "read / baseline", "read / before", "with exponents / plain"];
+    let mut table = Table::new(&head);
+    let mut row = |f: &texts::Figures, plain: f64| {
+        table.row([
+            f.name.clone(),
+            shown(f.bytes(), 0),
+            shown(f.read, 0),
+            shown(f.baseline, 0),
+            shown(f.read / f.baseline, 2),
+            shown(f.read / f.before, 2),
+            shown(f.read / plain, 2),
+        ])
+    };
+    for Spelled { plain, some, all } in families {
+        row(plain, f64::NAN);
+        row(some, plain.read);
+        row(all, plain.read);
     }
     table.print();
 }
