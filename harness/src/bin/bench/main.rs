@@ -2,8 +2,9 @@
 //!
 //! For every job of every family, by turns in one process and in processor time of the thread: the planner's call, the
 //! baseline's, the wiping of the store alone, the check of the planner's sheet, the max-flow libraries that are there, and
-//! with `--before OBJECT` the calls of a former library. Maps turned into floors, and job texts read alone, by the
-//! call and by plain Rust. With `--floors PROGRAM` also a collection planned by that program.
+//! with `--before OBJECT` the calls of a former library. Maps turned into floors, and job texts read alone, by the call and
+//! by plain Rust; with `--placed FOLDER` texts also by objects of this library and of a former one. With `--floors PROGRAM`
+//! also a collection planned by that program.
 
 mod before;
 mod clock;
@@ -14,6 +15,7 @@ mod floors;
 mod maps;
 mod measure;
 mod peers;
+mod placed;
 mod report;
 mod shared;
 mod table;
@@ -45,9 +47,11 @@ const WORDS: &str = "\
 - before: a former library's calls, where `./bench --before ARCHIVE` names one, on the jobs that it answers alike; its check gets its own sheet.
 - Times are processor time of the thread, by turns in one process; the best of many runs counts.
 - map: the library's call for maps, for eight maps of a family in turn. Its baseline: `harness/src/baseline/map.rs`, the same in plain Rust.
-- read: a job text read alone, by the planner's call without a store, which it misses only once the whole text is accepted; for eight texts of a family
-  in turn. Its baseline: `harness/src/baseline/job.rs`, which tests nothing, but lists the neighbours and sorts the calls too. Respelled: most numbers
-  with a power of ten behind them, 250 as 25e1; at full length: all of them, 250 as 250e+0.
+- read: a job text read alone, by the planner's call with an empty store, which is found too short once the whole text is accepted; for eight
+  texts of a family in turn. Its baseline: `harness/src/baseline/job.rs`, which tests nothing, but lists the neighbours and sorts the calls too.
+  Respelled: most numbers with a power of ten behind them, 250 as 25e1. At full length: all of them, 250 as 250e+0.
+  read / before: both libraries as shared objects made alike, each at four places in memory, on the average: where a loop lies on the lines of the
+  cache changes a call this short by up to 15 %.
 - floors: a collection (`harness/src/gen/collection.rs`) planned, checked and filed by one run of `floors plan`, beside both calls of the library and
   the file system's own (write, flush, rename) for the same sheets, by as many threads. Time on the clock; the best of three runs each.
 - A node is a cell at a step. A visit puts a position, a node or a call, on the search's stack; a look is at one of its neighbours. Place
@@ -61,6 +65,7 @@ fn main() {
     let effort = if is_quick { QUICK } else { FULL };
     let peers = peers::load(after("--peers").map_or("target/peers", |folder| folder));
     let before = after("--before").map(|file| Before::load(file).expect("a shared object with the calls"));
+    let placed = after("--placed").map_or(Vec::new(), |folder| placed::load(folder));
     let measured = |name: &str, jobs: &[Job], peers: &[Peer]| Measured {
         name: name.into(),
         jobs: jobs.iter().map(|job| measure(job, peers, before, effort)).collect(),
@@ -83,7 +88,7 @@ fn main() {
     let maps = maps::measure(before, effort.rounds);
 
     eprintln!("texts");
-    let texts = texts::measure(before, effort.rounds);
+    let texts = texts::measure(&placed, effort.rounds);
 
     eprintln!("collection");
     let (count, rounds) = if is_quick { SMALL_COLLECTION } else { COLLECTION };

@@ -87,7 +87,7 @@ pub fn ratios(
     row("map / baseline, geometric mean of the families", "", geometric_mean(map_ratios()));
     row("map / baseline, worst family", "at most 1.5", most(map_ratios()));
     row("map / map before, worst family", "", most(maps.iter().map(|f| f.map / f.before)));
-    let read_ratios = || texts.iter().map(|f| f.plain.read / f.plain.before);
+    let read_ratios = || texts.iter().map(|f| f.plain.to_before());
     let to_reader = texts.iter().map(|f| f.plain.read / f.plain.baseline);
     row("read / baseline, geometric mean of the families", "", geometric_mean(to_reader));
     row("read / read before, geometric mean of the families", "at most 1.05", geometric_mean(read_ratios()));
@@ -179,7 +179,7 @@ pub fn texts(families: &[Spelled]) {
             shown(f.read, 0),
             shown(f.baseline, 0),
             shown(f.read / f.baseline, 2),
-            shown(f.read / f.before, 2),
+            shown(f.to_before(), 2),
             shown(f.read / plain, 2),
         ])
     };

@@ -16,6 +16,7 @@ use harness::model::limits::{CARTS, DEADLINE};
 use crate::before::Before;
 use crate::clock::timed;
 use crate::families::{BELOW, HALF_BAYS, LIMITS, OPEN_GRID, SMALL_HALL};
+use crate::placed::Placed;
 
 /// A family of jobs, whose texts are gone through in turn.
 struct Family {
@@ -27,14 +28,14 @@ struct Family {
 pub struct Figures {
     pub name: String,
     texts: Vec<Vec<u8>>,
-    /// The library before, if it accepts these texts.
-    former: Option<Before>,
     /// How often the texts are gone through at once.
     times: usize,
     pub read: f64,
     pub baseline: f64,
-    /// No number where there is no library before.
-    pub before: f64,
+    /// None where the library before refuses these texts.
+    places: Vec<Placed>,
+    /// At each place, of this library and of the one before.
+    at_places: Vec<[f64; 2]>,
 }
 
 /// The same jobs in three spellings.
@@ -61,19 +62,19 @@ const FAMILIES: [Family; 6] = [
     Family { name: "every limit, three digits", job: full },
 ];
 
-pub fn measure(before: Option<Before>, rounds: usize) -> Vec<Spelled> {
-    FAMILIES.iter().map(|family| of_family(family, before, MORE * rounds)).collect()
+pub fn measure(places: &[Placed], rounds: usize) -> Vec<Spelled> {
+    FAMILIES.iter().map(|family| of_family(family, places, MORE * rounds)).collect()
 }
 
-fn of_family(family: &Family, before: Option<Before>, rounds: usize) -> Spelled {
+fn of_family(family: &Family, places: &[Placed], rounds: usize) -> Spelled {
     let plain: Vec<Vec<u8>> = (0..TEXTS).map(|i| (family.job)(i).text()).collect();
     let some = plain.iter().zip(1..).map(|(text, seed)| respelled(text, &mut Rng::new(seed))).collect();
     let all = plain.iter().map(|text| at_full_length(text)).collect();
     let named = |more: &str| format!("{}{more}", family.name);
     let mut spelled = Spelled {
-        plain: Figures::new(named(""), plain, before),
-        some: Figures::new(named(", respelled"), some, before),
-        all: Figures::new(named(", at full length"), all, before),
+        plain: Figures::new(named(""), plain, places),
+        some: Figures::new(named(", respelled"), some, places),
+        all: Figures::new(named(", at full length"), all, places),
     };
     for _ in 0..rounds + 1 {
         spelled.plain.round();
@@ -84,9 +85,11 @@ fn of_family(family: &Family, before: Option<Before>, rounds: usize) -> Spelled 
 }
 
 impl Figures {
-    fn new(name: String, texts: Vec<Vec<u8>>, before: Option<Before>) -> Figures {
-        let former = before.filter(|b| texts.iter().all(|text| is_read(b.plan(text, &mut [], &mut []))));
-        Figures { name, texts, former, times: 1, read: f64::NAN, baseline: f64::NAN, before: f64::NAN }
+    fn new(name: String, texts: Vec<Vec<u8>>, places: &[Placed]) -> Figures {
+        let is_known = |place: &&Placed| texts.iter().all(|text| is_read(place.before.plan(text, &mut [], &mut [])));
+        let places: Vec<Placed> = places.iter().filter(is_known).copied().collect();
+        let at_places = vec![[f64::NAN; 2]; places.len()];
+        Figures { name, texts, times: 1, read: f64::NAN, baseline: f64::NAN, places, at_places }
     }
 
     /// Of a text, on the average.
@@ -94,11 +97,19 @@ impl Figures {
         self.texts.iter().map(Vec::len).sum::<usize>() as f64 / TEXTS as f64
     }
 
+    /// This library to the one before, on the average of the places: no number where there is none.
+    pub fn to_before(&self) -> f64 {
+        let sum = |library: usize| self.at_places.iter().map(|times| times[library]).sum::<f64>();
+        sum(0) / sum(1)
+    }
+
     fn round(&mut self) {
         self.read = self.read.min(self.timed(|text| assert!(is_read(cartfloor::plan(text, &mut [], &mut [])))));
         self.baseline = self.baseline.min(self.timed(|text| _ = black_box(&baseline::read(text))));
-        if let Some(b) = self.former {
-            self.before = self.before.min(self.timed(|text| assert!(is_read(b.plan(text, &mut [], &mut [])))));
+        let by = |library: Before| self.timed(|text| assert!(is_read(library.plan(text, &mut [], &mut []))));
+        let round: Vec<[f64; 2]> = self.places.iter().map(|place| [place.now, place.before].map(by)).collect();
+        for (best, time) in self.at_places.iter_mut().flatten().zip(round.into_iter().flatten()) {
+            *best = best.min(time);
         }
         self.times = (SHORTEST / (TEXTS as f64 * self.read)).ceil() as usize;
     }
