@@ -11,7 +11,7 @@ const SPECS: &str = concat!(env!("CARGO_MANIFEST_DIR"), "/../crates/model/specs"
 /// What the header has for a C program to write down, and its number.
 const NUMBERS: &[(&str, u64)] = &[
     ("CARTFLOOR_VERSION_MAJOR", 1),
-    ("CARTFLOOR_VERSION_MINOR", 4),
+    ("CARTFLOOR_VERSION_MINOR", 5),
     ("CARTFLOOR_PLAN", 0),
     ("CARTFLOOR_CANNOT", 1),
     ("CARTFLOOR_TEXT_TOO_LONG", 2),
@@ -132,10 +132,11 @@ const LINES: &[(&str, &str)] = &[
     ("Limits", "maxText = 16384"),
     ("Job", "storeLeast j = (horizon j + 1) * 32 * (j .cells + 2 * length (j .tracks)) + 4096"),
     ("Job", "sheetLeast j = length (j .carts) * (4 * (horizon j + 1) + 16) + 64"),
-    ("ReadJob", "readJob s = cond (ltb maxText (length s)) (refused TextTooLong 0) (linesSay noJob 1 (linesOf s))"),
+    ("ReadJob", READ_BY),
+    ("ReadJob", "readJob s = readBy scaledOf s"),
     ("ReadJob", FIELDS_SAY),
     ("ReadJob", "(wrong BadLine)))))"),
-    ("ReadJob", "linesSay j n cut = refused BadLine n"),
+    ("ReadJob", "linesSay number j n cut = refused BadLine n"),
     ("ReadJob", "numbersSay j k none = wrong NoNumber"),
     ("ReadJob", NUMBERS_SAY),
     ("ReadJob", WHOLE_JOB),
@@ -164,8 +165,10 @@ const LINES: &[(&str, &str)] = &[
 ];
 
 const FLOOR_FITS: &str = "(cond (leb (length (mapText m)) room) (accepted (mapText m)) (refused SheetTooShort 0))";
-const FIELDS_SAY: &str = "fieldsSay j k fs = \
-    cond (mayFollow j k && eqb (length fs) (fieldCount k)) (numbersSay j k (numbersOf fs)) (wrong BadLine)";
+const READ_BY: &str = "readBy number s = \
+    cond (ltb maxText (length s)) (refused TextTooLong 0) (linesSay number noJob 1 (linesOf s))";
+const FIELDS_SAY: &str = "fieldsSay number j k fs = \
+    cond (mayFollow j k && eqb (length fs) (fieldCount k)) (numbersSay j k (numbersBy number fs)) (wrong BadLine)";
 const NUMBERS_SAY: &str = "cond (inRange j k a b) \
     (cond (hasRoom j k) (cond (isNew j k a b) (right (add j k a b)) (wrong Doubled)) (wrong TooMany)) (wrong OutOfRange)";
 const WHOLE_JOB: &str = "wholeJob j n = cond (eqb (j .cells) 0) (refused BadLine n) \
