@@ -1,4 +1,5 @@
 pub mod Tests
 pub mod Noted
 pub mod Entries
+pub mod Scans
 pub mod Turns

@@ -1,5 +1,5 @@
 -- `numbers_of` gives the numbers of the fields, or the first test that they fail. Invariant, `Got`: of the fields so far the last two are the numbers a and b, and those from `at` on are
--- left. So where a scan finds no number, either there is another count of fields or one is none, and where all found one, either fields are left or these are all: the laws of `Entries`.
+-- left. So where a scan finds no number, either there is another count of fields or one is none, and where all found one, either fields are left or these are all: the laws of `Scans`.
 -- The measure is what is left to scan. Assumes nothing.
 use Prim.Native.Nat.{_-_, _≤_}
 use mathlib.Core.Path.{_≡_, refl, sym, _∙_}
@@ -10,7 +10,7 @@ use Rattle.model.specs.Text.{scaledOf}
 use Rattle.text.specs.declared.scan.Scan.the-variants as scan
 use Rattle.text.specs.Scan.{scaledAt}
 use Rattle.text.proofs.Numbers.{fields-from, next-inside}
-use Rattle.reader.proofs.Entries.{Got, nothing, number-inside, got-fault, got-more, got-one, got-over, got-two}
+use Rattle.reader.proofs.Scans.{Got, nothing, number-inside, got-fault, got-more, got-one, got-over, got-two}
 use borrow.Author.Needs.{needs}
 use Rattle.reader.proofs.line.numbers_of.Statement.{statement}
 use Rattle.reader.proofs.line.numbers_of.Tie as tie
