@@ -4,7 +4,7 @@ use borrow.Author.Needs.{needs}
 use denote.Ref.{now}
 use Rattle.text.specs.declared.scan.Scan.the-variants.{Value}
 use Rattle.text.specs.Scan.{digitsAt}
-use Rattle.text.proofs.Powers.{digits-small, scaled-rest, scaled-without}
+use Rattle.text.proofs.FieldDigits.{digits-small, scaled-rest, scaled-without}
 use Rattle.text.proofs.exponent.number.Statement.{statement}
 use Rattle.text.proofs.exponent.number.Tie as tie
 mod Places

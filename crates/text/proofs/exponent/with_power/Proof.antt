@@ -12,7 +12,8 @@ use Rattle.model.specs.Text.{isMark}
 use Rattle.model.specs.ReadJob.{isEmpty}
 use Rattle.text.specs.declared.scan.Scan.the-variants.{Value}
 use Rattle.text.specs.Scan.{fieldOf, numberAt}
-use Rattle.text.proofs.Powers.{goes-on, plus-small, power-bad, power-fault, power-long, power-none, power-one, power-small}
+use Rattle.text.proofs.FieldDigits.{goes-on}
+use Rattle.text.proofs.Powers.{plus-small, power-bad, power-fault, power-long, power-none, power-one, power-small}
 use Rattle.text.proofs.exponent.with_power.Statement.{statement}
 use Rattle.text.proofs.exponent.with_power.Tie as tie
 mod Places

@@ -4,7 +4,7 @@ use native.Mathlib.Omega.{arith}
 use denote.Ref.{now}
 use borrow.Author.Needs.{needs}
 use borrow.Author.Tests.{le-leb}
-use Rattle.text.proofs.Powers.{ends-past, ends-tab}
+use Rattle.text.proofs.FieldDigits.{ends-past, ends-tab}
 use Rattle.text.proofs.scan.field_ends.Statement.{statement}
 use Rattle.text.proofs.scan.field_ends.Tie as tie
 

@@ -5,7 +5,7 @@ use borrow.Author.Tests.{not-false, not-true}
 use denote.Ref.{now}
 use Rattle.text.specs.declared.scan.Scan.the-variants.{Value}
 use Rattle.text.specs.Scan.{digitsAt}
-use Rattle.text.proofs.Powers.{number-ends, number-goes-on, number-without}
+use Rattle.text.proofs.FieldDigits.{number-ends, number-goes-on, number-without}
 use Rattle.text.proofs.scan.number.Statement.{statement}
 use Rattle.text.proofs.scan.number.Tie as tie
 mod Places
