@@ -11,7 +11,7 @@ use Rattle.model.specs.declared.answer.Answer.the-variants as answer
 use Rattle.model.specs.Limits.{maxCells, maxSteps}
 use Rattle.model.specs.Job as model
 use Rattle.model.specs.Job.{lift, bay}
-use Rattle.model.specs.Text.{numbersBy, scaledOf}
+use Rattle.model.specs.Text.{numbersBy, scaledOf, opens, floorWord, trackWord, cartWord, callWord, bayWord}
 use Rattle.model.specs.ReadJob as read
 use Rattle.model.specs.ReadJob.{floorLine, trackLine, cartLine, callLine}
 use Rattle.reader.specs.declared.fill.Kind.{Kind}
@@ -20,6 +20,8 @@ use Rattle.reader.specs.declared.line.Fault.{Fault}
 use Rattle.reader.specs.declared.line.Fault.the-variants.{Form, Number, Range, Room, Doubled}
 use Rattle.reader.specs.declared.line.Entry.{Entry}
 use Rattle.reader.specs.declared.line.Entry.the-variants.{Wrong, Right}
+use Rattle.reader.specs.declared.line.Word.{Word}
+use Rattle.reader.specs.declared.line.Word.the-variants.{Opens, Unknown}
 use Rattle.reader.specs.declared.line.Numbers.{Numbers}
 use Rattle.reader.specs.declared.line.Numbers.the-variants.{Bad, Good}
 use Rattle.reader.specs.declared.fill.Counts.{Counts}
@@ -45,6 +47,16 @@ answerTo Doubled = answer.Doubled
 abbrev pub saidBy : model.Job → Entry → read.Said
 saidBy j (Wrong f) = read.wrong (answerTo f)
 saidBy j (Right k a b) = read.right (read.add j (kindOf k) a b)
+
+-- the word that opens a line, as a kind, and its size with the tab
+abbrev pub wordOf : List ℕ → Word
+wordOf l =
+    cond (opens floorWord l) (Opens Floor 6)
+    (cond (opens trackWord l) (Opens Track 6)
+    (cond (opens cartWord l) (Opens Cart 5)
+    (cond (opens callWord l) (Opens Call 5)
+    (cond (opens bayWord l) (Opens Bay 4)
+    Unknown))))
 
 -- n fields, and each a number
 abbrev pub twoOf : Option (List ℕ) → Numbers

@@ -16,7 +16,7 @@ ghost use Rattle.model.specs.Limits.{maxCells};
 ghost use Rattle.model.specs.Job as model;
 ghost use Rattle.model.specs.Text.{fieldsOf, scaledOf};
 ghost use Rattle.model.specs.ReadJob.{trackLine, mayFollow, inRange, hasRoom, isNew, fieldCount, numbersSay, fieldsSay, lineSays};
-ghost use Rattle.reader.specs.Lines.{kindOf, answerTo, saidBy, counted, firstFault, numbersGiven, SameCounts, Noted, Small, passing, GoesBy, Asks, Sound, tableSize};
+ghost use Rattle.reader.specs.Lines.{kindOf, answerTo, saidBy, wordOf, counted, firstFault, numbersGiven, SameCounts, Noted, Small, passing, GoesBy, Asks, Sound, tableSize};
 
 // The first test that a line fails.
 pub enum Fault {
@@ -31,6 +31,12 @@ pub enum Fault {
 pub enum Entry {
     Wrong(Fault),
     Right { kind: Kind, a: usize, b: usize },
+}
+
+// The word that opens a line, as a kind, and its size with the tab behind it.
+pub enum Word {
+    Opens { kind: Kind, size: usize },
+    Unknown,
 }
 
 // The numbers of a line; b is 0 where there is one only.
@@ -199,25 +205,51 @@ fn fields_say(kind: Kind, fields: &[u8], counts: Counts, seen: &[u8]) -> Entry
     }
 }
 
-// What a line says. The word at its start decides, and what follows the word and its tab goes on as the fields.
+// The word that opens the line, if it is one of the five.
+fn word_of(line: &[u8]) -> Word
+    ensures { λ r. ⌜ r ≡ wordOf (now (line .entry)) ⌝ }
+{
+    if text::scan::opens_with(line, b"FLOOR\t") {
+        return Word::Opens {
+            kind: Kind::Floor,
+            size: 6,
+        };
+    }
+    if text::scan::opens_with(line, b"TRACK\t") {
+        return Word::Opens {
+            kind: Kind::Track,
+            size: 6,
+        };
+    }
+    if text::scan::opens_with(line, b"CART\t") {
+        return Word::Opens {
+            kind: Kind::Cart,
+            size: 5,
+        };
+    }
+    if text::scan::opens_with(line, b"CALL\t") {
+        return Word::Opens {
+            kind: Kind::Call,
+            size: 5,
+        };
+    }
+    if text::scan::opens_with(line, b"BAY\t") {
+        return Word::Opens {
+            kind: Kind::Bay,
+            size: 4,
+        };
+    }
+    Word::Unknown
+}
+
+// What a line says. The word at its start decides, and what follows the word and its tab goes on as the fields. They are read at one place, so
+// that the compiler puts all of it in line.
 pub fn entry_of(line: &[u8], counts: Counts, seen: &[u8]) -> Entry
     requires { ⌜ (counts .cells ≤ maxCells) × (8 * length (now seen) ≡ tableSize) ⌝ }
     ensures { λ r. ⌜ Sound counts r × ((j : model.Job) → SameCounts counts j → Noted (now (seen .entry)) j → saidBy j r ≡ lineSays scaledOf j (now (line .entry))) ⌝ }
 {
-    if text::scan::opens_with(line, b"FLOOR\t") {
-        return fields_say(Kind::Floor, &line[6..], counts, seen);
-    }
-    if text::scan::opens_with(line, b"TRACK\t") {
-        return fields_say(Kind::Track, &line[6..], counts, seen);
-    }
-    if text::scan::opens_with(line, b"CART\t") {
-        return fields_say(Kind::Cart, &line[5..], counts, seen);
-    }
-    if text::scan::opens_with(line, b"CALL\t") {
-        return fields_say(Kind::Call, &line[5..], counts, seen);
-    }
-    if text::scan::opens_with(line, b"BAY\t") {
-        return fields_say(Kind::Bay, &line[4..], counts, seen);
-    }
-    Entry::Wrong(Fault::Form)
+    let Word::Opens { kind, size } = word_of(line) else {
+        return Entry::Wrong(Fault::Form);
+    };
+    fields_say(kind, &line[size..], counts, seen)
 }
