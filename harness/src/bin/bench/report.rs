@@ -90,8 +90,8 @@ pub fn ratios(
     let read_ratios = || texts.iter().map(|f| f.plain.to_before());
     let to_reader = texts.iter().map(|f| f.plain.read / f.plain.baseline);
     row("read / baseline, geometric mean of the families", "", geometric_mean(to_reader));
-    row("read / read before, geometric mean of the families", "at most 1.05", geometric_mean(read_ratios()));
-    row("read / read before, worst family", "", most(read_ratios()));
+    row("read / read before, geometric mean of the families", "", geometric_mean(read_ratios()));
+    row("read / read before, worst family", "at most 1.05", most(read_ratios()));
     if let Some(Filed { jobs, one, all }) = filed {
         row(&format!("floors / calls and files, {jobs} jobs, one thread"), "at most 2", one);
         row(&format!("floors / calls and files, {jobs} jobs, all cores"), "at most 2", all);
