@@ -67,17 +67,17 @@ line-by j l = go (opens floorWord l) (opens trackWord l) (opens cartWord l) (ope
     go false false false false false = refl
 
 -- A line is as long as the word that opens it.
-abbrev pub Fits : List ℕ → Word → Type 0
-Fits l (Opens k n) = n ≤ length l
-Fits l Unknown = Unit
+abbrev pub LongEnough : List ℕ → Word → Type 0
+LongEnough l (Opens k n) = n ≤ length l
+LongEnough l Unknown = Unit
 
-pub word-fits : (l : List ℕ) → Fits l (wordOf l)
-word-fits l = next floorWord Floor _ (next trackWord Track _ (next cartWord Cart _ (next callWord Call _ (next bayWord Bay _ tt))))
+pub word-long : (l : List ℕ) → LongEnough l (wordOf l)
+word-long l = next floorWord Floor _ (next trackWord Track _ (next cartWord Cart _ (next callWord Call _ (next bayWord Bay _ tt))))
   where
-    next : (w : List ℕ) (k : Kind) (x : Word) → Fits l x → Fits l (cond (opens w l) (Opens k (suc (length w))) x)
+    next : (w : List ℕ) (k : Kind) (x : Word) → LongEnough l x → LongEnough l (cond (opens w l) (Opens k (suc (length w))) x)
     next w k x h = go (opens w l) refl
       where
-        go : (t : Bool) → opens w l ≡ t → Fits l (cond t (Opens k (suc (length w))) x)
+        go : (t : Bool) → opens w l ≡ t → LongEnough l (cond t (Opens k (suc (length w))) x)
         go true e = omega (arith, opens-long (w ++ (9 ∷ [])) l e, length-append w (9 ∷ []))
         go false e = h
 

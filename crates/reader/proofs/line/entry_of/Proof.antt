@@ -1,11 +1,10 @@
 -- `entry_of` says what the line says: the word that opens it decides, and its fields are the part after the word and its tab, which the line is
 -- long enough to have. Assumes nothing.
-use mathlib.Core.Path.{_≡_, sym, ap, subst, _∙_}
+use mathlib.Core.Path.{_≡_, sym, subst, _∙_}
 use denote.Ref.{now}
-use Rattle.model.specs.declared.answer.Answer.the-variants.{BadLine}
 use Rattle.reader.specs.declared.line.Word.the-variants.{Opens}
 use Rattle.reader.specs.Lines.{wordOf}
-use Rattle.reader.proofs.Words.{Fits, word-fits, part-says, line-unknown}
+use Rattle.reader.proofs.Words.{LongEnough, word-long, part-says, line-unknown}
 use borrow.Author.Needs.{needs}
 use Rattle.reader.proofs.line.entry_of.Statement.{statement}
 use Rattle.reader.proofs.line.entry_of.Tie as tie
@@ -20,7 +19,7 @@ opened : (c : tie.After-known-told) → let w = known-told→kind c .kind .given
 opened c = sym (known-told→word-of c .word-of .ensures) ∙ known-told→kind c .kind .given .1
 
 long : tie.Need-sub-fields-say
-long c = let l = now (known-told→start c .args .line) in subst (Fits l) (opened c) (word-fits l)
+long c = let l = now (known-told→start c .args .line) in subst (LongEnough l) (opened c) (word-long l)
 
 returns-2 : tie.Need-returns-2
 returns-2 c =

@@ -1,6 +1,6 @@
 -- `word_of` answers the first word that opens the line, with its size: the tests are those of `wordOf`, in their order. Assumes nothing.
 use mathlib.Core.Path.{_≡_, sym, _∙_}
-use mathlib.Core.Bool.{true, false}
+use mathlib.Core.Bool.{false}
 use denote.Ref.{now}
 use Rattle.model.specs.Text.{opens, floorWord, trackWord, cartWord, callWord}
 use Rattle.reader.proofs.Words.{word-floor, word-track, word-cart, word-call, word-bay, word-unknown}
