@@ -15,6 +15,7 @@ use Rattle.model.proofs.Basics.{nope}
 use Rattle.text.specs.declared.scan.Scan.the-variants as scan
 use Rattle.text.specs.Scan.{fieldOf, scaledAt}
 use Rattle.text.proofs.Numbers.{field-first, fields-from, fields-past, fields-some, fieldsFrom, number-none, parts}
+use Rattle.reader.specs.declared.line.Fault.the-variants.{Form}
 use Rattle.reader.specs.declared.line.Numbers.the-variants.{Bad, Good}
 use Rattle.reader.specs.Lines.{twoOf, numbersGiven, firstFault}
 
@@ -84,7 +85,7 @@ module _ (s : List ℕ) (k a b at : ℕ) where
         go true q = simp q (ap twoOf (sym (none-read (omega (arith, count-left g, eqb-true (length (fieldsOf s)) n q)))))
 
     module _ (z : k ≡ n) where
-      pub got-over : at ≤ length s → Bad (firstFault n (fieldsOf s)) ≡ numbersGiven n (fieldsOf s)
+      pub got-over : at ≤ length s → Bad Form ≡ numbersGiven n (fieldsOf s)
       got-over h = simp (ne-eqb (length (fieldsOf s)) n (λ e. omega (arith, count-left g, ap length (fields-from s at h), fields-some (drop at s))))
 
       module _ (h : length s < at) where

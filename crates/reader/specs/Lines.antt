@@ -70,11 +70,6 @@ numbersGiven n fs = cond (eqb (length fs) n) (twoOf (numbersBy scaledOf fs)) (Ba
 abbrev pub firstFault : ℕ → List (List ℕ) → Fault
 firstFault n fs = cond (eqb (length fs) n) Number Form
 
--- what was read, once the count has decided on a fault
-abbrev pub counted : ℕ → List (List ℕ) → Numbers → Numbers
-counted n fs (Bad f) = Bad (firstFault n fs)
-counted n fs (Good a b) = Good a b
-
 -- The counts are those of the job.
 pub record SameCounts (c : Counts) (j : model.Job) : Type 0 where
   pub cells : c .cells ≡ j .cells

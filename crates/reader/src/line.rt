@@ -16,7 +16,7 @@ ghost use Rattle.model.specs.Limits.{maxCells};
 ghost use Rattle.model.specs.Job as model;
 ghost use Rattle.model.specs.Text.{fieldsOf, scaledOf};
 ghost use Rattle.model.specs.ReadJob.{trackLine, mayFollow, inRange, hasRoom, isNew, fieldCount, numbersSay, fieldsSay, lineSays};
-ghost use Rattle.reader.specs.Lines.{kindOf, answerTo, saidBy, wordOf, counted, firstFault, numbersGiven, SameCounts, Noted, Small, passing, GoesBy, Asks, Sound, tableSize};
+ghost use Rattle.reader.specs.Lines.{kindOf, answerTo, saidBy, wordOf, firstFault, numbersGiven, SameCounts, Noted, Small, passing, GoesBy, Asks, Sound, tableSize};
 
 // The first test that a line fails.
 pub enum Fault {
@@ -78,19 +78,28 @@ fn may_follow(kind: Kind, counts: Counts) -> bool
     }
 }
 
-// The numbers of as many fields as asked for, with exponents or without. Fields are not counted: where they are not all numbers, or others
-// follow, the fault says no more than that. The scanner is called at one place: it is too long to be put in line at two, and a call for each
-// number would take a quarter more of the time of reading.
+// The fault of fields that are not so many numbers: their count is tested before what they are.
+fn first_fault(fields: &[u8], count: usize) -> Fault
+    ensures { λ r. ⌜ r ≡ firstFault count (fieldsOf (now (fields .entry))) ⌝ }
+{
+    if text::scan::field_count(fields) != count {
+        return Fault::Form;
+    }
+    Fault::Number
+}
+
+// As many fields as asked for, and each a number, with an exponent or without. They are counted only where one is none. The scanner is called
+// at one place: it is too long to be put in line at two, and a call for each number would take a quarter more of the time of reading.
 fn numbers_of(fields: &[u8], count: usize) -> Numbers
     requires { ⌜ (count ≡ 1) ⊎ (count ≡ 2) ⌝ }
-    ensures { λ r. ⌜ counted count (fieldsOf (now (fields .entry))) r ≡ numbersGiven count (fieldsOf (now (fields .entry))) ⌝ }
+    ensures { λ r. ⌜ r ≡ numbersGiven count (fieldsOf (now (fields .entry))) ⌝ }
 {
     let mut a = 0;
     let mut b = 0;
     let mut at = 0;
     for _ in 0..count {
         let Scan::Value { value, next } = text::exponent::number(fields, at) else {
-            return Numbers::Bad(Fault::Number);
+            return Numbers::Bad(first_fault(fields, count));
         };
         a = b;
         b = value;
@@ -103,16 +112,6 @@ fn numbers_of(fields: &[u8], count: usize) -> Numbers
         return Numbers::Good { a: b, b: 0 };
     }
     Numbers::Good { a, b }
-}
-
-// The fault of fields that are not so many numbers: their count is tested before what they are.
-fn first_fault(fields: &[u8], count: usize) -> Fault
-    ensures { λ r. ⌜ r ≡ firstFault count (fieldsOf (now (fields .entry))) ⌝ }
-{
-    if text::scan::field_count(fields) != count {
-        return Fault::Form;
-    }
-    Fault::Number
 }
 
 fn in_range(kind: Kind, counts: Counts, a: usize, b: usize) -> bool
@@ -200,7 +199,7 @@ fn fields_say(kind: Kind, fields: &[u8], counts: Counts, seen: &[u8]) -> Entry
     }
     let count = field_count(kind);
     match numbers_of(fields, count) {
-        Numbers::Bad(_) => Entry::Wrong(first_fault(fields, count)),
+        Numbers::Bad(fault) => Entry::Wrong(fault),
         Numbers::Good { a, b } => numbers_say(kind, counts, seen, a, b),
     }
 }

@@ -1,12 +1,12 @@
--- `fields_say` says what the fields say of every job with these counts and marks: a line that may not stand here is told so, where there are
--- numbers they say it, and where there are none the field count decides which fault it is. Assumes nothing.
+-- `fields_say` says what the fields say of every job with these counts and marks: a line that may not stand here or gives no numbers is told so,
+-- and where there are numbers they say it. Assumes nothing.
 use mathlib.Core.Path.{_≡_, sym, ap, _∙_}
 use denote.Ref.{now}
 use borrow.Author.Tests.{not-true, not-false}
 use Rattle.model.specs.Job as model
 use Rattle.model.specs.Text.{fieldsOf, scaledOf}
-use Rattle.model.specs.ReadJob.{fieldsSay, wrong}
-use Rattle.reader.specs.Lines.{kindOf, answerTo, counted, numbersGiven, SameCounts}
+use Rattle.model.specs.ReadJob.{fieldsSay}
+use Rattle.reader.specs.Lines.{kindOf, numbersGiven, SameCounts}
 use Rattle.reader.proofs.Entries.{count-few, givenSay, fields-out, fields-by}
 use borrow.Author.Needs.{needs}
 use Rattle.reader.proofs.line.fields_say.Statement.{statement}
@@ -25,8 +25,8 @@ numbers-of-requires c κs = rw (c .field-count .ensures) (count-few (kindOf (fie
 abbrev start : tie.After-numbers-of → tie.Start
 start c = numbers-of→start c
 
-numbered : (c : tie.After-numbers-of) (j : model.Job) → SameCounts (start c .args .counts) j → let fs = fieldsOf (now (start c .args .fields)) in
-    fieldsSay scaledOf j (kindOf (start c .args .kind)) fs ≡ givenSay j (kindOf (start c .args .kind)) (counted (numbers-of→field-count c .field-count .result) fs (c .numbers-of .result))
+numbered : (c : tie.After-numbers-of) (j : model.Job) → SameCounts (start c .args .counts) j
+    → fieldsSay scaledOf j (kindOf (start c .args .kind)) (fieldsOf (now (start c .args .fields))) ≡ givenSay j (kindOf (start c .args .kind)) (c .numbers-of .result)
 numbered c j q =
     let k = kindOf (start c .args .kind) in
     let fs = fieldsOf (now (start c .args .fields)) in
@@ -36,27 +36,18 @@ numbered c j q =
 returns-2 : tie.Need-returns-2
 unfolding givenSay
 returns-2 c =
-    let n = first-fault→numbers-of c in
-    let a = start n .args in
-    let told = first-fault→enum-told c .enum-told .given .1 in (
-      tt,
-      λ j q m. ap (λ f. wrong (answerTo f)) (c .first-fault .ensures)
-          ∙ sym (numbered n j q ∙ ap (λ r. givenSay j (kindOf (a .kind)) (counted (first-fault→field-count c .field-count .result) (fieldsOf (now (a .fields))) r)) told),
-    )
+    let n = known-told→numbers-of c in
+    (tt, λ j q m. sym (numbered n j q ∙ ap (givenSay j (kindOf (start n .args .kind))) (known-told→fault c .fault .given .1)))
 
 returns-3 : tie.Need-returns-3
 unfolding givenSay
 returns-3 c =
     let n = numbers-say→numbers-of c in
-    let a = start n .args in
-    let (sound, said) = c .numbers-say .ensures in (
-      sound,
-      λ j q m. said j q m
-          ∙ sym (numbered n j q ∙ ap (λ r. givenSay j (kindOf (a .kind)) (counted (numbers-say→field-count c .field-count .result) (fieldsOf (now (a .fields))) r)) (numbers-say→a c .a .given .1)),
-    )
+    let (sound, said) = c .numbers-say .ensures in
+    (sound, λ j q m. said j q m ∙ sym (numbered n j q ∙ ap (givenSay j (kindOf (start n .args .kind))) (numbers-say→a c .a .given .1)))
 
 pub fields-say-spec : {M : Type 1} → statement M
 fields-say-spec =
     tie.close
     (tie.spec
-    (λ c κs. search needs) returns (λ c κs. search needs) numbers-of-requires (λ c. search needs) (λ c κs. search needs) (λ c. search needs) (λ c κs. search needs) returns-2 returns-3)
+    (λ c κs. search needs) returns (λ c κs. search needs) numbers-of-requires (λ c. search needs) (λ c. search needs) (λ c κs. search needs) returns-2 returns-3)

@@ -2,7 +2,7 @@
 -- left. So where a scan finds no number, either there is another count of fields or one is none, and where all found one, either fields are left or these are all: the laws of `Scans`.
 -- The measure is what is left to scan. Assumes nothing.
 use Prim.Native.Nat.{_-_, _≤_}
-use mathlib.Core.Path.{_≡_, refl, sym, _∙_}
+use mathlib.Core.Path.{_≡_, refl, sym, ap, _∙_}
 use mathlib.Core.Logic.{⊎-elim}
 use native.Mathlib.Omega.{arith}
 use denote.Ref.{now}
@@ -11,6 +11,7 @@ use Rattle.text.specs.declared.scan.Scan.the-variants as scan
 use Rattle.text.specs.Scan.{scaledAt}
 use Rattle.text.proofs.Numbers.{fields-from, next-inside}
 use Rattle.reader.proofs.Scans.{Got, nothing, number-inside, got-fault, got-more, got-one, got-over, got-two}
+use Rattle.reader.specs.declared.line.Numbers.the-variants.{Bad}
 use borrow.Author.Needs.{needs}
 use Rattle.reader.proofs.line.numbers_of.Statement.{statement}
 use Rattle.reader.proofs.line.numbers_of.Tie as tie
@@ -31,8 +32,10 @@ few c = ⊎-elim (λ e. omega arith) (λ e. omega arith) (loop→start c .pre)
 
 returns : tie.Need-returns Inv-loop μ-loop
 returns c =
-    let a = enum-told→start c .args in
-    got-fault (now (a .fields)) _ _ _ _ (a .count) (enum-told→loop c .loop .inv .1) (enum-told→in-loop c .loop-test .taken) (sym (enum-told→number c .number .ensures) ∙ c .enum-told .given .1)
+    let a = first-fault→start c .args in
+    ap Bad (c .first-fault .ensures)
+    ∙ got-fault (now (a .fields)) _ _ _ _ (a .count) (first-fault→loop c .loop .inv .1) (first-fault→in-loop c .loop-test .taken)
+    (sym (first-fault→number c .number .ensures) ∙ first-fault→enum-told c .enum-told .given .1)
 
 -- A number stands at `at`.
 value : (c : tie.After-known-told Inv-loop μ-loop) → let v = known-told→value c .value .given .0 in
@@ -66,5 +69,5 @@ pub numbers-of-spec : {M : Type 1} → statement M
 numbers-of-spec =
     tie.close
     (tie.spec
-    Inv-loop μ-loop loop-holds (λ c κs. search needs) (λ c. search needs) (λ c. search needs) returns add-at (λ c. search needs) (λ c. search needs) loop-again
+    Inv-loop μ-loop loop-holds (λ c κs. search needs) (λ c. search needs) (λ c. search needs) (λ c κs. search needs) returns add-at (λ c. search needs) (λ c. search needs) loop-again
     returns-2 returns-3 returns-4)
