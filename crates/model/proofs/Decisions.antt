@@ -1,13 +1,13 @@
 -- A decision that computes for each definition of a plan and of a choke list. Assumes nothing.
-use Prim.Native.Nat.{ℕ, suc, _-_, _<_}
+use Prim.Native.Nat.{ℕ, suc, _+_, _-_, _<_}
 use mathlib.Core.Path.{_≡_, refl, sym, _∙_, ap}
-use mathlib.Core.List.{List, [], _∷_, map}
+use mathlib.Core.List.{List, [], _∷_, _++_, map}
 use native.Mathlib.Omega.{arith}
 use lib.ListN.{length, getD}
 use Rattle.model.specs.Lists.{In, NoDup, Rising}
 use Rattle.model.specs.Job.{Job, Track, CallKind, lift, bay, Call, track, cartCell, callOf, horizon}
 use Rattle.model.specs.Walk.{At, Open, Step, Walk, InTime, Serves}
-use Rattle.model.specs.Plan.{Path, Plan, Leads, OnFloor, Share, Trade, NoShare, NoTrade, Sooner, Before}
+use Rattle.model.specs.Plan.{Path, Ride, rideOf, Leads, StaysOn, OnFloor, Share, Trade, NoShare, NoTrade, Apart, CallsServed, Plan, Sooner, Before}
 use Rattle.model.specs.Choke.{Choke, cellStep, wholeCall, KnownChoke, Stops, StandsOn, TrueChokes, Rises}
 use Rattle.model.specs.Contracts.{RightPlan, RightChokes}
 use Rattle.model.proofs.Basics.{nope}
@@ -96,6 +96,20 @@ dec-leads j p = dec-by (leads-of j p) (leads-parts j p)
     (dec-and (dec-lt (p .cart) (length (j .carts))) (dec-and (dec-lt (p .call) (length (j .calls)))
     (dec-and (dec-serves (p .cells) (callOf j (p .call))) (dec-walk j (cartCell j (p .cart)) (p .cells)))))
 
+-- Spare carts.
+abbrev pub StaysParts : Job → Ride → Type 0
+StaysParts j s = (s .cart < length (j .carts)) × ((length (s .cells) ≡ suc (horizon j)) × Walk j (cartCell j (s .cart)) (s .cells))
+
+pub stays-of : (j : Job) (s : Ride) → StaysParts j s → StaysOn j s
+stays-of j s h = record { known-cart = h .0; walks = h .1 .1; size = h .1 .0 }
+
+pub stays-parts : (j : Job) (s : Ride) → StaysOn j s → StaysParts j s
+stays-parts j s h = (h .known-cart, (h .size, h .walks))
+
+abbrev pub dec-stays : (j : Job) (s : Ride) → Dec (StaysOn j s)
+dec-stays j s = dec-by (stays-of j s) (stays-parts j s)
+    (dec-and (dec-lt (s .cart) (length (j .carts))) (dec-and (dec-eq (length (s .cells)) (suc (horizon j))) (dec-walk j (cartCell j (s .cart)) (s .cells))))
+
 abbrev pub dec-nodup : (l : List ℕ) → Dec (NoDup l)
 dec-nodup [] = yes tt
 dec-nodup (a ∷ l) = dec-and (dec-not (dec-in dec-eq a l)) (dec-nodup l)
@@ -152,11 +166,11 @@ module _ {A : Type 0} {P : A → A → Type 0} (l : List A) where
   abbrev pub dec-pairs : ((a b : A) → Dec (P a b)) → Dec ((a b : A) → In a l → In b l → P a b)
   dec-pairs d = dec-by pairs-of pairs-parts (all-in (λ a. all-in (λ b. d a b) l) l)
 
-abbrev pub dec-no-share : (ps : List Path) → Dec (NoShare ps)
-dec-no-share ps = dec-pairs ps (λ p q. dec-steps (length (p .cells)) (share-short (p .cells) (q .cells)) (dec-share (p .cells) (q .cells)) (dec-eq _ _))
+abbrev pub dec-no-share : (rs : List Ride) → Dec (NoShare rs)
+dec-no-share rs = dec-pairs rs (λ r s. dec-steps (length (r .cells)) (share-short (r .cells) (s .cells)) (dec-share (r .cells) (s .cells)) (dec-eq _ _))
 
-abbrev pub dec-no-trade : (ps : List Path) → Dec (NoTrade ps)
-dec-no-trade ps = dec-pairs ps (λ p q. dec-steps (length (p .cells)) (trade-short (p .cells) (q .cells)) (dec-trade (p .cells) (q .cells)) (dec-eq _ _))
+abbrev pub dec-no-trade : (rs : List Ride) → Dec (NoTrade rs)
+dec-no-trade rs = dec-pairs rs (λ r s. dec-steps (length (r .cells)) (trade-short (r .cells) (s .cells)) (dec-trade (r .cells) (s .cells)) (dec-eq _ _))
 
 abbrev pub dec-rising : {A : Type 0} {R : A → A → Type 0} → ((a b : A) → Dec (R a b)) → (l : List A) → Dec (Rising R l)
 dec-rising d [] = yes tt
@@ -164,21 +178,45 @@ dec-rising d (a ∷ []) = yes tt
 dec-rising d (a ∷ b ∷ l) = dec-and (d a b) (dec-rising d (b ∷ l))
 
 -- Plans.
+module _ (rs : List Ride) where
+  abbrev pub ApartParts : Type 0
+  ApartParts = NoDup (map (λ r. r .cart) rs) × (NoShare rs × NoTrade rs)
+
+  pub apart-of : ApartParts → Apart rs
+  apart-of h = record { own-cart = h .0; no-share = h .1 .0; no-trade = h .1 .1 }
+
+  pub apart-parts : Apart rs → ApartParts
+  apart-parts h = (h .own-cart, (h .no-share, h .no-trade))
+
+  abbrev pub dec-apart : Dec (Apart rs)
+  dec-apart = dec-by apart-of apart-parts (dec-and (dec-nodup (map (λ r. r .cart) rs)) (dec-and (dec-no-share rs) (dec-no-trade rs)))
+
 module _ (j : Job) (ps : List Path) where
+  abbrev pub ServedParts : Type 0
+  ServedParts = (length ps ≡ length (j .calls)) × (NoDup (map (λ p. p .call) ps) × ((p : Path) → In p ps → Leads j p))
+
+  pub served-of : ServedParts → CallsServed j ps
+  served-of h = record { size = h .0; leads = h .1 .1; own-call = h .1 .0 }
+
+  pub served-parts : CallsServed j ps → ServedParts
+  served-parts h = (h .size, (h .own-call, h .leads))
+
+  abbrev pub dec-served : Dec (CallsServed j ps)
+  dec-served = dec-by served-of served-parts (dec-and (dec-eq (length ps) (length (j .calls))) (dec-and (dec-nodup (map (λ p. p .call) ps)) (all-in (dec-leads j) ps)))
+
+module _ (j : Job) (ps : List Path) (ss : List Ride) where
   abbrev pub PlanParts : Type 0
-  PlanParts = (length ps ≡ length (j .calls)) × (NoDup (map (λ p. p .call) ps) × (NoDup (map (λ p. p .cart) ps)
-      × (((p : Path) → In p ps → Leads j p) × (NoShare ps × NoTrade ps))))
+  PlanParts = CallsServed j ps × ((length ps + length ss ≡ length (j .carts)) × (((s : Ride) → In s ss → StaysOn j s) × Apart (map rideOf ps ++ ss)))
 
-  pub plan-of : PlanParts → Plan j ps
-  plan-of h = record { size = h .0; leads = h .1 .1 .1 .0; own-call = h .1 .0; own-cart = h .1 .1 .0; no-share = h .1 .1 .1 .1 .0; no-trade = h .1 .1 .1 .1 .1 }
+  pub plan-of : PlanParts → Plan j ps ss
+  plan-of h = record { served = h .0; stay = h .1 .1 .0; size = h .1 .0; apart = h .1 .1 .1 }
 
-  pub plan-parts : Plan j ps → PlanParts
-  plan-parts h = (h .size, (h .own-call, (h .own-cart, (h .leads, (h .no-share, h .no-trade)))))
+  pub plan-parts : Plan j ps ss → PlanParts
+  plan-parts h = (h .served, (h .size, (h .stay, h .apart)))
 
-  abbrev pub dec-plan : Dec (Plan j ps)
+  abbrev pub dec-plan : Dec (Plan j ps ss)
   dec-plan = dec-by plan-of plan-parts
-      (dec-and (dec-eq (length ps) (length (j .calls))) (dec-and (dec-nodup (map (λ p. p .call) ps)) (dec-and (dec-nodup (map (λ p. p .cart) ps))
-      (dec-and (all-in (dec-leads j) ps) (dec-and (dec-no-share ps) (dec-no-trade ps))))))
+      (dec-and (dec-served j ps) (dec-and (dec-eq (length ps + length ss) (length (j .carts))) (dec-and (all-in (dec-stays j) ss) (dec-apart (map rideOf ps ++ ss)))))
 
 abbrev pub dec-sooner : (p q : Call) → Dec (Sooner p q)
 dec-sooner p q = dec-lex _ _ _ _
@@ -186,8 +224,8 @@ dec-sooner p q = dec-lex _ _ _ _
 abbrev pub dec-before : (j : Job) (p q : Path) → Dec (Before j p q)
 dec-before j p q = dec-sooner (callOf j (p .call)) (callOf j (q .call))
 
-abbrev pub dec-right-plan : (j : Job) (ps : List Path) → Dec (RightPlan j ps)
-dec-right-plan j ps = dec-and (dec-plan j ps) (dec-rising (dec-before j) ps)
+abbrev pub dec-right-plan : (j : Job) (ps : List Path) (ss : List Ride) → Dec (RightPlan j ps ss)
+dec-right-plan j ps ss = dec-and (dec-plan j ps ss) (dec-and (dec-rising (dec-before j) ps) (dec-rising (λ r s. dec-lt (r .cart) (s .cart)) ss))
 
 -- Choke lists.
 abbrev pub dec-known : (j : Job) (x : Choke) → Dec (KnownChoke j x)

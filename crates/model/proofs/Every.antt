@@ -1,5 +1,5 @@
 -- Every walk, right plan and right choke list of a small job: lists that have them all, some of them with others besides. Assumes nothing.
-use Prim.Native.Nat.{ℕ, zero, suc, _<_}
+use Prim.Native.Nat.{ℕ, zero, suc, _+_, _-_, _<_}
 use mathlib.Core.Path.{_≡_, refl, subst}
 use mathlib.Core.List.{List, [], _∷_, _++_, map}
 use mathlib.Core.Logic.{_⊎_, inl, inr}
@@ -10,12 +10,12 @@ use lib.Dec.{leb}
 use borrow.Author.Tests.{leb-true, leb-false}
 use Rattle.model.specs.Lists.{In}
 use Rattle.model.specs.Job.{Job, cartCell, callOf, horizon}
-use Rattle.model.specs.Plan.{Path, Leads}
+use Rattle.model.specs.Plan.{Path, Ride, Leads, StaysOn}
 use Rattle.model.specs.Choke.{point, Choke, cellStep, wholeCall, KnownChoke}
 use Rattle.model.specs.Contracts.{RightPlan, RightChokes}
 use Rattle.model.proofs.Lists.{in-map, in-left, in-right}
-use Rattle.model.proofs.Listed.{each, in-each, below, in-below, walksOf, walk-listed}
-use Rattle.model.proofs.Decisions.{dec-leads, dec-right-plan, dec-right-chokes}
+use Rattle.model.proofs.Listed.{each, in-each, below, in-below, walks, walk-among, walksOf, walk-listed}
+use Rattle.model.proofs.Decisions.{dec-leads, dec-stays, dec-right-plan, dec-right-chokes}
 
 -- the lists of n members of l, and those of fewer
 abbrev pub lists : {A : Type 0} → ℕ → List A → List (List A)
@@ -64,11 +64,43 @@ path-listed j p l = in-keep (dec-leads j) p (somePaths j) some l
         (in-map (λ w. record { cart = p .cart; call = p .call; cells = w }) (p .cells) (walksOf j (callOf j (p .call)) (cartCell j (p .cart)))
         (walk-listed j _ _ _ (l .walks) (l .serves))))
 
-abbrev pub allPlans : Job → List (List Path)
-allPlans j = keep (dec-right-plan j) (lists (length (j .calls)) (allPaths j))
+-- every walk of a spare cart
+abbrev pub someStays : Job → List Ride
+someStays j = each (λ a. map (λ w. record { cart = a; cells = w }) (walks j (horizon j) (cartCell j a))) (below (length (j .carts)))
 
-pub plan-listed : (j : Job) (ps : List Path) → RightPlan j ps → In ps (allPlans j)
-plan-listed j ps h = in-keep (dec-right-plan j) ps (lists (length (j .calls)) (allPaths j)) (rw (h .0 .size) at (in-lists (allPaths j) ps (λ p m. path-listed j p (h .0 .leads p m)))) h
+abbrev pub allStays : Job → List Ride
+allStays j = keep (dec-stays j) (someStays j)
+
+stay-listed : (j : Job) (s : Ride) → StaysOn j s → In s (allStays j)
+stay-listed j s h = in-keep (dec-stays j) s (someStays j) some h
+  where
+    some : In s (someStays j)
+    some = in-each (λ a. map (λ w. record { cart = a; cells = w }) (walks j (horizon j) (cartCell j a))) (s .cart) s (below (length (j .carts))) (in-below _ _ (h .known-cart))
+        (in-map (λ w. record { cart = s .cart; cells = w }) (s .cells) (walks j (horizon j) (cartCell j (s .cart))) (walk-among j (cartCell j (s .cart)) (horizon j) (s .cells) (h .walks) (h .size)))
+
+-- every right plan: paths for the calls, and walks for as many carts as are left
+abbrev pub Planning : Type 0
+Planning = List Path × List Ride
+
+abbrev pub somePlans : Job → List Planning
+somePlans j = each (λ ps. map (λ ss. (ps, ss)) (lists (length (j .carts) - length (j .calls)) (allStays j))) (lists (length (j .calls)) (allPaths j))
+
+abbrev pub allPlans : Job → List Planning
+allPlans j = keep (λ p. dec-right-plan j (p .0) (p .1)) (somePlans j)
+
+pub plan-listed : (j : Job) (ps : List Path) (ss : List Ride) → RightPlan j ps ss → In (ps, ss) (allPlans j)
+plan-listed j ps ss h = in-keep (λ p. dec-right-plan j (p .0) (p .1)) (ps, ss) (somePlans j)
+    (in-each (λ qs. map (λ rs. (qs, rs)) (lists (length (j .carts) - length (j .calls)) (allStays j))) ps (ps, ss) (lists (length (j .calls)) (allPaths j)) paths
+    (in-map (λ rs. (ps, rs)) ss (lists (length (j .carts) - length (j .calls)) (allStays j)) spares)) h
+  where
+    paths : In ps (lists (length (j .calls)) (allPaths j))
+    paths = rw (h .0 .served .size) at (in-lists (allPaths j) ps (λ p m. path-listed j p (h .0 .served .leads p m)))
+
+    left : length ss ≡ length (j .carts) - length (j .calls)
+    left = omega (arith, h .0 .size, h .0 .served .size)
+
+    spares : In ss (lists (length (j .carts) - length (j .calls)) (allStays j))
+    spares = rw left at (in-lists (allStays j) ss (λ s m. stay-listed j s (h .0 .stay s m)))
 
 -- every choke point, and every right choke list
 abbrev pub cellSteps : Job → List Choke

@@ -12,7 +12,7 @@ use Rattle.model.specs.declared.answer.Answer.the-variants as answer
 use Rattle.model.specs.Answers.{number}
 use Rattle.model.specs.Lists.{In}
 use Rattle.model.specs.Job.{Job}
-use Rattle.model.specs.Plan.{Path}
+use Rattle.model.specs.Plan.{Path, Ride}
 use Rattle.model.specs.Choke.{Choke}
 use Rattle.model.specs.SheetText.{planText, cannotText}
 use Rattle.model.specs.ReadJob.{Verdict, refused, accepted, readJob}
@@ -24,41 +24,41 @@ use Rattle.model.specs.Filed.{Row, Outcome, wrote, refuses, plans, check
 use Rattle.model.proofs.Contrary.{weak}
 use Rattle.model.proofs.Agree.{agree-back}
 use Rattle.model.proofs.Decide.{decided, dec-and, dec-or, dec-eq, dec-lt, dec-list, dec-not, all-in, any-in}
-use Rattle.model.proofs.Every.{allPlans, allChokes, plan-listed, chokes-listed}
+use Rattle.model.proofs.Every.{Planning, allPlans, allChokes, plan-listed, chokes-listed}
 use Rattle.model.proofs.Decisions.{dec-right-plan, dec-right-chokes}
 
 -- The planner, on an accepted job.
 module _ (j : Job) (r : ℕ) (b : List ℕ) where
-  abbrev pub PlanFiled : List Path → Type 0
-  PlanFiled ps = (planText ps ≡ b) × (number answer.Plan + 256 * length (planText ps) ≡ r)
+  abbrev pub PlanFiled : Planning → Type 0
+  PlanFiled p = (planText (p .0) (p .1) ≡ b) × (number answer.Plan + 256 * length (planText (p .0) (p .1)) ≡ r)
 
   abbrev pub ChokesFiled : List Choke → Type 0
   ChokesFiled xs = (cannotText xs ≡ b) × (number answer.Cannot + 256 * length (cannotText xs) ≡ r)
 
   -- some right sheet is the filed one, and every right sheet is
   abbrev pub Shown : Type 0
-  Shown = (((ps : List Path) × In ps (allPlans j) × (RightPlan j ps × PlanFiled ps)) ⊎ ((xs : List Choke) × In xs (allChokes j) × (RightChokes j xs × ChokesFiled xs)))
-      × (((ps : List Path) → In ps (allPlans j) → PlanFiled ps) × ((xs : List Choke) → In xs (allChokes j) → ChokesFiled xs))
+  Shown = (((p : Planning) × In p (allPlans j) × (RightPlan j (p .0) (p .1) × PlanFiled p)) ⊎ ((xs : List Choke) × In xs (allChokes j) × (RightChokes j xs × ChokesFiled xs)))
+      × (((p : Planning) → In p (allPlans j) → PlanFiled p) × ((xs : List Choke) → In xs (allChokes j) → ChokesFiled xs))
 
-  abbrev pub dec-plan-filed : (ps : List Path) → Dec (PlanFiled ps)
-  dec-plan-filed ps = dec-and (dec-list dec-eq (planText ps) b) (dec-eq (number answer.Plan + 256 * length (planText ps)) r)
+  abbrev pub dec-plan-filed : (p : Planning) → Dec (PlanFiled p)
+  dec-plan-filed p = dec-and (dec-list dec-eq (planText (p .0) (p .1)) b) (dec-eq (number answer.Plan + 256 * length (planText (p .0) (p .1))) r)
 
   abbrev pub dec-chokes-filed : (xs : List Choke) → Dec (ChokesFiled xs)
   dec-chokes-filed xs = dec-and (dec-list dec-eq (cannotText xs) b) (dec-eq (number answer.Cannot + 256 * length (cannotText xs)) r)
 
   abbrev pub dec-shown : Dec Shown
   dec-shown = dec-and
-      (dec-or (any-in (λ ps. dec-and (dec-right-plan j ps) (dec-plan-filed ps)) (allPlans j))
+      (dec-or (any-in (λ p. dec-and (dec-right-plan j (p .0) (p .1)) (dec-plan-filed p)) (allPlans j))
       (any-in (λ xs. dec-and (dec-right-chokes j xs) (dec-chokes-filed xs)) (allChokes j)))
       (dec-and (all-in dec-plan-filed (allPlans j)) (all-in dec-chokes-filed (allChokes j)))
 
   allowed : Shown → Answers j r b
-  allowed (inl (ps, m, (h, (e, f))), s) = inl (ps, h, sym e, sym f ∙ ap (λ x. number answer.Plan + 256 * length x) e)
-  allowed (inr (xs, m, (h, (e, f))), s) = inr (xs, h, sym e, sym f ∙ ap (λ x. number answer.Cannot + 256 * length x) e, λ ps p. weak j xs ps (h .0) p)
+  allowed (inl ((ps, ss), m, (h, (e, f))), s) = inl (ps, ss, h, sym e, sym f ∙ ap (λ x. number answer.Plan + 256 * length x) e)
+  allowed (inr (xs, m, (h, (e, f))), s) = inr (xs, h, sym e, sym f ∙ ap (λ x. number answer.Cannot + 256 * length x) e, λ ps ss p. weak j xs ps ss (h .0) p)
 
   no-other : Shown → (r′ : ℕ) (b′ : List ℕ) → Answers j r′ b′ → (r′ ≡ r) × (b′ ≡ b)
-  no-other s r′ b′ (inl (ps, h, e, f)) =
-      let g = s .1 .0 ps (plan-listed j ps h) in (f ∙ ap (λ x. number answer.Plan + 256 * length x) e ∙ g .1, e ∙ g .0)
+  no-other s r′ b′ (inl (ps, ss, h, e, f)) =
+      let g = s .1 .0 (ps, ss) (plan-listed j ps ss h) in (f ∙ ap (λ x. number answer.Plan + 256 * length x) e ∙ g .1, e ∙ g .0)
   no-other s r′ b′ (inr (xs, h, e, f, n)) =
       let g = s .1 .1 xs (chokes-listed j xs h) in (f ∙ ap (λ x. number answer.Cannot + 256 * length x) e ∙ g .1, e ∙ g .0)
 
@@ -80,9 +80,9 @@ low k c d = add-mul-mod-self-left k 256 (length c) ∙ sym (add-mul-mod-self-lef
 
 -- no job has a plan and a true choke list
 one-answer : (j : Job) (r r′ : ℕ) (b b′ : List ℕ) → Answers j r b → Answers j r′ b′ → SameAnswer r b r′ b′
-one-answer j r r′ b b′ (inl (ps, h, e, f)) (inl (qs, k, g, l)) = rw (f, l) (low (number answer.Plan) b′ b)
-one-answer j r r′ b b′ (inl (ps, h, e, f)) (inr (ys, k, g, l, never)) = absurd (never ps (h .0))
-one-answer j r r′ b b′ (inr (xs, h, e, f, never)) (inl (qs, k, g, l)) = absurd (never qs (k .0))
+one-answer j r r′ b b′ (inl (ps, ss, h, e, f)) (inl (qs, rs, k, g, l)) = rw (f, l) (low (number answer.Plan) b′ b)
+one-answer j r r′ b b′ (inl (ps, ss, h, e, f)) (inr (ys, k, g, l, never)) = absurd (never ps ss (h .0))
+one-answer j r r′ b b′ (inr (xs, h, e, f, never)) (inl (qs, rs, k, g, l)) = absurd (never qs rs (k .0))
 one-answer j r r′ b b′ (inr (xs, h, e, f, m)) (inr (ys, k, g, l, n)) = rw (f, l) (low (number answer.Cannot) b′ b)
 
 -- The planner, on any verdict, where P shows a filed sheet.
@@ -122,12 +122,12 @@ either-once r r′ (inr (n, e)) (inr (k, f)) = f ∙ sym e
 
 abbrev pub dec-judged : (j : Job) (s : Sheet) (r : ℕ) → Dec (Judged j s r)
 dec-judged j (bad l) r = dec-eq r (number answer.BadSheet + 256 * l)
-dec-judged j (plan ps) r = dec-either (dec-right-plan j ps) (number answer.Plan) (number answer.WrongSheet) r
+dec-judged j (plan ps ss) r = dec-either (dec-right-plan j ps ss) (number answer.Plan) (number answer.WrongSheet) r
 dec-judged j (cannot xs) r = dec-either (dec-right-chokes j xs) (number answer.Cannot) (number answer.WrongSheet) r
 
 judged-once : (j : Job) (s : Sheet) (r r′ : ℕ) → Judged j s r → Judged j s r′ → r′ ≡ r
 judged-once j (bad l) r r′ e f = f ∙ sym e
-judged-once j (plan ps) r r′ h k = either-once r r′ h k
+judged-once j (plan ps ss) r r′ h k = either-once r r′ h k
 judged-once j (cannot xs) r r′ h k = either-once r r′ h k
 
 abbrev pub dec-decided : (v : Verdict Job) (sheet : List ℕ) (r : ℕ) → Dec (Decided v sheet r)

@@ -1,4 +1,4 @@
--- What stays on the floor: a walk from a known cell stands on known cells, so that a path of a plan has known numbers. A choke point passes the reader's test of known ones
+-- What stays on the floor: a walk from a known cell stands on known cells, so that a path of a plan and the walk of a spare cart have known numbers. A choke point passes the reader's test of known ones
 -- exactly if it is one, and a path has as many cells as fit its call exactly if the call is met at its last step. Assumes nothing.
 use Prim.Native.Nat.{ℕ, zero, suc, _≤_, _<_}
 use mathlib.Core.Path.{_≡_, refl, ap, _∙_}
@@ -6,15 +6,15 @@ use mathlib.Core.List.{List, [], _∷_}
 use mathlib.Core.Bool.{Bool, true, _&&_}
 use mathlib.Core.Logic.{inl, inr}
 use native.Mathlib.Omega.{arith}
-use lib.Dec.{ltb, leb}
+use lib.Dec.{ltb, leb, eqb}
 use lib.ListN.{length, getD}
 use borrow.Author.Tests.{lt-ltb, le-leb, eq-eqb, ltb-true, leb-true, eqb-true}
 use Rattle.model.specs.Job.{Job, CallKind, lift, bay, track, cartCell, callOf, horizon}
 use Rattle.model.specs.Ready.{Fit}
 use Rattle.model.specs.Walk.{Step, Walk, InTime}
-use Rattle.model.specs.Plan.{Path, Leads}
+use Rattle.model.specs.Plan.{Path, Ride, Leads, StaysOn}
 use Rattle.model.specs.Choke.{Point, Choke, cellStep, wholeCall, Known, KnownChoke}
-use Rattle.model.specs.ReadSheet.{allBelow, sizeFits, knownPath, knownPoint, isLift, knownWhole}
+use Rattle.model.specs.ReadSheet.{allBelow, sizeFits, knownPath, knownSpare, knownPoint, isLift, knownWhole}
 use Rattle.model.proofs.Basics.{nope, and-left, and-right, and-both}
 use Rattle.model.proofs.Lists.{in-getD}
 
@@ -76,6 +76,10 @@ module _ (j : Job) (f : Fit j) where
   walk-known c w h k zero l = rw (k .starts .1) h
   walk-known c w h k (suc t) l = step-known t (getD w t 0) (getD w (suc t) 0) (walk-known c w h k t (omega arith)) (k .steps t l)
 
+  -- the cells of a walk from a cart's cell
+  cells-known : (k : ℕ) (w : List ℕ) → k < length (j .carts) → Walk j (cartCell j k) w → allBelow (j .cells) w ≡ true
+  cells-known k w h wk = below-of (j .cells) w (walk-known (cartCell j k) w (f .known-carts (cartCell j k) (in-getD (j .carts) k 0 h)) wk)
+
   pub path-known : (p : Path) → Leads j p → knownPath j p ≡ true
   path-known p l =
       let q = callOf j (p .call) in
@@ -84,7 +88,14 @@ module _ (j : Job) (f : Fit j) where
       let x₃ = sizeFits (q .kind) (q .deadline) (length (p .cells)) in
       let x₄ = allBelow (j .cells) (p .cells) in
       let e₃ : x₃ ≡ true = time-fits (q .kind) (q .deadline) (length (p .cells)) (l .serves .last, l .serves .size, l .serves .in-time) in
-      let c : cartCell j (p .cart) < j .cells = f .known-carts (cartCell j (p .cart)) (in-getD (j .carts) (p .cart) 0 (l .known-cart)) in
       and-both (x₁ && x₂ && x₃) x₄
       (and-both (x₁ && x₂) x₃ (and-both x₁ x₂ (lt-ltb (p .cart) (length (j .carts)) (l .known-cart)) (lt-ltb (p .call) (length (j .calls)) (l .known-call))) e₃)
-      (below-of (j .cells) (p .cells) (walk-known (cartCell j (p .cart)) (p .cells) c (l .walks)))
+      (cells-known (p .cart) (p .cells) (l .known-cart) (l .walks))
+
+  pub spare-known : (s : Ride) → StaysOn j s → knownSpare j s ≡ true
+  spare-known s h =
+      let x₁ = ltb (s .cart) (length (j .carts)) in
+      let x₂ = eqb (length (s .cells)) (suc (horizon j)) in
+      and-both (x₁ && x₂) (allBelow (j .cells) (s .cells))
+      (and-both x₁ x₂ (lt-ltb (s .cart) (length (j .carts)) (h .known-cart)) (eq-eqb (length (s .cells)) (suc (horizon j)) (h .size)))
+      (cells-known (s .cart) (s .cells) (h .known-cart) (h .walks))

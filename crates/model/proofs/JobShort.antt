@@ -10,7 +10,7 @@ use native.Mathlib.Omega.{arith}
 use lib.Dec.{eqb, ltb, leb}
 use lib.ListN.{length, drop, length-append, length-drop}
 use borrow.Author.Tests.{eqb-true, ltb-true, ne-eqb}
-use Rattle.model.specs.declared.answer.Answer.the-variants.{BadLine, Uneven}
+use Rattle.model.specs.declared.answer.Answer.the-variants.{BadLine, TooFewCarts}
 use Rattle.model.specs.Limits.{maxCells}
 use Rattle.model.specs.Job.{Job, track, call}
 use Rattle.model.specs.Text.{Lines, done, cut, more, onFirst, linesOf, onField, fieldsOf, isMark, numberOf, digitsOf, behindDigits, withoutPlus, oneDigit, powerOf}
@@ -126,12 +126,12 @@ lines-fill (b ∷ s) = go (eqb b 10) (linesOf s) (lines-fill s)
     go false (more l ls) (m, e, h) = (m, omega arith, h)
 
 lines-weigh : (j j′ : Job) (n m : ℕ) (ls : Lines) → Fills ls m → linesSay scaledOf j n ls ≡ accepted j′ → weight j + m ≤ weight j′
-lines-weigh j j′ n m done h e = go (eqb (j .cells) 0) (eqb (length (j .carts)) (length (j .calls))) e
+lines-weigh j j′ n m done h e = go (eqb (j .cells) 0) (leb (length (j .calls)) (length (j .carts))) e
   where
     same : accepted j ≡ accepted j′ → j ≡ j′
     same e = cc
 
-    go : (t u : Bool) → cond t (refused BadLine n) (cond u (accepted j) (refused Uneven 0)) ≡ accepted j′ → weight j + m ≤ weight j′
+    go : (t u : Bool) → cond t (refused BadLine n) (cond u (accepted j) (refused TooFewCarts 0)) ≡ accepted j′ → weight j + m ≤ weight j′
     go true u e = nope (cc)
     go false true e = omega (arith, ap weight (same e))
     go false false e = nope (cc)

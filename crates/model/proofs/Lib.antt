@@ -1,6 +1,7 @@
 pub mod Basics
 pub mod Lists
 pub mod Words
+pub mod Rides
 pub mod Contrary
 pub mod Decide
 pub mod Lex

@@ -65,6 +65,10 @@ in-walks j (suc n) (a ∷ b ∷ w) e s =
     in-each (λ d. map (λ w. a ∷ w) (walks j n d)) b (a ∷ b ∷ w) (a ∷ ends j) (move-in j a b (s 0 (omega arith)))
     (in-map (λ w. a ∷ w) (b ∷ w) (walks j n b) (in-walks j n (b ∷ w) (omega arith) (λ t h. s (suc t) (omega arith))))
 
+pub walk-among : (j : Job) (c n : ℕ) (w : List ℕ) → Walk j c w → length w ≡ suc n → In w (walks j n c)
+unfolding Moves
+walk-among j c n w wk size = rw (wk .starts .1) at (in-walks j n w size (λ t h. wk .steps t h .0))
+
 -- the steps at which a call is met, and the walks that end at one of them
 abbrev pub stepsOf : CallKind → ℕ → List ℕ
 stepsOf lift d = below (suc d)
@@ -78,7 +82,5 @@ in-steps lift d t h = in-below (suc d) t (omega arith)
 in-steps bay d t h = inl h
 
 pub walk-listed : (j : Job) (c : ℕ) (q : Call) (w : List ℕ) → Walk j c w → Serves w q → In w (walksOf j q c)
-unfolding Moves
 walk-listed j c q w wk sv =
-    in-each (λ t. walks j t c) (sv .last) w (stepsOf (q .kind) (q .deadline)) (in-steps (q .kind) (q .deadline) (sv .last) (sv .in-time))
-    (rw (wk .starts .1) at (in-walks j (sv .last) w (sv .size) (λ t h. wk .steps t h .0)))
+    in-each (λ t. walks j t c) (sv .last) w (stepsOf (q .kind) (q .deadline)) (in-steps (q .kind) (q .deadline) (sv .last) (sv .in-time)) (walk-among j c (sv .last) w wk (sv .size))

@@ -1,28 +1,29 @@
--- The carts on the floor at a step are those not yet lifted or parked: they are as many as the calls still to be met then, and so at most as many as the calls with that deadline
--- or a later one. Both are as many as the paths that have the step: a path has a cart and a call of its own, and the paths are as many as the calls, and so as the carts, so that
--- none of these is without a path. Assumes nothing.
+-- The carts on the floor at a step up to H are the spare ones and those not yet lifted or parked: the latter as many as the calls still to be met then, and so at most as many as the
+-- calls with that deadline or a later one. Both are as many as the rides that have the step: each has a cart of its own, and a path a call of its own, and there are as many rides as
+-- carts and as many paths as calls, so that none of these is without. Assumes nothing.
 use Prim.Native.Nat.{ℕ, zero, suc, _+_, _≤_, _<_}
 use mathlib.Core.Path.{_≡_, refl, sym, _∙_}
-use mathlib.Core.List.{List, [], _∷_, map}
+use mathlib.Core.List.{List, [], _∷_, _++_, map}
 use mathlib.Core.Logic.{_↔_, inl, inr, ⊎-elim}
 use native.Mathlib.Omega.{arith}
 use lib.ListN.{length, getD}
 use Rattle.model.specs.Lists.{In, NoDup}
-use Rattle.model.specs.Job.{Job, Call, lift, call, callOf}
+use Rattle.model.specs.Job.{Job, Call, lift, call, callOf, horizon}
 use Rattle.model.specs.Walk.{InTime}
-use Rattle.model.specs.Plan.{Path, Plan, OnFloor}
+use Rattle.model.specs.Plan.{Path, Ride, rideOf, Plan, OnFloor}
 use Rattle.model.proofs.Floor.{time-due}
 use Rattle.model.proofs.Lists.{remove, remove-length, remove-keeps, in-map, one-of}
+use Rattle.model.proofs.Rides.{ride-known, rides-all}
 use Rattle.model.proofs.Decide.{dec-by, dec-and, dec-eq, dec-le, dec-lt, any-in}
 use Rattle.model.proofs.Decisions.{dec-at}
 use Rattle.model.proofs.Listed.{below, length-below, in-below}
 
--- The cart c is on the floor at the step t: a path of the plan has it on some cell then.
-abbrev pub CartOnFloor : List Path → ℕ → ℕ → Type 0
-CartOnFloor ps t c = (p : Path) × In p ps × ((p .cart ≡ c) × ((v : ℕ) × OnFloor (p .cells) t v))
+-- The cart c is on the floor at the step t: a ride has it on some cell then.
+abbrev pub CartOnFloor : List Ride → ℕ → ℕ → Type 0
+CartOnFloor rs t c = (r : Ride) × In r rs × ((r .cart ≡ c) × ((v : ℕ) × OnFloor (r .cells) t v))
 
-abbrev pub dec-on-floor : (ps : List Path) (t c : ℕ) → Dec (CartOnFloor ps t c)
-dec-on-floor ps t c = any-in (λ p. dec-and (dec-eq (p .cart) c) (somewhere (p .cells))) ps
+abbrev pub dec-on-floor : (rs : List Ride) (t c : ℕ) → Dec (CartOnFloor rs t c)
+dec-on-floor rs t c = any-in (λ r. dec-and (dec-eq (r .cart) c) (somewhere (r .cells))) rs
   where
     somewhere : (w : List ℕ) → Dec ((v : ℕ) × OnFloor w t v)
     somewhere w = dec-by (λ h. (getD w t 0, h)) (λ h. (h .1 .0, refl)) (dec-at w t (getD w t 0))
@@ -96,33 +97,52 @@ count-places : {A : Type 0} {P : A → Type 0} (d : (a : A) → Dec (P a)) (x : 
 count-places d x [] = refl
 count-places d x (a ∷ l) = omega (arith, count-below (λ k. d (getD (a ∷ l) k x)) (length l), count-places d x l)
 
-abbrev has : (t : ℕ) (p : Path) → Dec (t < length (p .cells))
-has t p = dec-lt t (length (p .cells))
+abbrev has : {A : Type 0} (cells : A → List ℕ) (t : ℕ) (a : A) → Dec (t < length (cells a))
+has cells t a = dec-lt t (length (cells a))
 
--- Of n paths, each with a number of its own below n, as many have the step t as numbers below n are those of such a path.
-module _ (ps : List Path) (t : ℕ) (f : Path → ℕ) (n : ℕ) (size : length ps ≡ n) (own : NoDup (map f ps)) (known : (p : Path) → In p ps → f p < n) where
-  count-paths : {R : Path → Type 0} (d : (k : ℕ) → Dec ((p : Path) × In p ps × ((f p ≡ k) × R p))) → ((p : Path) → (t < length (p .cells)) ↔ R p) → count (has t) ps ≡ count d (below n)
-  count-paths {R} d on = count-along (has t) d f ps (below n) own (size ∙ sym (length-below n)) (λ p m. (in-below n (f p) (known p m), (λ h. (p, m, (refl, on p .0 h)), back p m)))
+-- Of n members, each with a number of its own below n, as many have the step t as numbers below n are those of such a member.
+module _ {A : Type 0} (cells : A → List ℕ) (l : List A) (t : ℕ) (f : A → ℕ) (n : ℕ) (size : length l ≡ n) (own : NoDup (map f l)) (known : (a : A) → In a l → f a < n) where
+  count-having : {R : A → Type 0} (d : (k : ℕ) → Dec ((a : A) × In a l × ((f a ≡ k) × R a))) → ((a : A) → (t < length (cells a)) ↔ R a) → count (has cells t) l ≡ count d (below n)
+  count-having {R} d on = count-along (has cells t) d f l (below n) own (size ∙ sym (length-below n)) (λ a m. (in-below n (f a) (known a m), (λ h. (a, m, (refl, on a .0 h)), back a m)))
     where
-      back : (p : Path) → In p ps → (q : Path) × In q ps × ((f q ≡ f p) × R q) → t < length (p .cells)
-      back p m (q, k, (e, h)) = on p .1 (rw (one-of f ps own q p k m e) at h)
+      back : (a : A) → In a l → (b : A) × In b l × ((f b ≡ f a) × R b) → t < length (cells a)
+      back a m (b, k, (e, h)) = on a .1 (rw (one-of f l own b a k m e) at h)
 
-module _ (j : Job) (ps : List Path) (even : length (j .carts) ≡ length (j .calls)) (pl : Plan j ps) (t : ℕ) where
-  pub as-many : count (dec-on-floor ps t) (below (length (j .carts))) ≡ count (dec-awaited ps t) (below (length (j .calls)))
+-- The rides that have the step t are those of the paths that have it, and all of the spare carts.
+count-staying : (t : ℕ) (ss : List Ride) → ((s : Ride) → In s ss → t < length (s .cells)) → count (has (λ s. s .cells) t) ss ≡ length ss
+count-staying t [] h = refl
+count-staying t (s ∷ ss) h = omega (arith, one-yes (has (λ s. s .cells) t s) (h s (inl refl)), count-staying t ss (λ x m. h x (inr m)))
+  where
+    one-yes : {P : Type 0} (x : Dec P) → P → one x ≡ 1
+    one-yes (yes p) h = refl
+    one-yes (no n) h = absurd (n h)
+
+count-rides : (t : ℕ) (ps : List Path) (ss : List Ride) → ((s : Ride) → In s ss → t < length (s .cells))
+    → count (has (λ r. r .cells) t) (map rideOf ps ++ ss) ≡ count (has (λ p. p .cells) t) ps + length ss
+count-rides t [] ss h = omega (arith, count-staying t ss h)
+count-rides t (p ∷ ps) ss h = omega (arith, count-rides t ps ss h)
+
+module _ (j : Job) (ps : List Path) (ss : List Ride) (pl : Plan j ps ss) (t : ℕ) (during : t ≤ horizon j) where
+  pub as-many : count (dec-on-floor (map rideOf ps ++ ss) t) (below (length (j .carts))) ≡ count (dec-awaited ps t) (below (length (j .calls))) + length ss
   as-many =
-      sym (count-paths ps t (λ p. p .cart) (length (j .carts)) (pl .size ∙ sym even) (pl .own-cart) (λ p m. pl .leads p m .known-cart) (dec-on-floor ps t)
-      (λ p. (λ h. (getD (p .cells) t 0, (h, refl)), λ h. h .1 .0)))
-      ∙ count-paths ps t (λ p. p .call) (length (j .calls)) (pl .size) (pl .own-call) (λ p m. pl .leads p m .known-call) (dec-awaited ps t) (λ p. (λ h. h, λ h. h))
+      omega (
+        arith,
+        count-having (λ r. r .cells) (map rideOf ps ++ ss) t (λ r. r .cart) (length (j .carts)) (rides-all j ps ss pl) (pl .apart .own-cart) (ride-known j ps ss pl) (dec-on-floor (map rideOf ps ++ ss) t)
+            (λ r. (λ h. (getD (r .cells) t 0, (h, refl)), λ h. h .1 .0)),
+        count-rides t ps ss (λ s m. omega (arith, pl .stay s m .size)),
+        count-having (λ p. p .cells) ps t (λ p. p .call) (length (j .calls)) (pl .served .size) (pl .served .own-call) (λ p m. pl .served .leads p m .known-call) (dec-awaited ps t)
+            (λ p. (λ h. h, λ h. h)),
+      )
 
   due : (k : ℕ) → Awaited ps t k → t ≤ callOf j k .deadline
   due k (p, m, (e, h)) =
-      let s = pl .leads p m .serves in
+      let s = pl .served .leads p m .serves in
       rw e at (below-end (callOf j (p .call)) (s .last) (s .in-time) (omega (arith, s .size)))
     where
       below-end : (q : Call) (last : ℕ) → InTime (q .kind) (q .deadline) last → t ≤ last → t ≤ q .deadline
       below-end q last i l = omega (arith, time-due (q .kind) (q .deadline) last i)
 
-  pub no-more : count (dec-on-floor ps t) (below (length (j .carts))) ≤ count (dec-due t) (j .calls)
+  pub no-more : count (dec-on-floor (map rideOf ps ++ ss) t) (below (length (j .carts))) ≤ count (dec-due t) (j .calls) + length ss
   no-more =
       omega (
         arith,

@@ -1,4 +1,4 @@
--- No plan and no choke list has two right orders: one that is in order is told by its members. And of two calls of a job that was read one stands before the other, since a
+-- No plan, no list of spare carts and no choke list has two right orders: one that is in order is told by its members. And of two calls of a job that was read one stands before the other, since a
 -- cell has one call at most. Assumes nothing.
 use Prim.Native.Nat.{ℕ, _<_}
 use mathlib.Core.Path.{_≡_, refl, sym, _∙_}
@@ -8,7 +8,7 @@ use native.Mathlib.Omega.{arith}
 use lib.ListN.{length}
 use Rattle.model.specs.Lists.{In, Rising}
 use Rattle.model.specs.Job.{Job, lift, call, callOf}
-use Rattle.model.specs.Plan.{Path, Sooner, Before, PlanInOrder}
+use Rattle.model.specs.Plan.{Path, Ride, Sooner, Before, PlanInOrder, SparesInOrder}
 use Rattle.model.specs.Choke.{Choke, cellStep, wholeCall, Rises, ChokesInOrder}
 use Rattle.model.specs.Ready.{Ready}
 use Rattle.model.proofs.Lists.{place-of, rising-first}
@@ -52,6 +52,9 @@ module _ {A : Type 0} (R : A → A → Type 0) (on : (x y z : A) → R x y → R
 
 pub one-plan-order : (j : Job) (ps qs : List Path) → PlanInOrder j ps → PlanInOrder j qs → ((p : Path) → In p ps ↔ In p qs) → ps ≡ qs
 one-plan-order j ps qs r s m = rising-same (Before j) (λ x y z. lex-on) (λ x h. lex-apart h refl refl) ps qs r s (λ p. m p .0) (λ p. m p .1)
+
+pub one-spare-order : (rs ss : List Ride) → SparesInOrder rs → SparesInOrder ss → ((r : Ride) → In r rs ↔ In r ss) → rs ≡ ss
+one-spare-order rs ss h k m = rising-same (λ r s. r .cart < s .cart) (λ x y z h k. omega arith) (λ x h. omega arith) rs ss h k (λ r. m r .0) (λ r. m r .1)
 
 pub rises-on : (x y z : Choke) → Rises x y → Rises y z → Rises x z
 rises-on (cellStep x) (cellStep y) (cellStep z) h k = lex-on h k

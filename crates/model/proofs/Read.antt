@@ -11,14 +11,14 @@ use lib.ListN.{length, drop}
 use borrow.Author.Tests.{ltb-true, leb-true, eqb-true}
 use Rattle.model.specs.Lists.{In}
 use Rattle.model.specs.Job.{Job}
-use Rattle.model.specs.Plan.{Path}
+use Rattle.model.specs.Plan.{Path, Ride}
 use Rattle.model.specs.Choke.{point, Choke, cellStep, wholeCall}
 use Rattle.model.specs.Ready.{Fit}
 use Rattle.model.specs.Text.{Lines, done, cut, more, onFirst, linesOf, onField, fieldsOf, isDigit, numberFrom, numberOf}
-use Rattle.model.specs.Text.{andNumber, numbersOf, numeral, fields, line, opens, after, planWord, pathWord, cannotWord, chokeWord, wholeWord}
-use Rattle.model.specs.SheetText.{linesText, pathNumbers, chokeOpens, chokeNumbers, planText, cannotText}
-use Rattle.model.specs.FirstBad.{orBad, restSays}
-use Rattle.model.specs.ReadSheet.{Sheet, bad, plan, cannot, knownPath, numbersAfter, pathOf, pointOf, wholeOf, headSays, countSays, pathLine, chokeLine, readSheet}
+use Rattle.model.specs.Text.{andNumber, numbersOf, numeral, fields, line, opens, after, planWord, pathWord, spareWord, cannotWord, chokeWord, wholeWord}
+use Rattle.model.specs.SheetText.{linesText, pathNumbers, spareNumbers, chokeOpens, chokeNumbers, planText, cannotText}
+use Rattle.model.specs.FirstBad.{orBad, linesDue, noMore, restSays}
+use Rattle.model.specs.ReadSheet.{Sheet, bad, plan, cannot, knownPath, knownSpare, numbersAfter, pathOf, spareOf, pointOf, wholeOf, headSays, countSays, pathLine, spareLine, sparesSay, chokeLine, readSheet}
 use Rattle.model.proofs.Decide.{decided, dec-imp, dec-list, dec-lt, dec-eq, all-below}
 use Rattle.model.proofs.Basics.{nope, and-left, and-right}
 use Rattle.model.proofs.Floor.{knownChoke}
@@ -189,88 +189,100 @@ count-back isRight rest (some (n ∷ m ∷ ns)) out h e = absurd (h e)
 head-joined : (word b l s t : List ℕ) (n : ℕ) → b ≡ l ++ (10 ∷ s) → l ≡ word ++ fields (n ∷ []) → s ≡ t → b ≡ line word (n ∷ []) ++ t
 head-joined word b l s t n e f g = e ∙ ap (λ x. x ++ (10 ∷ s)) f ∙ ap (λ x. (word ++ fields (n ∷ [])) ++ (10 ∷ x)) g ∙ simp append-assoc
 
--- Lines of one kind.
-module _ {A : Type 0} (say : List ℕ → Option A) (all : List A → Sheet) (word numbers : A → List ℕ) (Good : A → Type 0)
-    (back : (l : List ℕ) (a : A) → say l ≡ some a → (l ≡ word a ++ fields (numbers a)) × Good a)
-    (same : (x y : List A) → all x ≡ all y → x ≡ y) (not-bad : (n : ℕ) (x : List A) → bad n ≡ all x → ⊥) where
-  abbrev pub LinesBack : List A → List A → ℕ → List ℕ → Type 0
-  LinesBack got res k b = (l : List A) × (res ≡ got ++ l) × (length l ≡ k) × (b ≡ linesText word numbers l) × ((a : A) → In a l → Good a)
+-- Lines of one kind, and what follows them.
+module _ {A : Type 0} (say : List ℕ → Option A) (word numbers : A → List ℕ) (Good : A → Type 0)
+    (back : (l : List ℕ) (a : A) → say l ≡ some a → (l ≡ word a ++ fields (numbers a)) × Good a) (out : Sheet) (not-bad : (n : ℕ) → bad n ≡ out → ⊥) where
+  -- the members that were said, and the lines and bytes behind theirs
+  record LinesBack (on : List A → ℕ → Lines → Sheet) (got : List A) (k : ℕ) (b : List ℕ) : Type 0 where
+    l : List A
+    size : length l ≡ k
+    good : (a : A) → In a l → Good a
+    n : ℕ
+    ls : Lines
+    s : List ℕ
+    text : b ≡ linesText word numbers l ++ s
+    behind : linesOf s ≡ ls
+    says : on (got ++ l) n ls ≡ out
 
-  rest-back : (got res : List A) (k n : ℕ) (ls : Lines) (b : List ℕ) → linesOf b ≡ ls → restSays bad say all got k n ls ≡ all res → LinesBack got res k b
-  rest-back got res zero n done b q e = ([], sym (same got res e) ∙ sym (append-nil got), refl, lines-done b q, λ a h. absurd h)
-  rest-back got res zero n cut b q e = absurd (not-bad n res e)
-  rest-back got res zero n (more l ls) b q e = absurd (not-bad n res e)
-  rest-back got res (suc k) n done b q e = absurd (not-bad n res e)
-  rest-back got res (suc k) n cut b q e = absurd (not-bad n res e)
-  rest-back got res (suc k) n (more l ls) b q e = go (say l) refl e (lines-more b l ls q) (λ g s. rest-back g res k (n + 1) ls s)
+  lines-back : (on : List A → ℕ → Lines → Sheet) (got : List A) (k n : ℕ) (ls : Lines) (b : List ℕ) → linesOf b ≡ ls → linesDue bad say on got k n ls ≡ out → LinesBack on got k b
+  lines-back on got zero n ls b q e =
+      record { l = []; size = refl; good = λ a h. absurd h; n = n; ls = ls; s = b; text = refl; behind = q; says = ap (λ x. on x n ls) (append-nil got) ∙ e }
+  lines-back on got (suc k) n done b q e = absurd (not-bad n e)
+  lines-back on got (suc k) n cut b q e = absurd (not-bad n e)
+  lines-back on got (suc k) n (more l ls) b q e = go (say l) refl e (lines-more b l ls q) (λ g s. lines-back on g k (n + 1) ls s)
     where
-      go : (o : Option A) → say l ≡ o → orBad bad n o (λ a. restSays bad say all (got ++ (a ∷ [])) k (n + 1) ls) ≡ all res
+      go : (o : Option A) → say l ≡ o → orBad bad n o (λ a. linesDue bad say on (got ++ (a ∷ [])) k (n + 1) ls) ≡ out
           → (s : List ℕ) × (b ≡ l ++ (10 ∷ s)) × (linesOf s ≡ ls)
-          → ((g : List A) (s : List ℕ) → linesOf s ≡ ls → restSays bad say all g k (n + 1) ls ≡ all res → LinesBack g res k s) → LinesBack got res (suc k) b
-      go none f e m ih = absurd (not-bad n res e)
+          → ((g : List A) (s : List ℕ) → linesOf s ≡ ls → linesDue bad say on g k (n + 1) ls ≡ out → LinesBack on g k s) → LinesBack on got (suc k) b
+      go none f e m ih = absurd (not-bad n e)
       go (some a) f e (s, g, h) ih =
-          let (as′, r, c, w, t) = ih (got ++ (a ∷ [])) s h e in
+          let r = ih (got ++ (a ∷ [])) s h e in
           let (lw, good) = back l a f in
-          (a ∷ as′, r ∙ append-assoc got (a ∷ []) as′, ap suc c, g ∙ joined as′ s lw w, both as′ good t)
+          record {
+            l = a ∷ r .l;
+            size = ap suc (r .size);
+            good = both (r .l) good (r .good);
+            n = r .n;
+            ls = r .ls;
+            s = r .s;
+            text = g ∙ joined (r .l) s (r .s) lw (r .text);
+            behind = r .behind;
+            says = ap (λ x. on x (r .n) (r .ls)) (sym (append-assoc got (a ∷ []) (r .l))) ∙ r .says;
+          }
         where
-          joined : (m : List A) (s : List ℕ) → l ≡ word a ++ fields (numbers a) → s ≡ linesText word numbers m
-              → l ++ (10 ∷ s) ≡ line (word a) (numbers a) ++ linesText word numbers m
-          joined m s e f = ap (λ x. x ++ (10 ∷ s)) e ∙ ap (λ x. (word a ++ fields (numbers a)) ++ (10 ∷ x)) f ∙ simp append-assoc
+          joined : (m : List A) (s t : List ℕ) → l ≡ word a ++ fields (numbers a) → s ≡ linesText word numbers m ++ t
+              → l ++ (10 ∷ s) ≡ (line (word a) (numbers a) ++ linesText word numbers m) ++ t
+          joined m s t e f = ap (λ x. x ++ (10 ∷ s)) e ∙ ap (λ x. (word a ++ fields (numbers a)) ++ (10 ∷ x)) f ∙ simp append-assoc
 
           both : (m : List A) → Good a → ((b : A) → In b m → Good b) → (b : A) → (b ≡ a) ⊎ In b m → Good b
           both m g t b (inl e) = rw e g
           both m g t b (inr h) = t b h
 
-  pub all-back : (head b l : List ℕ) (ls : Lines) (isRight : ℕ → Bool) (res : List A) → linesOf b ≡ more l ls
-      → countSays isRight (λ n. restSays bad say all [] n 2 ls) (numbersAfter head l) ≡ all res
-      → (b ≡ line head (length res ∷ []) ++ linesText word numbers res) × (isRight (length res) ≡ true) × ((a : A) → In a res → Good a)
-  all-back head b l ls isRight res q e =
-      let (n, f, g, h) = count-back isRight (λ n. restSays bad say all [] n 2 ls) (numbersAfter head l) (all res) (not-bad 1 res) e in
-      let (s, q₁, q₂) = lines-more b l ls q in
-      let (m, r, c, w, t) = rest-back [] res n 2 ls s q₂ h in
-      let k : length res ≡ n = ap length r ∙ c in (
-        head-joined head b l s (linesText word numbers res) n q₁ (after-back head l (n ∷ []) f) (w ∙ ap (linesText word numbers) (sym r))
-            ∙ ap (λ x. line head (x ∷ []) ++ linesText word numbers res) (sym k),
-        rw k g,
-        λ a i. t a (rw r at i),
-      )
+  -- They are the last.
+  abbrev RestBack : (List A → Sheet) → ℕ → List ℕ → Type 0
+  RestBack all k b = (l : List A) × (length l ≡ k) × (b ≡ linesText word numbers l) × ((a : A) → In a l → Good a) × (all l ≡ out)
 
--- Whatever the lines are, what they say is all of a kind, or bad.
-module _ {A : Type 0} (say : List ℕ → Option A) (all : List A → Sheet) where
-  rest-out : (got : List A) (k n : ℕ) (ls : Lines) → ((x : List A) × (restSays bad say all got k n ls ≡ all x)) ⊎ ((m : ℕ) × (restSays bad say all got k n ls ≡ bad m))
-  rest-out got zero n done = inl (got, refl)
-  rest-out got zero n cut = inr (n, refl)
-  rest-out got zero n (more l ls) = inr (n, refl)
-  rest-out got (suc k) n done = inr (n, refl)
-  rest-out got (suc k) n cut = inr (n, refl)
-  rest-out got (suc k) n (more l ls) = go (say l) (λ g. rest-out g k (n + 1) ls)
+  rest-back : (all : List A → Sheet) (k n : ℕ) (ls : Lines) (b : List ℕ) → linesOf b ≡ ls → restSays bad say all [] k n ls ≡ out → RestBack all k b
+  rest-back all k n ls b q e = let r = lines-back (λ x. noMore bad (all x)) [] k n ls b q e in go r (r .ls) refl (r .says)
     where
-      go : (o : Option A) → ((g : List A) → ((x : List A) × (restSays bad say all g k (n + 1) ls ≡ all x)) ⊎ ((m : ℕ) × (restSays bad say all g k (n + 1) ls ≡ bad m)))
-          → ((x : List A) × (orBad bad n o (λ a. restSays bad say all (got ++ (a ∷ [])) k (n + 1) ls) ≡ all x))
-          ⊎ ((m : ℕ) × (orBad bad n o (λ a. restSays bad say all (got ++ (a ∷ [])) k (n + 1) ls) ≡ bad m))
-      go none ih = inr (n, refl)
-      go (some a) ih = ih (got ++ (a ∷ []))
+      go : (r : LinesBack (λ x. noMore bad (all x)) [] k b) (ls : Lines) → r .ls ≡ ls → noMore bad (all (r .l)) (r .n) ls ≡ out → RestBack all k b
+      go r done e f = (r .l, r .size, r .text ∙ ap (λ x. linesText word numbers (r .l) ++ x) (lines-done (r .s) (r .behind ∙ e)) ∙ append-nil (linesText word numbers (r .l)), r .good, f)
+      go r cut e f = absurd (not-bad (r .n) f)
+      go r (more l ls) e f = absurd (not-bad (r .n) f)
 
-  no-other : (ls : Lines) (isRight : ℕ → Bool) (o : Option (List ℕ)) (out : Sheet) → ((m : ℕ) → bad m ≡ out → ⊥) → ((x : List A) → all x ≡ out → ⊥)
-      → countSays isRight (λ n. restSays bad say all [] n 2 ls) o ≡ out → ⊥
-  no-other ls isRight o out not-bad not-all e =
-      let (n, f, g, h) = count-back isRight (λ n. restSays bad say all [] n 2 ls) o out (not-bad 1) e in
-      ⊎-elim (λ w. not-all (w .0) (sym (w .1) ∙ h)) (λ w. not-bad (w .0) (sym (w .1) ∙ h)) (rest-out [] n 2 ls)
+  -- Where neither a bad line nor what follows gives it, nothing does.
+  lines-not : (on : List A → ℕ → Lines → Sheet) → ((l : List A) (n : ℕ) (ls : Lines) → on l n ls ≡ out → ⊥) → (got : List A) (k n : ℕ) (ls : Lines) → linesDue bad say on got k n ls ≡ out → ⊥
+  lines-not on not got zero n ls e = not got n ls e
+  lines-not on not got (suc k) n done e = not-bad n e
+  lines-not on not got (suc k) n cut e = not-bad n e
+  lines-not on not got (suc k) n (more l ls) e = go (say l) e (λ g. lines-not on not g k (n + 1) ls)
+    where
+      go : (o : Option A) → orBad bad n o (λ a. linesDue bad say on (got ++ (a ∷ [])) k (n + 1) ls) ≡ out → ((g : List A) → linesDue bad say on g k (n + 1) ls ≡ out → ⊥) → ⊥
+      go none e ih = not-bad n e
+      go (some a) e ih = ih (got ++ (a ∷ [])) e
 
-plan-not-bad : (n : ℕ) (x : List Path) → bad n ≡ plan x → ⊥
-plan-not-bad n x e = nope (cc)
+  rest-not : (all : List A → Sheet) → ((l : List A) → all l ≡ out → ⊥) → (k n : ℕ) (ls : Lines) → restSays bad say all [] k n ls ≡ out → ⊥
+  rest-not all not k n ls e = lines-not (λ x. noMore bad (all x)) over [] k n ls e
+    where
+      over : (l : List A) (n : ℕ) (ls : Lines) → noMore bad (all l) n ls ≡ out → ⊥
+      over l n done e = not l e
+      over l n cut e = not-bad n e
+      over l n (more m ms) e = not-bad n e
 
-cannot-not-bad : (n : ℕ) (x : List Choke) → bad n ≡ cannot x → ⊥
-cannot-not-bad n x e = nope (cc)
+plan-not-bad : (n : ℕ) (ps : List Path) (ss : List Ride) → bad n ≡ plan ps ss → ⊥
+plan-not-bad n ps ss e = nope (cc)
 
-plan-same : (x y : List Path) → plan x ≡ plan y → x ≡ y
-plan-same x y e = cc
+cannot-not-bad : (n : ℕ) (xs : List Choke) → bad n ≡ cannot xs → ⊥
+cannot-not-bad n xs e = nope (cc)
+
+plan-same : (ps qs : List Path) (ss rs : List Ride) → plan ps ss ≡ plan qs rs → (ps ≡ qs) × (ss ≡ rs)
+plan-same ps qs ss rs e = (cc, cc)
 
 cannot-same : (x y : List Choke) → cannot x ≡ cannot y → x ≡ y
 cannot-same x y e = cc
 
-plan-not-cannot : (ps : List Path) (xs : List Choke) → plan ps ≡ cannot xs → ⊥
-plan-not-cannot ps xs e = nope (cc)
+plan-not-cannot : (ps : List Path) (ss : List Ride) (xs : List Choke) → plan ps ss ≡ cannot xs → ⊥
+plan-not-cannot ps ss xs e = nope (cc)
 
 module _ (j : Job) where
   path-back : (l : List ℕ) (p : Path) → pathLine j l ≡ some p → (l ≡ pathWord ++ fields (pathNumbers p)) × (knownPath j p ≡ true)
@@ -288,6 +300,21 @@ module _ (j : Job) where
         where
           some-path : (x y : Path) → some x ≡ some y → x ≡ y
           some-path x y e = cc
+
+  spare-back : (l : List ℕ) (s : Ride) → spareLine j l ≡ some s → (l ≡ spareWord ++ fields (spareNumbers s)) × (knownSpare j s ≡ true)
+  spare-back l s e = go (numbersAfter spareWord l) refl e
+    where
+      go : (o : Option (List ℕ)) → numbersAfter spareWord l ≡ o → spareOf j o ≡ some s → (l ≡ spareWord ++ fields (spareNumbers s)) × (knownSpare j s ≡ true)
+      go none q e = nope (cc)
+      go (some []) q e = nope (cc)
+      go (some (a ∷ ws)) q e =
+          let x : Ride = record { cart = a; cells = ws } in
+          let h = cond-some (knownSpare j x) (some x) s e in
+          let f : x ≡ s = some-ride x s (h .1) in
+          (after-back spareWord l (a ∷ ws) q ∙ ap (λ y. spareWord ++ fields (spareNumbers y)) f, ap (knownSpare j) (sym f) ∙ h .0)
+        where
+          some-ride : (x y : Ride) → some x ≡ some y → x ≡ y
+          some-ride x y e = cc
 
   abbrev Says : List ℕ → Choke → Type 0
   Says l x = (l ≡ chokeOpens x ++ fields (chokeNumbers x)) × (knownChoke j x ≡ true)
@@ -324,57 +351,105 @@ module _ (j : Job) where
 
   -- what a PLAN or a CANNOT says, by its first line
   abbrev plans : List ℕ → Lines → Sheet
-  plans l ls = countSays (λ n. eqb n (length (j .calls))) (λ n. restSays bad (pathLine j) plan [] n 2 ls) (numbersAfter planWord l)
+  plans l ls = countSays (λ n. eqb n (length (j .calls))) (λ n. linesDue bad (pathLine j) (sparesSay j) [] n 2 ls) (numbersAfter planWord l)
 
   abbrev cannots : List ℕ → Lines → Sheet
   cannots l ls = countSays (λ n. ltb n (length (j .calls))) (λ n. restSays bad (chokeLine j) cannot [] n 2 ls) (numbersAfter cannotWord l)
 
-  pub plan-back : (b : List ℕ) (ps : List Path) → readSheet j b ≡ plan ps
-      → (b ≡ planText ps) × (length ps ≡ length (j .calls)) × ((p : Path) → In p ps → knownPath j p ≡ true)
+  pub record PlanBack (b : List ℕ) (ps : List Path) (ss : List Ride) : Type 0 where
+    pub text : b ≡ planText ps ss
+    pub size : length ps ≡ length (j .calls)
+    pub left : length ss ≡ length (j .carts) - length (j .calls)
+    pub paths : (p : Path) → In p ps → knownPath j p ≡ true
+    pub spares : (s : Ride) → In s ss → knownSpare j s ≡ true
+
+  plans-back : (b l : List ℕ) (ls : Lines) (ps : List Path) (ss : List Ride) → linesOf b ≡ more l ls → plans l ls ≡ plan ps ss → PlanBack b ps ss
+  plans-back b l ls ps ss q e =
+      let not-bad : (n : ℕ) → bad n ≡ plan ps ss → ⊥ = λ n. plan-not-bad n ps ss in
+      let (n, f, g, h) = count-back (λ n. eqb n (length (j .calls))) (λ n. linesDue bad (pathLine j) (sparesSay j) [] n 2 ls) (numbersAfter planWord l) (plan ps ss) (not-bad 1) e in
+      let (s, q₁, q₂) = lines-more b l ls q in
+      let r = lines-back (pathLine j) (λ p. pathWord) pathNumbers (λ p. knownPath j p ≡ true) path-back (plan ps ss) not-bad (sparesSay j) [] n 2 ls s q₂ h in
+      let (rs, c, w, t, z) = rest-back (spareLine j) (λ s. spareWord) spareNumbers (λ s. knownSpare j s ≡ true) spare-back (plan ps ss) not-bad (plan (r .l))
+          (length (j .carts) - length (j .calls)) (r .n) (r .ls) (r .s) (r .behind) (r .says) in
+      let (x, y) = plan-same (r .l) ps rs ss z in
+      let k : length ps ≡ n = ap length (sym x) ∙ r .size in
+      let rest : s ≡ linesText (λ p. pathWord) pathNumbers ps ++ linesText (λ s. spareWord) spareNumbers ss =
+          r .text ∙ ap (λ v. linesText (λ p. pathWord) pathNumbers (r .l) ++ v) w ∙ (λ i. linesText (λ p. pathWord) pathNumbers (x i) ++ linesText (λ s. spareWord) spareNumbers (y i)) in
+      record {
+        text = head-joined planWord b l s _ n q₁ (after-back planWord l (n ∷ []) f) rest
+            ∙ ap (λ v. line planWord (v ∷ []) ++ (linesText (λ p. pathWord) pathNumbers ps ++ linesText (λ s. spareWord) spareNumbers ss)) (sym k);
+        size = k ∙ eqb-true n (length (j .calls)) g;
+        left = ap length (sym y) ∙ c;
+        paths = λ p i. r .good p (rw x i);
+        spares = λ s i. t s (rw y i);
+      }
+
+  pub plan-back : (b : List ℕ) (ps : List Path) (ss : List Ride) → readSheet j b ≡ plan ps ss → PlanBack b ps ss
   unfolding readSheet
-  plan-back b ps e = go (linesOf b) refl e
+  plan-back b ps ss e = go (linesOf b) refl e
     where
-      go : (ls : Lines) → linesOf b ≡ ls → headSays j ls ≡ plan ps
-          → (b ≡ planText ps) × (length ps ≡ length (j .calls)) × ((p : Path) → In p ps → knownPath j p ≡ true)
-      go done q e = absurd (plan-not-bad 1 ps e)
-      go cut q e = absurd (plan-not-bad 1 ps e)
+      go : (ls : Lines) → linesOf b ≡ ls → headSays j ls ≡ plan ps ss → PlanBack b ps ss
+      go done q e = absurd (plan-not-bad 1 ps ss e)
+      go cut q e = absurd (plan-not-bad 1 ps ss e)
       go (more l ls) q e = by (opens planWord l) e
         where
-          by : (t : Bool) → cond t (plans l ls) (cannots l ls) ≡ plan ps
-              → (b ≡ planText ps) × (length ps ≡ length (j .calls)) × ((p : Path) → In p ps → knownPath j p ≡ true)
-          by true e =
-              let (x, y, z) = all-back (pathLine j) plan (λ p. pathWord) pathNumbers (λ p. knownPath j p ≡ true) path-back plan-same plan-not-bad planWord b l ls
-              (λ n. eqb n (length (j .calls))) ps q e in
-              (x, eqb-true (length ps) (length (j .calls)) y, z)
+          by : (t : Bool) → cond t (plans l ls) (cannots l ls) ≡ plan ps ss → PlanBack b ps ss
+          by true e = plans-back b l ls ps ss q e
           by false e =
-              absurd
-              (no-other (chokeLine j) cannot ls (λ n. ltb n (length (j .calls))) (numbersAfter cannotWord l) (plan ps) (λ m. plan-not-bad m ps)
-              (λ xs f. plan-not-cannot ps xs (sym f)) e)
+              let not-bad : (n : ℕ) → bad n ≡ plan ps ss → ⊥ = λ n. plan-not-bad n ps ss in
+              let (n, f, g, h) = count-back (λ n. ltb n (length (j .calls))) (λ n. restSays bad (chokeLine j) cannot [] n 2 ls) (numbersAfter cannotWord l) (plan ps ss) (not-bad 1) e in
+              absurd (rest-not (chokeLine j) chokeOpens chokeNumbers (λ x. knownChoke j x ≡ true) choke-back (plan ps ss) not-bad cannot (λ xs f. plan-not-cannot ps ss xs (sym f)) n 2 ls h)
 
-  pub cannot-back : (b : List ℕ) (xs : List Choke) → readSheet j b ≡ cannot xs
-      → (b ≡ cannotText xs) × (length xs < length (j .calls)) × ((x : Choke) → In x xs → knownChoke j x ≡ true)
+  abbrev CannotBack : List ℕ → List Choke → Type 0
+  CannotBack b xs = (b ≡ cannotText xs) × (length xs < length (j .calls)) × ((x : Choke) → In x xs → knownChoke j x ≡ true)
+
+  cannots-back : (b l : List ℕ) (ls : Lines) (xs : List Choke) → linesOf b ≡ more l ls → cannots l ls ≡ cannot xs → CannotBack b xs
+  cannots-back b l ls xs q e =
+      let not-bad : (n : ℕ) → bad n ≡ cannot xs → ⊥ = λ n. cannot-not-bad n xs in
+      let (n, f, g, h) = count-back (λ n. ltb n (length (j .calls))) (λ n. restSays bad (chokeLine j) cannot [] n 2 ls) (numbersAfter cannotWord l) (cannot xs) (not-bad 1) e in
+      let (s, q₁, q₂) = lines-more b l ls q in
+      let (ys, c, w, t, z) = rest-back (chokeLine j) chokeOpens chokeNumbers (λ x. knownChoke j x ≡ true) choke-back (cannot xs) not-bad cannot n 2 ls s q₂ h in
+      let x = cannot-same ys xs z in
+      let k : length xs ≡ n = ap length (sym x) ∙ c in (
+        head-joined cannotWord b l s (linesText chokeOpens chokeNumbers xs) n q₁ (after-back cannotWord l (n ∷ []) f) (w ∙ ap (linesText chokeOpens chokeNumbers) x)
+            ∙ ap (λ v. line cannotWord (v ∷ []) ++ linesText chokeOpens chokeNumbers xs) (sym k),
+        omega (arith, ltb-true n (length (j .calls)) g),
+        λ y i. t y (rw x i),
+      )
+
+  pub cannot-back : (b : List ℕ) (xs : List Choke) → readSheet j b ≡ cannot xs → CannotBack b xs
   unfolding readSheet
   cannot-back b xs e = go (linesOf b) refl e
     where
-      go : (ls : Lines) → linesOf b ≡ ls → headSays j ls ≡ cannot xs
-          → (b ≡ cannotText xs) × (length xs < length (j .calls)) × ((x : Choke) → In x xs → knownChoke j x ≡ true)
+      go : (ls : Lines) → linesOf b ≡ ls → headSays j ls ≡ cannot xs → CannotBack b xs
       go done q e = absurd (cannot-not-bad 1 xs e)
       go cut q e = absurd (cannot-not-bad 1 xs e)
       go (more l ls) q e = by (opens planWord l) e
         where
-          by : (t : Bool) → cond t (plans l ls) (cannots l ls) ≡ cannot xs
-              → (b ≡ cannotText xs) × (length xs < length (j .calls)) × ((x : Choke) → In x xs → knownChoke j x ≡ true)
-          by true e = absurd (no-other (pathLine j) plan ls (λ n. eqb n (length (j .calls))) (numbersAfter planWord l) (cannot xs) (λ m. cannot-not-bad m xs) (λ ps. plan-not-cannot ps xs) e)
-          by false e =
-              let (x, y, z) = all-back (chokeLine j) cannot chokeOpens chokeNumbers (λ x. knownChoke j x ≡ true) choke-back cannot-same cannot-not-bad cannotWord b l ls
-              (λ n. ltb n (length (j .calls))) xs q e in
-              (x, ltb-true (length xs) (length (j .calls)) y, z)
+          not-spares : (ps : List Path) (n : ℕ) (ls : Lines) → sparesSay j ps n ls ≡ cannot xs → ⊥
+          not-spares ps n ls e = rest-not (spareLine j) (λ s. spareWord) spareNumbers (λ s. knownSpare j s ≡ true) spare-back (cannot xs) (λ n. cannot-not-bad n xs) (plan ps)
+              (λ ss. plan-not-cannot ps ss xs) (length (j .carts) - length (j .calls)) n ls e
+
+          by : (t : Bool) → cond t (plans l ls) (cannots l ls) ≡ cannot xs → CannotBack b xs
+          by true e =
+              let (n, f, g, h) = count-back (λ n. eqb n (length (j .calls))) (λ n. linesDue bad (pathLine j) (sparesSay j) [] n 2 ls) (numbersAfter planWord l) (cannot xs) (cannot-not-bad 1 xs) e in
+              absurd (lines-not (pathLine j) (λ p. pathWord) pathNumbers (λ p. knownPath j p ≡ true) path-back (cannot xs) (λ n. cannot-not-bad n xs) (sparesSay j) not-spares [] n 2 ls h)
+          by false e = cannots-back b l ls xs q e
 
 -- Two texts are equal only if what they write is.
 module _ (j : Job) (f : Fit j) where
-  pub plan-once : (ps qs : List Path) → length ps ≡ length (j .calls) → ((p : Path) → In p ps → knownPath j p ≡ true)
-      → length qs ≡ length (j .calls) → ((p : Path) → In p qs → knownPath j p ≡ true) → planText ps ≡ planText qs → ps ≡ qs
-  plan-once ps qs l g l′ g′ e = plan-same ps qs (sym (plan-read j f ps l g) ∙ ap (readSheet j) e ∙ plan-read j f qs l′ g′)
+  -- what a plan's lines say is known, and a line for each call and each cart
+  pub record Sayable (ps : List Path) (ss : List Ride) : Type 0 where
+    pub size : length ps ≡ length (j .calls)
+    pub all : length ps + length ss ≡ length (j .carts)
+    pub paths : (p : Path) → In p ps → knownPath j p ≡ true
+    pub spares : (s : Ride) → In s ss → knownSpare j s ≡ true
+
+  said-so : (ps : List Path) (ss : List Ride) → Sayable ps ss → readSheet j (planText ps ss) ≡ plan ps ss
+  said-so ps ss h = plan-read j f ps ss (h .size) (h .all) (h .paths) (h .spares)
+
+  pub plan-once : (ps qs : List Path) (ss rs : List Ride) → Sayable ps ss → Sayable qs rs → planText ps ss ≡ planText qs rs → (ps ≡ qs) × (ss ≡ rs)
+  plan-once ps qs ss rs h k e = plan-same ps qs ss rs (sym (said-so ps ss h) ∙ ap (readSheet j) e ∙ said-so qs rs k)
 
   pub cannot-once : (xs ys : List Choke) → length xs < length (j .calls) → ((x : Choke) → In x xs → knownChoke j x ≡ true)
       → length ys < length (j .calls) → ((x : Choke) → In x ys → knownChoke j x ≡ true) → cannotText xs ≡ cannotText ys → xs ≡ ys

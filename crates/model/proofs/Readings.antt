@@ -1,4 +1,4 @@
--- What no filed example shows, each as a row: the least buffers, exponents, the form of a sheet and the line of a 11, what is no conflict, early lifts, what a whole call stops, the
+-- What no filed example shows, each as a row: the least buffers, exponents, the form of a sheet and the line of a 11, spare carts, what is no conflict, early lifts, what a whole call stops, the
 -- order of a plan and of a choke list, the form of a map.
 use Prim.Native.Nat.{ℕ, _+_, _*_}
 use Prim.Native.String.{String}
@@ -7,7 +7,7 @@ use Rattle.model.specs.Lists.{In}
 use Rattle.model.specs.ReadJob.{readJob}
 use Rattle.model.specs.ReadSheet.{readSheet}
 use Rattle.model.specs.GridMap.{readMap}
-use Rattle.model.specs.Filed.{Row, plans, checks, maps, allows, wrote, refuses, RowHolds, big, jobA, jobB, jobD, jobF, jobClosed, jobUnclosed}
+use Rattle.model.specs.Filed.{Row, plans, checks, maps, allows, wrote, refuses, RowHolds, big, jobA, jobB, jobD, jobF, jobClosed, jobUnclosed, jobSpare, jobSpares, jobAside}
 use Rattle.model.proofs.Decide.{decided, all-in}
 use Rattle.model.proofs.Filed.{dec-row, row-holds}
 
@@ -18,7 +18,9 @@ buffers =
     ∷ plans "FLOOR\t256\n" 12288 64 (wrote 0 "PLAN\t0\n")
     ∷ plans "FLOOR\t256\n" 12288 63 (refuses 10 0)
     ∷ plans "FLOOR\t256\n" 12287 63 (refuses 9 0)
-    ∷ plans "FLOOR\t256\nCART\t0\n" 0 0 (refuses 8 0)
+    ∷ plans "FLOOR\t256\nCALL\t0\t0\n" 0 0 (refuses 8 0)
+    ∷ plans "FLOOR\t256\nCART\t0\n" 12288 84 (wrote 0 "PLAN\t0\nSPARE\t0\t0\n")
+    ∷ plans "FLOOR\t256\nCART\t0\n" 12288 83 (refuses 10 0)
     ∷ []
 
 -- 11 at a line
@@ -178,6 +180,34 @@ drawings =
     ∷ maps "type octile\nheight 1\nwidth 1\nmap\nt\n" 0 (refuses 13 5)
     ∷ []
 
+-- SPARE lines: as many as carts are left, with H + 1 cells each; by cart, each cart once; in nobody's way up to H
+abbrev spares : List Row
+spares =
+    checks jobSpare big "PLAN\t1\nPATH\t0\t0\t0\t0\nSPARE\t1\t1\t1\n" 0
+    ∷ checks jobSpare big "PLAN\t1\nPATH\t0\t0\t0\t0\nSPARE\t1\t1\t1\t1\n" (at 3)
+    ∷ checks jobSpare big "PLAN\t1\nPATH\t0\t0\t0\t0\nSPARE\t2\t1\t1\n" (at 3)
+    ∷ checks jobSpare big "PLAN\t1\nPATH\t0\t0\t0\t0\nSPARE\t1\t1\t2\n" (at 3)
+    ∷ checks jobSpare big "PLAN\t1\nPATH\t0\t0\t0\t0\nSPARE\n" (at 3)
+    ∷ checks jobSpare big "PLAN\t1\nPATH\t0\t0\t0\t0\nSPARE\t1\n" (at 3)
+    ∷ checks jobSpare big "PLAN\t1\nPATH\t0\t0\t0\t0\nSPARE\t1\t1\t1" (at 3)
+    ∷ checks jobSpare big "PLAN\t1\nPATH\t0\t0\t0\t0\nPATH\t1\t0\t1\t1\n" (at 3)
+    ∷ checks jobSpare big "PLAN\t1\nSPARE\t1\t1\t1\nPATH\t0\t0\t0\t0\n" (at 2)
+    ∷ checks jobSpare big "PLAN\t1\nPATH\t0\t0\t0\t0\nSPARE\t1\t1\t1\nSPARE\t1\t1\t1\n" (at 4)
+    ∷ checks jobSpare big "PLAN\t2\nPATH\t0\t0\t0\t0\nSPARE\t1\t1\t1\n" (at 1)
+    ∷ checks jobSpare big "PLAN\t1\nPATH\t0\t0\t0\t0\nSPARE\t0\t0\t0\n" 12
+    ∷ checks jobSpare big "PLAN\t1\nPATH\t0\t0\t0\t0\nSPARE\t1\t0\t1\n" 12
+    ∷ checks jobSpare big "PLAN\t1\nPATH\t1\t0\t1\t0\nSPARE\t0\t0\t1\n" 12
+    ∷ checks jobSpare big "PLAN\t1\nPATH\t1\t0\t1\t0\nSPARE\t0\t0\t0\n" 12
+    ∷ checks jobSpares big "PLAN\t0\nSPARE\t0\t1\nSPARE\t1\t0\n" 0
+    ∷ checks jobSpares big "PLAN\t0\nSPARE\t0\t1\nSPARE\t0\t1\n" 12
+    ∷ checks jobSpares big "PLAN\t0\nSPARE\t0\t1\n" (at 3)
+    ∷ checks jobSpares big "PLAN\t0\n" (at 2)
+    ∷ checks jobAside big "PLAN\t1\nPATH\t1\t0\t1\t2\nSPARE\t0\t0\t1\t2\n" 0
+    ∷ checks jobAside big "PLAN\t1\nPATH\t1\t0\t1\t2\nSPARE\t0\t0\t1\n" (at 3)
+    ∷ checks jobAside big "CANNOT\t0\n" 12
+    ∷ checks jobD big "PLAN\t1\nPATH\t0\t0\t0\nSPARE\t0\t0\n" (at 3)
+    ∷ []
+
 pub buffers-hold : (x : Row) → In x buffers → RowHolds x
 unfolding readJob readSheet
 buffers-hold x m = row-holds x (decided (all-in dec-row buffers) tt x m)
@@ -189,6 +219,10 @@ exponents-hold x m = row-holds x (decided (all-in dec-row exponents) tt x m)
 pub sheets-hold : (x : Row) → In x sheets → RowHolds x
 unfolding readJob readSheet
 sheets-hold x m = row-holds x (decided (all-in dec-row sheets) tt x m)
+
+pub spares-hold : (x : Row) → In x spares → RowHolds x
+unfolding readJob readSheet
+spares-hold x m = row-holds x (decided (all-in dec-row spares) tt x m)
 
 pub lifts-hold : (x : Row) → In x lifts → RowHolds x
 unfolding readJob readSheet

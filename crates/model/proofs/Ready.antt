@@ -11,7 +11,7 @@ use lib.ListN.{length, getD, length-append, List·getD-append}
 use lib.Seq.{getD-append-seam}
 use borrow.Author.Tests.{ltb-true, ltb-false, leb-true, eqb-true, eqb-false, not-true}
 use Rattle.model.specs.declared.answer.Answer.{Answer}
-use Rattle.model.specs.declared.answer.Answer.the-variants.{TextTooLong, BadLine, Uneven}
+use Rattle.model.specs.declared.answer.Answer.the-variants.{TextTooLong, BadLine, TooFewCarts}
 use Rattle.model.specs.Limits.{maxCells, maxTracks, maxCarts, maxCalls, maxSteps, maxText}
 use Rattle.model.specs.Lists.{In, NoDup}
 use Rattle.model.specs.Job.{Job, Track, lift, bay, track, call}
@@ -250,15 +250,15 @@ pub line-fit : {number : List ℕ → Option ℕ} {j j′ : Job} {l : List ℕ} 
 line-fit {number} {j} f h = subst Fit (h .so) (add-fit j f (h .a) (h .b) (h .kind) (h .follows) (h .ranged) (h .room) (h .new))
 
 pub lines-ready : (j j′ : Job) (n : ℕ) (ls : Lines) → Fit j → linesSay scaledOf j n ls ≡ accepted j′ → Ready j′
-lines-ready j j′ n done f e = go (eqb (j .cells) 0) refl (eqb (length (j .carts)) (length (j .calls))) refl e
+lines-ready j j′ n done f e = go (eqb (j .cells) 0) refl (leb (length (j .calls)) (length (j .carts))) refl e
   where
     same : accepted j ≡ accepted j′ → j ≡ j′
     same e = cc
 
-    go : (t : Bool) → eqb (j .cells) 0 ≡ t → (u : Bool) → eqb (length (j .carts)) (length (j .calls)) ≡ u
-        → cond t (refused BadLine n) (cond u (accepted j) (refused Uneven 0)) ≡ accepted j′ → Ready j′
+    go : (t : Bool) → eqb (j .cells) 0 ≡ t → (u : Bool) → leb (length (j .calls)) (length (j .carts)) ≡ u
+        → cond t (refused BadLine n) (cond u (accepted j) (refused TooFewCarts 0)) ≡ accepted j′ → Ready j′
     go true p u q e = nope (cc)
-    go false p true q e = subst Ready (same e) (record { fit = f; has-cells = let n = eqb-false (j .cells) 0 p in omega arith; even = eqb-true (length (j .carts)) (length (j .calls)) q })
+    go false p true q e = subst Ready (same e) (record { fit = f; has-cells = let n = eqb-false (j .cells) 0 p in omega arith; enough = leb-true (length (j .calls)) (length (j .carts)) q })
     go false p false q e = nope (cc)
 lines-ready j j′ n cut f e = nope (cc)
 lines-ready j j′ n (more l ls) f e = go (lineSays scaledOf j l) refl e (λ k. lines-ready k j′ (n + 1) ls)

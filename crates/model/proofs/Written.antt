@@ -1,5 +1,5 @@
 -- A sheet that is written is read back as what was written. Assumes nothing.
-use Prim.Native.Nat.{ℕ, suc, _+_, _/_, _≤_, _<_}
+use Prim.Native.Nat.{ℕ, suc, _+_, _-_, _/_, _≤_, _<_}
 use mathlib.Core.Path.{_≡_, refl, sym, ap, _∙_}
 use mathlib.Core.List.{List, [], _∷_, _++_, map, append-assoc, append-nil}
 use mathlib.Core.Option.{Option, none, some}
@@ -13,14 +13,14 @@ use Rattle.model.specs.Lists.{In}
 use Rattle.model.specs.Bytes.{bytes}
 use Rattle.model.specs.Limits.{maxCells, maxSteps}
 use Rattle.model.specs.Job.{Job, Call, latest, horizon, callOf}
-use Rattle.model.specs.Plan.{Path}
+use Rattle.model.specs.Plan.{Path, Ride}
 use Rattle.model.specs.Choke.{Choke, cellStep, wholeCall}
 use Rattle.model.specs.Ready.{Fit}
 use Rattle.model.specs.Text.{more, withByte, linesOf, onField, fieldsOf, numberOf, andNumber, numbersOf, startsWith, digit, numeral, fields, line}
-use Rattle.model.specs.Text.{planWord, pathWord, cannotWord, chokeWord, wholeWord, after}
-use Rattle.model.specs.SheetText.{linesText, pathNumbers, chokeOpens, chokeNumbers, planText, cannotText}
-use Rattle.model.specs.FirstBad.{orBad, restSays}
-use Rattle.model.specs.ReadSheet.{Sheet, bad, plan, cannot, allBelow, sizeFits, knownPath, numbersAfter, pathOf, pointOf, wholeOf, headSays, countSays, pathLine, chokeLine, readSheet}
+use Rattle.model.specs.Text.{Lines, planWord, pathWord, spareWord, cannotWord, chokeWord, wholeWord, after}
+use Rattle.model.specs.SheetText.{linesText, pathNumbers, spareNumbers, chokeOpens, chokeNumbers, planText, cannotText}
+use Rattle.model.specs.FirstBad.{orBad, linesDue, noMore, restSays}
+use Rattle.model.specs.ReadSheet.{Sheet, bad, plan, cannot, allBelow, sizeFits, knownPath, knownSpare, numbersAfter, pathOf, spareOf, pointOf, wholeOf, headSays, countSays, pathLine, spareLine, sparesSay, chokeLine, readSheet}
 use Rattle.model.proofs.Basics.{and-left, and-right, and-both}
 use Rattle.model.proofs.Floor.{knownChoke, test-choke}
 use Rattle.model.proofs.Decide.{decided, dec-by, dec-and, dec-eq, all-below}
@@ -108,24 +108,31 @@ pub fields-read : (n : ℕ) (ns : List ℕ) → AllSmall (n ∷ ns) → numbersO
 fields-read n ns h =
     ap numbersOf (fields-first (numeral n) (fields ns) (map numeral ns) (numeral-good n (h .0) .0) (fields-apart ns (h .1))) ∙ numbers-read (n ∷ ns) h
 
--- Lines of one kind.
-module _ {A : Type 0} (say : List ℕ → Option A) (all : List A → Sheet) (word numbers : A → List ℕ) (Good : A → Type 0)
-    (plain : (a : A) → free 10 (word a) ≡ true) (small : (a : A) → Good a → AllSmall (numbers a)) (said : (a : A) → Good a → say (word a ++ fields (numbers a)) ≡ some a) where
-  pub rest-read : (got l : List A) (n : ℕ) → ((a : A) → In a l → Good a)
-      → restSays bad say all got (length l) n (linesOf (linesText word numbers l)) ≡ all (got ++ l)
-  rest-read got [] n g = ap all (sym (append-nil got))
-  rest-read got (a ∷ l) n g =
-      ap (restSays bad say all got (suc (length l)) n) (line-read (word a) (numbers a) (linesText word numbers l) (plain a) (small a (g a (inl refl))))
-      ∙ ap (λ o. orBad bad n o (λ x. restSays bad say all (got ++ (x ∷ [])) (length l) (n + 1) (linesOf (linesText word numbers l)))) (said a (g a (inl refl)))
-      ∙ rest-read (got ++ (a ∷ [])) l (n + 1) (λ b m. g b (inr m))
-      ∙ ap all (append-assoc got (a ∷ []) l)
+-- A head line with one number.
+count-read : (isRight : ℕ → Bool) (rest : ℕ → Sheet) (n : ℕ) → n < 1000 → isRight n ≡ true → countSays isRight rest (numbersOf (fieldsOf (numeral n ++ fields []))) ≡ rest n
+count-read isRight rest n h e = ap (countSays isRight rest) (fields-read n [] (h, tt)) ∙ ap (λ x. cond x (rest n) (bad 1)) e
 
-  -- A head line that counts the lines of a kind, and these.
-  pub all-read : (isRight : ℕ → Bool) (l : List A) → length l < 1000 → isRight (length l) ≡ true → ((a : A) → In a l → Good a)
-      → countSays isRight (λ n. restSays bad say all [] n 2 (linesOf (linesText word numbers l))) (numbersOf (fieldsOf (numeral (length l) ++ fields []))) ≡ all l
-  all-read isRight l h e g =
-      ap (countSays isRight (λ n. restSays bad say all [] n 2 (linesOf (linesText word numbers l)))) (fields-read (length l) [] (h, tt))
-      ∙ ap (λ x. cond x (restSays bad say all [] (length l) 2 (linesOf (linesText word numbers l))) (bad 1)) e ∙ rest-read [] l 2 g
+-- Lines of one kind.
+module _ {A : Type 0} (say : List ℕ → Option A) (word numbers : A → List ℕ) (Good : A → Type 0)
+    (plain : (a : A) → free 10 (word a) ≡ true) (small : (a : A) → Good a → AllSmall (numbers a)) (said : (a : A) → Good a → say (word a ++ fields (numbers a)) ≡ some a) where
+  -- and what follows them, at some line
+  pub lines-read : (on : List A → ℕ → Lines → Sheet) (got l : List A) (n : ℕ) (s : List ℕ) → ((a : A) → In a l → Good a)
+      → (m : ℕ) × (linesDue bad say on got (length l) n (linesOf (linesText word numbers l ++ s)) ≡ on (got ++ l) m (linesOf s))
+  lines-read on got [] n s g = (n, ap (λ x. on x n (linesOf s)) (sym (append-nil got)))
+  lines-read on got (a ∷ l) n s g =
+      let t = linesText word numbers l in
+      let (m, e) = lines-read on (got ++ (a ∷ [])) l (n + 1) s (λ b i. g b (inr i)) in
+      let first : linesOf ((line (word a) (numbers a) ++ t) ++ s) ≡ more (word a ++ fields (numbers a)) (linesOf (t ++ s)) =
+          ap linesOf (append-assoc (line (word a) (numbers a)) t s) ∙ line-read (word a) (numbers a) (t ++ s) (plain a) (small a (g a (inl refl))) in (
+        m,
+        ap (linesDue bad say on got (suc (length l)) n) first
+            ∙ ap (λ o. orBad bad n o (λ x. linesDue bad say on (got ++ (x ∷ [])) (length l) (n + 1) (linesOf (t ++ s)))) (said a (g a (inl refl)))
+            ∙ e ∙ ap (λ x. on x m (linesOf s)) (append-assoc got (a ∷ []) l),
+      )
+
+  pub rest-read : (all : List A → Sheet) (l : List A) (n : ℕ) → ((a : A) → In a l → Good a) → restSays bad say all [] (length l) n (linesOf (linesText word numbers l)) ≡ all l
+  rest-read all l n g =
+      ap (λ s. restSays bad say all [] (length l) n (linesOf s)) (sym (append-nil (linesText word numbers l))) ∙ lines-read (λ x. noMore bad (all x)) [] l n [] g .1
 
 -- The limits keep every number of a sheet below 1,000.
 deadline-below : (n : ℕ) (qs : List Call) → 0 < n → ((q : Call) → In q qs → q .deadline < n) → latest qs < n
@@ -157,12 +164,31 @@ module _ (j : Job) (f : Fit j) where
   path-said : (p : Path) → knownPath j p ≡ true → pathLine j (pathWord ++ fields (pathNumbers p)) ≡ some p
   path-said p e = ap (pathOf j) (fields-read (p .cart) (p .call ∷ p .cells) (path-small p e)) ∙ ap (λ x. cond x (some p) none) e
 
-  pub plan-read : (ps : List Path) → length ps ≡ length (j .calls) → ((p : Path) → In p ps → knownPath j p ≡ true) → readSheet j (planText ps) ≡ plan ps
+  spare-small : (s : Ride) → knownSpare j s ≡ true → AllSmall (spareNumbers s)
+  spare-small s e =
+      let x₁ = ltb (s .cart) (length (j .carts)) in
+      let x₂ = eqb (length (s .cells)) (suc (horizon j)) in
+      let x₃ = allBelow (j .cells) (s .cells) in (
+        omega (arith, ltb-true (s .cart) (length (j .carts)) (and-left x₁ x₂ (and-left (x₁ && x₂) x₃ e)), f .few-carts),
+        cells-small (j .cells) (s .cells) (f .few-cells) (and-right (x₁ && x₂) x₃ e),
+      )
+
+  spare-said : (s : Ride) → knownSpare j s ≡ true → spareLine j (spareWord ++ fields (spareNumbers s)) ≡ some s
+  spare-said s e = ap (spareOf j) (fields-read (s .cart) (s .cells) (spare-small s e)) ∙ ap (λ x. cond x (some s) none) e
+
+  pub plan-read : (ps : List Path) (ss : List Ride) → length ps ≡ length (j .calls) → length ps + length ss ≡ length (j .carts)
+      → ((p : Path) → In p ps → knownPath j p ≡ true) → ((s : Ride) → In s ss → knownSpare j s ≡ true) → readSheet j (planText ps ss) ≡ plan ps ss
   unfolding readSheet
-  plan-read ps e g =
-      ap (headSays j) (line-read planWord (length ps ∷ []) (linesText (λ p. pathWord) pathNumbers ps) refl (omega (arith, f .few-calls), tt))
-      ∙ all-read (pathLine j) plan (λ p. pathWord) pathNumbers (λ p. knownPath j p ≡ true) (λ p. refl) path-small path-said (λ n. eqb n (length (j .calls))) ps
-      (omega (arith, f .few-calls)) (eq-eqb (length ps) (length (j .calls)) e) g
+  plan-read ps ss e c g h =
+      let t = linesText (λ s. spareWord) spareNumbers ss in
+      let paths = linesText (λ p. pathWord) pathNumbers ps ++ t in
+      let (m, r) = lines-read (pathLine j) (λ p. pathWord) pathNumbers (λ p. knownPath j p ≡ true) (λ p. refl) path-small path-said (sparesSay j) [] ps 2 t g in
+      let left : length (j .carts) - length (j .calls) ≡ length ss = omega arith in
+      ap (headSays j) (line-read planWord (length ps ∷ []) paths refl (omega (arith, f .few-calls), tt))
+      ∙ count-read (λ n. eqb n (length (j .calls))) (λ n. linesDue bad (pathLine j) (sparesSay j) [] n 2 (linesOf paths)) (length ps) (omega (arith, f .few-calls))
+      (eq-eqb (length ps) (length (j .calls)) e)
+      ∙ r ∙ ap (λ n. restSays bad (spareLine j) (plan ps) [] n m (linesOf t)) left
+      ∙ rest-read (spareLine j) (λ s. spareWord) spareNumbers (λ s. knownSpare j s ≡ true) (λ s. refl) spare-small spare-said (plan ps) ss m h
 
   choke-plain : (x : Choke) → free 10 (chokeOpens x) ≡ true
   choke-plain (cellStep x) = refl
@@ -182,6 +208,7 @@ module _ (j : Job) (f : Fit j) where
   pub cannot-read : (xs : List Choke) → length xs < length (j .calls) → ((x : Choke) → In x xs → knownChoke j x ≡ true) → readSheet j (cannotText xs) ≡ cannot xs
   unfolding readSheet
   cannot-read xs e g =
+      let t = linesOf (linesText chokeOpens chokeNumbers xs) in
       ap (headSays j) (line-read cannotWord (length xs ∷ []) (linesText chokeOpens chokeNumbers xs) refl (omega (arith, f .few-calls), tt))
-      ∙ all-read (chokeLine j) cannot chokeOpens chokeNumbers (λ x. knownChoke j x ≡ true) choke-plain choke-small choke-said (λ n. ltb n (length (j .calls))) xs
-      (omega (arith, f .few-calls)) (lt-ltb (length xs) (length (j .calls)) e) g
+      ∙ count-read (λ n. ltb n (length (j .calls))) (λ n. restSays bad (chokeLine j) cannot [] n 2 t) (length xs) (omega (arith, f .few-calls)) (lt-ltb (length xs) (length (j .calls)) e)
+      ∙ rest-read (chokeLine j) chokeOpens chokeNumbers (λ x. knownChoke j x ≡ true) choke-plain choke-small choke-said cannot xs 2 g

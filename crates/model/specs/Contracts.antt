@@ -9,7 +9,7 @@ use lib.ListN.{length, drop, replicate}
 use Rattle.model.specs.declared.answer.Answer.the-variants as answer
 use Rattle.model.specs.Answers.{number}
 use Rattle.model.specs.Job.{Job, storeLeast, sheetLeast}
-use Rattle.model.specs.Plan.{Path, Plan, PlanInOrder}
+use Rattle.model.specs.Plan.{Path, Ride, Plan, PlanInOrder, SparesInOrder}
 use Rattle.model.specs.Choke.{Choke, TrueChokes, ChokesInOrder}
 use Rattle.model.specs.SheetText.{planText, cannotText}
 use Rattle.model.specs.ReadJob.{Verdict, refused, accepted, readJob}
@@ -25,8 +25,8 @@ abbrev pub withRoom : ℕ → Verdict Job → Verdict Job
 withRoom n (refused a l) = refused a l
 withRoom n (accepted j) = cond (ltb n (sheetLeast j)) (refused answer.SheetTooShort 0) (accepted j)
 
-abbrev pub RightPlan : Job → List Path → Type 0
-RightPlan j ps = Plan j ps × PlanInOrder j ps
+abbrev pub RightPlan : Job → List Path → List Ride → Type 0
+RightPlan j ps ss = Plan j ps ss × (PlanInOrder j ps × SparesInOrder ss)
 
 abbrev pub RightChokes : Job → List Choke → Type 0
 RightChokes j xs = TrueChokes j xs × ChokesInOrder xs
@@ -34,8 +34,8 @@ RightChokes j xs = TrueChokes j xs × ChokesInOrder xs
 -- The sheet b that the planner writes, with its answer.
 abbrev pub Answers : Job → ℕ → List ℕ → Type 0
 Answers j r b =
-    ((ps : List Path) × RightPlan j ps × (b ≡ planText ps) × (r ≡ number answer.Plan + 256 * length b))
-    ⊎ ((xs : List Choke) × RightChokes j xs × (b ≡ cannotText xs) × (r ≡ number answer.Cannot + 256 * length b) × ((ps : List Path) → Plan j ps → ⊥))
+    ((ps : List Path) × (ss : List Ride) × RightPlan j ps ss × (b ≡ planText ps ss) × (r ≡ number answer.Plan + 256 * length b))
+    ⊎ ((xs : List Choke) × RightChokes j xs × (b ≡ cannotText xs) × (r ≡ number answer.Cannot + 256 * length b) × ((ps : List Path) (ss : List Ride) → Plan j ps ss → ⊥))
 
 -- The planner's answer r and the bytes b that it writes; none at a refusal.
 abbrev pub Told : Verdict Job → ℕ → List ℕ → Type 0
@@ -45,7 +45,7 @@ Told (accepted j) r b = Answers j r b
 -- The check's answer.
 abbrev pub Judged : Job → Sheet → ℕ → Type 0
 Judged j (bad l) r = r ≡ number answer.BadSheet + 256 * l
-Judged j (plan ps) r = (RightPlan j ps × (r ≡ number answer.Plan)) ⊎ ((RightPlan j ps → ⊥) × (r ≡ number answer.WrongSheet))
+Judged j (plan ps ss) r = (RightPlan j ps ss × (r ≡ number answer.Plan)) ⊎ ((RightPlan j ps ss → ⊥) × (r ≡ number answer.WrongSheet))
 Judged j (cannot xs) r = (RightChokes j xs × (r ≡ number answer.Cannot)) ⊎ ((RightChokes j xs → ⊥) × (r ≡ number answer.WrongSheet))
 
 abbrev pub Decided : Verdict Job → List ℕ → ℕ → Type 0

@@ -94,6 +94,21 @@ jobEarly = "FLOOR\t6\nTRACK\t0\t1\nTRACK\t0\t2\nTRACK\t0\t4\nTRACK\t0\t5\nTRACK\
 abbrev pub jobOffice : String
 jobOffice = "FLOOR\t25e1\nTRACK\t1E+2\t12e1\nCART\t10e1\nCALL\t120e0\t1e0\n"
 
+-- the cart on cell 0 parks, and the spare one can neither pass it nor take its place
+abbrev pub jobSpare : String
+jobSpare = "FLOOR\t2\nTRACK\t0\t1\nCART\t0\nCART\t1\nBAY\t0\t1\n"
+
+-- Where the cart on cell 0 goes to the lift on cell 2, the one on cell 1 has to make way, to cell 3.
+abbrev pub jobAside : String
+jobAside = "FLOOR\t4\nTRACK\t0\t1\nTRACK\t1\t2\nTRACK\t1\t3\nCART\t0\nCART\t1\nCALL\t2\t2\n"
+
+-- The bay's cell is closed at the last step, which comes with the lift on cell 3.
+abbrev pub jobShut : String
+jobShut = "FLOOR\t4\nTRACK\t0\t1\nTRACK\t1\t2\nCART\t0\nCART\t1\nCART\t3\nBAY\t1\t1\nCALL\t3\t2\n"
+
+abbrev pub jobSpares : String
+jobSpares = "FLOOR\t2\nCART\t1\nCART\t0\n"
+
 abbrev pub mapOfFour : String
 mapOfFour = "type octile\nheight 2\nwidth 2\nmap\n..\nGG\n"
 
@@ -129,7 +144,8 @@ filed =
     ∷ plans "FLOOR\t2\nCART\t0\nCALL\t1\t5\n" big big (wrote 1 "CANNOT\t0\n")
     ∷ plans "" big big (refuses 3 1)
     ∷ plans "FLOOR\t1\nTRACK\t0\t0\n" big big (refuses 7 2)
-    ∷ plans "FLOOR\t1\nCART\t0\n" big big (refuses 8 0)
+    ∷ plans "FLOOR\t1\nCALL\t0\t0\n" big big (refuses 8 0)
+    ∷ plans "FLOOR\t1\nCART\t0\n" big big (wrote 0 "PLAN\t0\nSPARE\t0\t0\n")
     ∷ plans "FLOOR\t2\nTRACK\t0\t1\nCART\t0\nBAY\t1\t1\n" big big (wrote 0 "PLAN\t1\nPATH\t0\t0\t0\t1\n")
     ∷ plans jobBay big big (wrote 0 "PLAN\t2\nPATH\t1\t0\t4\t3\t1\nPATH\t0\t1\t0\t1\t2\n")
     ∷ plans jobClosed big big (wrote 1 "CANNOT\t1\nCHOKE\t1\t0\n")
@@ -143,6 +159,16 @@ filed =
     ∷ checks jobOffice big "PLAN\t1\nPATH\t0\t0\t10e1\t120\n" (11 + 256 * 2)
     ∷ plans "FLOOR\t999e9\n" big big (refuses 5 1)
     ∷ plans "FLOOR\t1\nCART\t1e0\n" big big (refuses 5 2)
+    ∷ plans jobSpare big big (wrote 0 "PLAN\t1\nPATH\t0\t0\t0\t0\nSPARE\t1\t1\t1\n")
+    ∷ checks jobAside big "PLAN\t1\nPATH\t0\t0\t0\t1\t2\nSPARE\t1\t1\t1\t1\n" 12
+    ∷ checks jobAside big "PLAN\t1\nPATH\t0\t0\t0\t1\t2\nSPARE\t1\t1\t3\t3\n" 0
+    ∷ allows jobShut big big (wrote 0 "PLAN\t2\nPATH\t0\t0\t0\t1\nPATH\t2\t1\t3\nSPARE\t1\t1\t2\t2\n")
+    ∷ checks jobShut big "PLAN\t2\nPATH\t1\t0\t1\t1\nPATH\t2\t1\t3\nSPARE\t0\t0\t0\t1\n" 12
+    ∷ plans "FLOOR\t3\nTRACK\t0\t1\nCART\t0\nCART\t1\nCALL\t2\t1\n" big big (wrote 1 "CANNOT\t0\n")
+    ∷ plans jobSpares big big (wrote 0 "PLAN\t0\nSPARE\t0\t1\nSPARE\t1\t0\n")
+    ∷ checks jobSpares big "PLAN\t0\nSPARE\t1\t0\nSPARE\t0\t1\n" 12
+    ∷ checks jobSpare big "PLAN\t1\nPATH\t0\t0\t0\t0\nSPARE\t1\t1\n" (11 + 256 * 3)
+    ∷ checks jobSpare big "PLAN\t1\nPATH\t0\t0\t0\t0\n" (11 + 256 * 3)
     ∷ maps "type octile\nheight 1\nwidth 1\nmap\n.\n" big (wrote 0 "FLOOR\t1\n")
     ∷ maps mapOfFour big (wrote 0 floorOfFour)
     ∷ maps mapOfFour 48 (wrote 0 floorOfFour)

@@ -15,12 +15,20 @@ module _ {R : Type 0} (bad : ℕ → R) where
   lineDue say n cut on = bad n
   lineDue say n (more l ls) on = orBad n (say l) (λ a. on a ls)
 
-  -- The lines from number n on: k more of them, `say` each, and no other. `got` were said so far.
-  module _ {A : Type 0} (say : List ℕ → Option A) (all : List A → R) where
-    abbrev pub restSays : List A → ℕ → ℕ → Lines → R
-    restSays got zero n done = all got
-    restSays got zero n cut = bad n
-    restSays got zero n (more l ls) = bad n
-    restSays got (suc k) n done = bad n
-    restSays got (suc k) n cut = bad n
-    restSays got (suc k) n (more l ls) = orBad n (say l) (λ a. restSays (got ++ (a ∷ [])) k (n + 1) ls)
+  -- The lines from number n on: k of them, `say` each; then comes what follows them. `got` were said so far.
+  module _ {A : Type 0} (say : List ℕ → Option A) (on : List A → ℕ → Lines → R) where
+    abbrev pub linesDue : List A → ℕ → ℕ → Lines → R
+    linesDue got zero n ls = on got n ls
+    linesDue got (suc k) n done = bad n
+    linesDue got (suc k) n cut = bad n
+    linesDue got (suc k) n (more l ls) = orBad n (say l) (λ a. linesDue (got ++ (a ∷ [])) k (n + 1) ls)
+
+  -- No line is left.
+  abbrev pub noMore : R → ℕ → Lines → R
+  noMore r n done = r
+  noMore r n cut = bad n
+  noMore r n (more l ls) = bad n
+
+  -- The lines from number n on: k more of them, and no other.
+  abbrev pub restSays : {A : Type 0} → (List ℕ → Option A) → (List A → R) → List A → ℕ → ℕ → Lines → R
+  restSays say all got k n ls = linesDue say (λ l. noMore (all l)) got k n ls

@@ -1,19 +1,19 @@
--- What a sheet says: paths or choke points in the written form of a job, or the first bad line.
-use Prim.Native.Nat.{ℕ, zero, suc, _+_}
+-- What a sheet says: paths and walks of spare carts, or choke points, in the written form of a job, or the first bad line.
+use Prim.Native.Nat.{ℕ, zero, suc, _+_, _-_}
 use mathlib.Core.List.{List, [], _∷_, _++_}
 use mathlib.Core.Option.{Option, none, some}
 use mathlib.Core.Bool.{Bool, true, false, cond, _&&_}
 use lib.Dec.{ltb, leb, eqb}
 use lib.ListN.{length}
 use Rattle.model.specs.Job.{Job, CallKind, lift, bay, callOf, horizon}
-use Rattle.model.specs.Plan.{Path}
+use Rattle.model.specs.Plan.{Path, Ride}
 use Rattle.model.specs.Choke.{Point, Choke, cellStep, wholeCall}
-use Rattle.model.specs.FirstBad.{restSays}
-use Rattle.model.specs.Text.{Lines, done, cut, more, linesOf, numbersOf, opens, after, planWord, pathWord, cannotWord, chokeWord, wholeWord}
+use Rattle.model.specs.FirstBad.{linesDue, restSays}
+use Rattle.model.specs.Text.{Lines, done, cut, more, linesOf, numbersOf, opens, after, planWord, pathWord, spareWord, cannotWord, chokeWord, wholeWord}
 
 pub data Sheet : Type 0 where
   bad : (line : ℕ) → Sheet
-  plan : List Path → Sheet
+  plan : List Path → List Ride → Sheet
   cannot : List Choke → Sheet
 
 -- the numbers behind a word, if the line opens with it
@@ -40,6 +40,15 @@ pathOf j none = none
 pathOf j (some []) = none
 pathOf j (some (a ∷ [])) = none
 pathOf j (some (a ∷ b ∷ ws)) = let p : Path = record { cart = a; call = b; cells = ws } in cond (knownPath j p) (some p) none
+
+-- SPARE: a known cart, and known cells from step 0 to H
+abbrev pub knownSpare : Job → Ride → Bool
+knownSpare j s = ltb (s .cart) (length (j .carts)) && eqb (length (s .cells)) (suc (horizon j)) && allBelow (j .cells) (s .cells)
+
+abbrev pub spareOf : Job → Option (List ℕ) → Option Ride
+spareOf j none = none
+spareOf j (some []) = none
+spareOf j (some (a ∷ ws)) = let s : Ride = record { cart = a; cells = ws } in cond (knownSpare j s) (some s) none
 
 -- CHOKE: a known cell, a step from 0 to H
 abbrev pub knownPoint : Job → Point → Bool
@@ -69,6 +78,9 @@ wholeOf j (some (k ∷ m ∷ ns)) = none
 abbrev pub pathLine : Job → List ℕ → Option Path
 pathLine j l = pathOf j (numbersAfter pathWord l)
 
+abbrev pub spareLine : Job → List ℕ → Option Ride
+spareLine j l = spareOf j (numbersAfter spareWord l)
+
 abbrev pub chokeLine : Job → List ℕ → Option Choke
 chokeLine j l = cond (opens wholeWord l) (wholeOf j (numbersOf (after wholeWord l))) (pointOf j (numbersAfter chokeWord l))
 
@@ -79,12 +91,16 @@ countSays isRight rest (some []) = bad 1
 countSays isRight rest (some (n ∷ [])) = cond (isRight n) (rest n) (bad 1)
 countSays isRight rest (some (n ∷ m ∷ ns)) = bad 1
 
+-- behind the PATH lines, one SPARE line for each cart that is left
+abbrev pub sparesSay : Job → List Path → ℕ → Lines → Sheet
+sparesSay j ps n ls = restSays bad (spareLine j) (plan ps) [] (length (j .carts) - length (j .calls)) n ls
+
 -- PLAN has the number of calls, CANNOT a number below it
 abbrev pub headSays : Job → Lines → Sheet
 headSays j done = bad 1
 headSays j cut = bad 1
 headSays j (more l ls) = cond (opens planWord l)
-    (countSays (λ n. eqb n (length (j .calls))) (λ n. restSays bad (pathLine j) plan [] n 2 ls) (numbersAfter planWord l))
+    (countSays (λ n. eqb n (length (j .calls))) (λ n. linesDue bad (pathLine j) (sparesSay j) [] n 2 ls) (numbersAfter planWord l))
     (countSays (λ n. ltb n (length (j .calls))) (λ n. restSays bad (chokeLine j) cannot [] n 2 ls) (numbersAfter cannotWord l))
 
 unfoldable pub readSheet : Job → List ℕ → Sheet

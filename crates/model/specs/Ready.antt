@@ -30,4 +30,4 @@ pub record Fit (j : Job) : Type 0 where
 pub record Ready (j : Job) : Type 0 where
   pub fit : Fit j
   pub has-cells : 0 < j .cells
-  pub even : length (j .carts) ≡ length (j .calls)
+  pub enough : length (j .calls) ≤ length (j .carts)

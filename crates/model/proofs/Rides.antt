@@ -1,0 +1,44 @@
+-- The rides of a plan: those of its paths and those of its spare carts. Rides that are apart stay so when some are left out, and no cart has two paths. Assumes nothing.
+use Prim.Native.Nat.{ℕ, suc, _+_, _<_}
+use mathlib.Core.Path.{_≡_, refl, ap, subst, _∙_}
+use mathlib.Core.List.{List, [], _∷_, _++_, map}
+use mathlib.Core.Logic.{_⊎_, inl, inr}
+use lib.ListN.{length, length-append}
+use Rattle.model.specs.Lists.{In, NoDup}
+use Rattle.model.specs.Job.{Job}
+use Rattle.model.specs.Plan.{Path, Ride, rideOf, Apart, Plan}
+use Rattle.model.proofs.Lists.{in-map, in-unmap, in-left, in-part}
+
+nodup-left : {A : Type 0} (f : A → ℕ) (l m : List A) → NoDup (map f (l ++ m)) → NoDup (map f l)
+nodup-left f [] m nd = tt
+nodup-left f (a ∷ l) m nd = (λ h. let (b, i, e) = in-unmap f (f a) l h in nd .0 (rw e at (in-map f b (l ++ m) (in-left b l m i))), nodup-left f l m (nd .1))
+
+pub apart-left : (rs ss : List Ride) → Apart (rs ++ ss) → Apart rs
+apart-left rs ss h = record {
+  own-cart = nodup-left (λ r. r .cart) rs ss (h .own-cart);
+  no-share = λ r s i k. h .no-share r s (in-left r rs ss i) (in-left s rs ss k);
+  no-trade = λ r s i k. h .no-trade r s (in-left r rs ss i) (in-left s rs ss k);
+}
+
+carts-of : (ps : List Path) → map (λ r. r .cart) (map rideOf ps) ≡ map (λ p. p .cart) ps
+carts-of [] = refl
+carts-of (p ∷ ps) = ap (λ l. p .cart ∷ l) (carts-of ps)
+
+pub own-carts : (ps : List Path) → Apart (map rideOf ps) → NoDup (map (λ p. p .cart) ps)
+own-carts ps h = rw (carts-of ps) at (h .own-cart)
+
+length-rides : (ps : List Path) → length (map rideOf ps) ≡ length ps
+length-rides [] = refl
+length-rides (p ∷ ps) = ap suc (length-rides ps)
+
+-- Every ride of a plan is that of a known cart, and they are as many as the carts.
+module _ (j : Job) (ps : List Path) (ss : List Ride) (pl : Plan j ps ss) where
+  pub ride-known : (r : Ride) → In r (map rideOf ps ++ ss) → r .cart < length (j .carts)
+  ride-known r h = go (in-part r (map rideOf ps) ss h)
+    where
+      go : In r (map rideOf ps) ⊎ In r ss → r .cart < length (j .carts)
+      go (inl k) = let (p, i, e) = in-unmap rideOf r ps k in subst (λ x. x .cart < length (j .carts)) e (pl .served .leads p i .known-cart)
+      go (inr k) = pl .stay r k .known-cart
+
+  pub rides-all : length (map rideOf ps ++ ss) ≡ length (j .carts)
+  rides-all = length-append (map rideOf ps) ss ∙ ap (λ n. n + length ss) (length-rides ps) ∙ pl .size
