@@ -108,9 +108,9 @@ pub fn read(text: &[u8]) -> Reading
     }
     let carts = counts.carts;
     let calls = counts.calls;
-    if carts != calls {
+    if carts < calls {
         return refused(Verdict::Refused {
-            answer: Answer::Uneven,
+            answer: Answer::TooFewCarts,
             line: 0,
         });
     }

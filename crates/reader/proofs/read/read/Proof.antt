@@ -16,7 +16,7 @@ use native.Mathlib.Omega.{arith}
 use denote.Ref.{now}
 use lib.ListN.{length}
 use Rattle.reader.proofs.Tests.{fault-late}
-use Rattle.reader.proofs.Turns.{ReadSoFar, so-far-counts, turned-back, too-long, so-far-first, ends-cut, ends-wrong, so-far-next, ends-none, ends-uneven, ends-job}
+use Rattle.reader.proofs.Turns.{ReadSoFar, so-far-counts, turned-back, too-long, so-far-first, ends-cut, ends-wrong, so-far-next, ends-none, ends-few, ends-job}
 use borrow.Author.Needs.{needs}
 use Rattle.reader.proofs.read.read.Statement.{statement}
 use Rattle.reader.proofs.read.read.Tie as tie
@@ -121,7 +121,7 @@ returns-4 c =
 
 returns-5 : tie.Need-returns-5 Inv-loop μ-loop
 returns-5 c =
-    let says = ends-uneven (refused5→loop c .loop .inv) (refused5→after-loop c .loop-test .left) (refused5→else3 c .if3 .left) (refused5→then4 c .if4 .taken) in
+    let says = ends-few (refused5→loop c .loop .inv) (refused5→after-loop c .loop-test .left) (refused5→else3 c .if3 .left) (refused5→then4 c .if4 .taken) in
     turned-back (c .refused5 .ensures) says (omega arith) (omega arith)
 
 returns-6 : tie.Need-returns-6 Inv-loop μ-loop
