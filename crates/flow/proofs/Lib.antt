@@ -5,3 +5,4 @@ pub mod Links
 pub mod Augment
 pub mod Line
 pub mod Exchange
+pub mod Loose

@@ -3,3 +3,4 @@ pub mod Update
 pub mod Way
 pub mod Line
 pub mod Exchange
+pub mod Loose

@@ -1,13 +1,13 @@
 -- The rides of a plan: those of its paths and those of its spare carts. Rides that are apart stay so when some are left out, and no cart has two paths. Assumes nothing.
 use Prim.Native.Nat.{ℕ, suc, _+_, _<_}
-use mathlib.Core.Path.{_≡_, refl, ap, subst, _∙_}
+use mathlib.Core.Path.{_≡_, refl, sym, ap, subst, _∙_}
 use mathlib.Core.List.{List, [], _∷_, _++_, map}
 use mathlib.Core.Logic.{_⊎_, inl, inr}
-use lib.ListN.{length, length-append}
+use lib.ListN.{length, getD, length-append}
 use Rattle.model.specs.Lists.{In, NoDup}
 use Rattle.model.specs.Job.{Job}
 use Rattle.model.specs.Plan.{Path, Ride, rideOf, Apart, Plan}
-use Rattle.model.proofs.Lists.{in-map, in-unmap, in-left, in-part}
+use Rattle.model.proofs.Lists.{in-map, in-unmap, in-left, in-part, place-of}
 
 nodup-left : {A : Type 0} (f : A → ℕ) (l m : List A) → NoDup (map f (l ++ m)) → NoDup (map f l)
 nodup-left f [] m nd = tt
@@ -26,6 +26,26 @@ carts-of (p ∷ ps) = ap (λ l. p .cart ∷ l) (carts-of ps)
 
 pub own-carts : (ps : List Path) → Apart (map rideOf ps) → NoDup (map (λ p. p .cart) ps)
 own-carts ps h = rw (carts-of ps) at (h .own-cart)
+
+pub path-rides : (ps : List Path) → NoDup (map (λ p. p .cart) ps) → NoDup (map (λ r. r .cart) (map rideOf ps))
+path-rides ps h = rw (carts-of ps) h
+
+-- Rides of paths and of spare carts, no cart among both.
+pub nodup-both : {A : Type 0} (f : A → ℕ) (l m : List A) → NoDup (map f l) → NoDup (map f m) → ((a b : A) → In a l → In b m → f a ≡ f b → ⊥) → NoDup (map f (l ++ m))
+nodup-both f [] m h k apart = k
+nodup-both {A} f (a ∷ l) m h k apart = (λ i. let (b, n, e) = in-unmap f (f a) (l ++ m) i in go b e (in-part b l m n), nodup-both f l m (h .1) k (λ x y i. apart x y (inr i)))
+  where
+    go : (b : A) → f b ≡ f a → In b l ⊎ In b m → ⊥
+    go b e (inl i) = h .0 (rw e at (in-map f b l i))
+    go b e (inr i) = apart a b (inl refl) i (sym e)
+
+-- what is different in a list stands at different places
+map-id : (l : List ℕ) → map (λ a. a) l ≡ l
+map-id [] = refl
+map-id (a ∷ l) = ap (λ m. a ∷ m) (map-id l)
+
+pub place-in : (l : List ℕ) → NoDup l → (i k : ℕ) → i < length l → k < length l → getD l i 0 ≡ getD l k 0 → i ≡ k
+place-in l nd i k h h′ e = place-of (λ a. a) l (rw (map-id l) nd) i k 0 h h′ e
 
 length-rides : (ps : List Path) → length (map rideOf ps) ≡ length ps
 length-rides [] = refl

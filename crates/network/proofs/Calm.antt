@@ -12,7 +12,7 @@ use Rattle.model.proofs.Basics.{nope, and-left, and-right, and-both}
 use Rattle.flow.specs.Flow.{Link, off, end, to, Flow}
 use Rattle.flow.specs.Exchange.{led}
 use Rattle.flow.proofs.Exchange.{exchanged}
-use Rattle.network.specs.Graph.{Edge, graph}
+use Rattle.network.specs.Graph.{Edge, graphFrom}
 use Rattle.network.specs.Traced.{Calm}
 use Rattle.network.specs.Stand.{isTo, otherBy, other, stoodBack, stoodOn}
 use Rattle.network.proofs.Points.{point-cell, point-step, point-eq, to-eq}
@@ -91,7 +91,7 @@ module _ (back : Point → Link Point) where
       go (inr p) (inl q) = sym q
       go (inr (g, none)) (inr (h, _)) = absurd (none (g, h))
 
-module _ {j : Job} {back on : Point → Link Point} (ok : Flow (graph j) back on) where
+module _ {j : Job} {S : Point → Type 0} {back on : Point → Link Point} (ok : Flow (graphFrom j S) back on) where
   -- A cart that stands instead of trading could have: its cell is open, as the cart came to it. A call trades with itself alone.
   stands : (v u : Point) → Edge j v u → Edge j v (point (v .cell) (u .step))
   stands v u (inl m) = inl (record { call = m .call; listed = m .listed; here = m .here; there = point-cell (m .here); in-time = m .in-time })
@@ -111,7 +111,7 @@ module _ {j : Job} {back on : Point → Link Point} (ok : Flow (graph j) back on
       go (trades u (f, g) q) = let p : w ≡ point (v .cell) (u .step) = to-eq (sym e ∙ ap back q ∙ g) in rw p (stands v u (ok .edge v u f))
       go (passes none q) = ok .edge v w (ap back (sym q) ∙ e)
 
-  pub stood-flow : Flow (graph j) (stoodBack back) (stoodOn back on)
+  pub stood-flow : Flow (graphFrom j S) (stoodBack back) (stoodOn back on)
   stood-flow = exchanged ok (record { twice = twice back; leads = leads back; edge = edge })
 
   -- The lines begin where they did.

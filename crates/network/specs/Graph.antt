@@ -54,9 +54,13 @@ pub record Earlier (j : Job) (x y : Point) : Type 0 where
 abbrev pub Edge : Job → Point → Point → Type 0
 Edge j x y = MetFrom j x y ⊎ Earlier j x y
 
-abbrev pub graph : Job → Graph Point
-graph j = record {
+-- the graph whose lines start at some of its nodes, and that whose lines start at the calls
+abbrev pub graphFrom : Job → (Point → Type 0) → Graph Point
+graphFrom j S = record {
   Edge = λ x y. Edge j x y;
-  Start = λ x. isTarget j x ≡ true;
+  Start = S;
   Goal = λ x. (x .step ≡ 0) × In (x .cell) (j .carts);
 }
+
+abbrev pub graph : Job → Graph Point
+graph j = graphFrom j (λ x. isTarget j x ≡ true)

@@ -3,20 +3,24 @@ use Prim.Native.Nat.{ℕ, suc, _<_}
 use mathlib.Core.Path.{_≡_}
 use lib.ListN.{length, getD}
 use Rattle.model.specs.Job.{Job, cartCell, callOf}
-use Rattle.model.specs.Plan.{Path}
+use Rattle.model.specs.Plan.{Path, Ride, rideOf}
 use Rattle.model.specs.Choke.{Point, point}
 use Rattle.flow.specs.Flow.{Link, to}
 use Rattle.network.specs.Graph.{nodeOf}
 
--- The path stands where its call is met at its last step, and follows the links from there down to its cart's cell at step 0.
+-- The ride follows the links from its last cell down to its cart's cell at step 0.
+pub record RideTraced (j : Job) (back : Point → Link Point) (r : Ride) : Type 0 where
+  pub known-cart : r .cart < length (j .carts)
+  pub follows : (t : ℕ) → suc t < length (r .cells) → back (point (getD (r .cells) (suc t) 0) (suc t)) ≡ to (point (getD (r .cells) t 0) t)
+  pub starts : cartCell j (r .cart) ≡ getD (r .cells) 0 0
+
+-- So does the path, from where its call is met at its last step.
 pub record Traced (j : Job) (back : Point → Link Point) (p : Path) : Type 0 where
-  pub known-cart : p .cart < length (j .carts)
+  pub ride : RideTraced j back (rideOf p)
   pub known-call : p .call < length (j .calls)
   pub last : ℕ
   pub size : length (p .cells) ≡ suc last
   pub ends : back (nodeOf j (callOf j (p .call))) ≡ to (point (getD (p .cells) last 0) last)
-  pub follows : (t : ℕ) → suc t < length (p .cells) → back (point (getD (p .cells) (suc t) 0) (suc t)) ≡ to (point (getD (p .cells) t 0) t)
-  pub starts : cartCell j (p .cart) ≡ getD (p .cells) 0 0
 
 -- No two carts trade the ends of a track.
 abbrev pub Calm : (Point → Link Point) → Type 0
