@@ -10,3 +10,6 @@ pub mod StoreBytes
 pub mod NodeBytes
 pub mod PlaneLaws
 pub mod HoldsLaws
+pub mod StandsFlow
+pub mod StandBytes
+pub mod KeepLaws

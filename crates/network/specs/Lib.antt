@@ -5,3 +5,4 @@ pub mod Stand
 pub mod Store
 pub mod Links
 pub mod Holds
+pub mod Keeping
