@@ -13,6 +13,11 @@ pub mod Read
 pub mod Ready
 pub mod Digits
 pub mod AsBefore
+pub mod Tabled
+pub mod Courses
+pub mod LooseCart
+pub mod PlanCourses
+pub mod SparesKept
 pub mod Agree
 pub mod Decisions
 pub mod OneOrder
