@@ -1,3 +1,5 @@
 pub mod PlanLaws
 pub mod PlanSteps
+pub mod PlanLines
+pub mod PlanWalks
 pub mod PlanRight

@@ -9,7 +9,7 @@ use native.Mathlib.Numerals.{add-one}
 use lib.ListN.{length, getD, set}
 use lib.Seq.{getD-set-same, getD-set-other}
 use borrow.Author.Count.{below-more}
-use Rattle.model.specs.Limits.{maxCells, maxCalls}
+use Rattle.model.specs.Limits.{maxCells, maxCarts}
 use Rattle.model.proofs.Decide.{dec-eq}
 use Rattle.model.proofs.Lex.{lex-on, lex-apart}
 use Rattle.floor.specs.Order.{SoonerIn}
@@ -98,22 +98,22 @@ no-go table u v a (inr e) = e
 
 -- Who is on which cell at a step.
 module _ (lasts rows : List ℕ) (t : ℕ) where
-  pub standing-none : (on : List ℕ) → ((c : ℕ) → c < maxCells → getD on c 0 ≡ maxCalls) → Standing lasts rows 0 t on
+  pub standing-none : (on : List ℕ) → ((c : ℕ) → c < maxCells → getD on c 0 ≡ maxCarts) → Standing lasts rows 0 t on
   standing-none on z = record {
     there = λ k h. absurd (omega arith);
     back = λ c h l. absurd (omega (arith, z c h));
   }
 
-  -- path k has left the floor
+  -- the cart of line k has left the floor
   pub standing-left : (k : ℕ) (on : List ℕ) → getD lasts k 0 < t → Standing lasts rows k t on → Standing lasts rows (k + 1) t on
   standing-left k on h s = record {
     there = below-more _ k (s .there) (λ l. absurd (omega arith));
     back = λ c l f. let b = s .back c l f in (omega (arith, b .0), b .1, b .2);
   }
 
-  -- path k is put on a free cell
-  module _ (k : ℕ) (on : List ℕ) (size : length on ≡ maxCells) (small : k < maxCalls) (known : cellOf rows k t < maxCells) (lives : t ≤ getD lasts k 0)
-      (free : maxCalls ≤ getD on (cellOf rows k t) 0) (s : Standing lasts rows k t on) where
+  -- the cart of line k is put on a free cell
+  module _ (k : ℕ) (on : List ℕ) (size : length on ≡ maxCells) (small : k < maxCarts) (known : cellOf rows k t < maxCells) (lives : t ≤ getD lasts k 0)
+      (free : maxCarts ≤ getD on (cellOf rows k t) 0) (s : Standing lasts rows k t on) where
     abbrev on′ : List ℕ
     on′ = set on (cellOf rows k t) k
 
@@ -122,7 +122,7 @@ module _ (lasts rows : List ℕ) (t : ℕ) where
         let e = s .there m h l in
         getD-set-other on (cellOf rows k t) (cellOf rows m t) k 0 (λ q. omega (arith, rw q at e)) ∙ e
 
-    put-back : (c : ℕ) → c < maxCells → getD on′ c 0 < maxCalls → (getD on′ c 0 < k + 1) × (t ≤ getD lasts (getD on′ c 0) 0) × (cellOf rows (getD on′ c 0) t ≡ c)
+    put-back : (c : ℕ) → c < maxCells → getD on′ c 0 < maxCarts → (getD on′ c 0 < k + 1) × (t ≤ getD lasts (getD on′ c 0) 0) × (cellOf rows (getD on′ c 0) t ≡ c)
     put-back c h f = go (dec-eq c (cellOf rows k t))
       where
         go : Dec (c ≡ cellOf rows k t) → (getD on′ c 0 < k + 1) × (t ≤ getD lasts (getD on′ c 0) 0) × (cellOf rows (getD on′ c 0) t ≡ c)
@@ -143,21 +143,21 @@ module _ (lasts rows : List ℕ) (t : ℕ) where
   pub standing-unshared : (n : ℕ) (on : List ℕ) → Standing lasts rows n t on → Unshared lasts rows n t
   standing-unshared n on s k m a b h l e = sym (s .there k a h) ∙ ap (λ c. getD on c 0) e ∙ s .there m b l
 
-  -- the cell of path k is taken by an earlier path
+  -- the cell of line k is taken by an earlier line's cart
   pub standing-taken : (n k : ℕ) (on : List ℕ) → Standing lasts rows k t on → k < n → cellOf rows k t < maxCells → t ≤ getD lasts k 0
-      → getD on (cellOf rows k t) 0 < maxCalls → Unshared lasts rows n t → ⊥
+      → getD on (cellOf rows k t) 0 < maxCarts → Unshared lasts rows n t → ⊥
   standing-taken n k on s h c l f a =
       let (m, d, e) = s .back (cellOf rows k t) c f in
       omega (arith, a (getD on (cellOf rows k t) 0) k (omega arith) h d l e)
 
-  -- Who meets path k is the path o that is on the cell that it goes to.
+  -- Who meets the cart of line k is that of the line o, on the cell that it goes to.
   pub record Facing (k o : ℕ) : Type 0 where
-    pub known : o < maxCalls
+    pub known : o < maxCarts
     pub other : o ≡ k → ⊥
     pub lives : t < getD lasts o 0
     pub back : cellOf rows o (t + 1) ≡ cellOf rows k t
 
-  module _ (n k : ℕ) (on : List ℕ) (few : n ≤ maxCalls) (s : Standing lasts rows n t on) (o : ℕ) (e : o ≡ getD on (cellOf rows k (t + 1)) 0) where
+  module _ (n k : ℕ) (on : List ℕ) (few : n ≤ maxCarts) (s : Standing lasts rows n t on) (o : ℕ) (e : o ≡ getD on (cellOf rows k (t + 1)) 0) where
     pub facing : Trades lasts rows n t k → Facing k o
     facing (m, h, d, l, f, f′) =
         let q : o ≡ m = e ∙ ap (λ c. getD on c 0) (sym f) ∙ s .there m h (omega arith) in

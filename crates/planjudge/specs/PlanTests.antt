@@ -1,4 +1,5 @@
--- What the tests of a plan decide, by the numbers of its paths. Path k has its cells in row k of `rows`, up to the step that `lasts` has at k.
+-- What the tests of a plan decide, by the numbers of its lines. Line k has its cart at k of `carts`, and its cells in row k of `rows`, up to the step that `lasts` has at k. Lines of paths
+-- have a call too; behind them stand those of the spare carts.
 use Prim.Native.Nat.{ℕ, _+_, _*_, _≤_, _<_}
 use mathlib.Core.Path.{_≡_}
 use mathlib.Core.List.{List}
@@ -8,25 +9,29 @@ use lib.ListN.{getD, length}
 use Rattle.job.specs.Bits.{bitAt, pairAt}
 use Rattle.floor.specs.Tables.{OpenAt}
 use Rattle.floor.specs.Order.{SoonerIn}
-use Rattle.model.specs.Limits.{maxCells, maxCalls, maxSteps}
+use Rattle.model.specs.Limits.{maxCells, maxCarts, maxSteps}
 
--- the cell of path k at the step t
+-- the cell of line k at the step t
 abbrev pub cellOf : List ℕ → ℕ → ℕ → ℕ
 cellOf rows k t = getD rows (k * maxSteps + t) 0
 
--- There is room for n paths.
+-- There is room for n lines.
 pub record Fits (lasts rows : List ℕ) (n : ℕ) : Type 0 where
-  pub few : n ≤ maxCalls
-  pub ends : length lasts ≡ maxCalls
-  pub cells : length rows ≡ maxCalls * maxSteps
+  pub few : n ≤ maxCarts
+  pub ends : length lasts ≡ maxCarts
+  pub cells : length rows ≡ maxCarts * maxSteps
 
--- The first n entries are numbers that a cart or a call can have.
-abbrev pub Below : List ℕ → ℕ → Type 0
-Below numbers n = (k : ℕ) → k < n → getD numbers k 0 < maxCalls
+-- The first n entries are below m.
+abbrev pub Below : List ℕ → ℕ → ℕ → Type 0
+Below numbers n m = (k : ℕ) → k < n → getD numbers k 0 < m
 
 -- Each of the first n paths' calls stands before the next.
 abbrev pub Ordered : List ℕ → List ℕ → List ℕ → ℕ → Type 0
 Ordered targets deadlines calls n = (k : ℕ) → k + 1 < n → SoonerIn targets deadlines (getD calls k 0) (getD calls (k + 1) 0)
+
+-- Each cart of the lines from `paths` to `lines` has a smaller number than the next.
+abbrev pub SparesRise : List ℕ → ℕ → ℕ → Type 0
+SparesRise carts paths lines = (k : ℕ) → paths ≤ k → k + 1 < lines → getD carts k 0 < getD carts (k + 1) 0
 
 -- One of the first n pairs of the two lists is u and v.
 abbrev pub PairIn : List ℕ → List ℕ → ℕ → ℕ → ℕ → Type 0
@@ -45,7 +50,7 @@ Goes table u v = (u ≡ v) ⊎ (bitAt table (pairAt u v) ≡ true)
 abbrev pub Allowed : List ℕ → List ℕ → ℕ → ℕ → ℕ → Type 0
 Allowed table shut t u v = Goes table u v × OpenAt shut (t + 1) v
 
--- By the tables, path k walks up to the step d.
+-- By the tables, line k's cart walks up to the step d.
 abbrev pub Walks : List ℕ → List ℕ → List ℕ → ℕ → ℕ → Type 0
 Walks table shut rows k d = (t : ℕ) → t < d → Allowed table shut t (cellOf rows k t) (cellOf rows k (t + 1))
 
@@ -60,24 +65,29 @@ abbrev pub AllLed : List ℕ → List ℕ → List ℕ → List ℕ → List ℕ
 AllLed table shut rows lasts carts starts calls targets n =
     (k : ℕ) → k < n → Led table shut rows k (getD lasts k 0) (getD starts (getD carts k 0) 0) (getD targets (getD calls k 0) 0)
 
--- No two of the first n paths share a cell at the step t.
+-- Each cart of the lines from `paths` to `lines` walks from its start, up to its last step.
+abbrev pub AllStay : List ℕ → List ℕ → List ℕ → List ℕ → List ℕ → List ℕ → ℕ → ℕ → Type 0
+AllStay table shut rows lasts carts starts paths lines =
+    (k : ℕ) → paths ≤ k → k < lines → (cellOf rows k 0 ≡ getD starts (getD carts k 0) 0) × Walks table shut rows k (getD lasts k 0)
+
+-- No two carts of the first n lines share a cell at the step t.
 abbrev pub Unshared : List ℕ → List ℕ → ℕ → ℕ → Type 0
 Unshared lasts rows n t = (k m : ℕ) → k < n → m < n → t ≤ getD lasts k 0 → t ≤ getD lasts m 0 → cellOf rows k t ≡ cellOf rows m t → k ≡ m
 
--- Another of the first n paths goes the other way than path k from the step t to the next.
+-- Another cart of the first n lines goes the other way than line k's from the step t to the next.
 abbrev pub Trades : List ℕ → List ℕ → ℕ → ℕ → ℕ → Type 0
 Trades lasts rows n t k =
     (m : ℕ) × (m < n) × (m ≡ k → ⊥) × (t < getD lasts m 0) × (cellOf rows m t ≡ cellOf rows k (t + 1)) × (cellOf rows m (t + 1) ≡ cellOf rows k t)
 
--- None of the first n paths trades places from the step t to the next.
+-- No cart of the first n lines trades places from the step t to the next.
 abbrev pub Untraded : List ℕ → List ℕ → ℕ → ℕ → Type 0
 Untraded lasts rows n t = (k : ℕ) → k < n → t < getD lasts k 0 → Trades lasts rows n t k → ⊥
 
--- At the step t the first n paths are in nobody's way.
+-- At the step t the carts of the first n lines are in nobody's way.
 abbrev pub Clear : List ℕ → List ℕ → ℕ → ℕ → Type 0
 Clear lasts rows n t = Unshared lasts rows n t × Untraded lasts rows n t
 
--- `on` has for each cell the number of the path that is on it at the step t, of the first n; maxCalls or more for none.
+-- `on` has for each cell the number of the line whose cart is on it at the step t, of the first n; maxCarts or more for none.
 pub record Standing (lasts rows : List ℕ) (n t : ℕ) (on : List ℕ) : Type 0 where
   pub there : (k : ℕ) → k < n → t ≤ getD lasts k 0 → getD on (cellOf rows k t) 0 ≡ k
-  pub back : (c : ℕ) → c < maxCells → getD on c 0 < maxCalls → (getD on c 0 < n) × (t ≤ getD lasts (getD on c 0) 0) × (cellOf rows (getD on c 0) t ≡ c)
+  pub back : (c : ℕ) → c < maxCells → getD on c 0 < maxCarts → (getD on c 0 < n) × (t ≤ getD lasts (getD on c 0) 0) × (cellOf rows (getD on c 0) t ≡ c)

@@ -1,2 +1,2 @@
-// Whether paths are a plan.
+// Whether paths and spare carts' rides are a plan.
 pub mod plan;

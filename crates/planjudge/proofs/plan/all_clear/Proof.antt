@@ -1,4 +1,4 @@
--- `all_clear` decides whether the paths are in nobody's way at each step up to h. Invariant: they are not below t. The measure is the steps left.
+-- `all_clear` decides whether the carts are in nobody's way at each step up to h. Invariant: they are not below t. The measure is the steps left.
 -- Assumes nothing.
 use Rattle.planjudge.specs.PlanTests.{Clear}
 use Prim.Native.Nat.{_+_, _-_, _<_, _≤_, ℕ}

@@ -1,4 +1,4 @@
--- `allowed` decides a step of a path by the tables: the track first, then that the cell is not closed yet. Assumes nothing.
+-- `allowed` decides a step of a line by the tables: the track first, then that the cell is not closed yet. Assumes nothing.
 use Prim.Native.Nat.{_+_}
 use native.Mathlib.Omega.{arith}
 use lib.ListN.{getD}

@@ -1,7 +1,7 @@
--- `clear` decides whether the paths are in nobody's way at a step: first that they stand apart, then that none trades. Assumes nothing.
+-- `clear` decides whether the carts are in nobody's way at a step: first that they stand apart, then that none trades. Assumes nothing.
 use Rattle.planjudge.specs.PlanTests.{Unshared}
 use Rattle.job.proofs.Tested.{denied, same-answer}
-use Rattle.model.specs.Limits.{maxCells, maxCalls}
+use Rattle.model.specs.Limits.{maxCells, maxCarts}
 use lib.ListN.{getD-replicate, length-replicate}
 use borrow.Author.Tests.{not-false, not-true}
 use denote.Ref.{now}
@@ -12,7 +12,7 @@ mod Places
 use Places.*
 
 stand-requires : tie.Need-stand-requires
-stand-requires c κs = (on→start c .pre .0, on→start c .pre .1, length-replicate {A = ℕ} maxCells maxCalls, λ x h. getD-replicate {A = ℕ} maxCells x maxCalls 0 h)
+stand-requires c κs = (on→start c .pre .0, on→start c .pre .1, length-replicate {A = ℕ} maxCells maxCarts, λ x h. getD-replicate {A = ℕ} maxCells x maxCarts 0 h)
 
 returns : tie.Need-returns
 returns c = denied (λ q. then1→stand c .stand .ensures .0 .1 (not-true _ (c .if1 .taken)) (q .0))

@@ -9,7 +9,7 @@ use denote.Ref.{now}
 use lib.ListN.{getD}
 use Rattle.job.proofs.Tested.{denied, told}
 use Rattle.planjudge.proofs.PlanSteps.{at-both}
-use Rattle.model.specs.Limits.{maxCalls}
+use Rattle.model.specs.Limits.{maxCarts}
 use borrow.Author.Needs.{needs}
 use borrow.Author.Tests.{not-false, not-true}
 use Rattle.planjudge.proofs.plan.in_order.Statement.{statement}
@@ -18,7 +18,7 @@ mod Places
 use Places.*
 
 abbrev Inv-loop : tie.InvT-loop
-Inv-loop targets deadlines calls n k₀ k = (k ≤ maxCalls) × ((m : ℕ) → m < k → SoonerIn targets deadlines (getD calls m 0) (getD calls (m + 1) 0))
+Inv-loop targets deadlines calls n k₀ k = (k ≤ maxCarts) × ((m : ℕ) → m < k → SoonerIn targets deadlines (getD calls m 0) (getD calls (m + 1) 0))
 
 abbrev μ-loop : tie.MeasureT-loop
 μ-loop targets deadlines calls n k₀ k = n - k

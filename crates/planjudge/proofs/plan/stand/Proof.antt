@@ -1,5 +1,5 @@
--- `stand` decides whether two paths share a cell at a step, and otherwise leaves in `on` who is on which. Invariant: `on` has the paths below k,
--- each on its own cell. The measure is the paths left. Assumes nothing.
+-- `stand` decides whether two carts share a cell at a step, and otherwise leaves in `on` whose line is on which. Invariant: `on` has the lines below k,
+-- each on its own cell. The measure is the lines left. Assumes nothing.
 use Rattle.planjudge.specs.PlanTests.{Standing, cellOf}
 use Prim.Native.Nat.{_-_, _≤_}
 use mathlib.Core.Path.{_≡_, _∙_, ap, subst}
@@ -8,7 +8,7 @@ use Rattle.job.proofs.Tested.{denied, told}
 use Rattle.planjudge.proofs.PlanSteps.{standing-unshared, standing-none, standing-taken, standing-left, standing-more}
 use mathlib.Core.Bool.{false≢true}
 use lib.ListN.{getD, length, length-set, set}
-use Rattle.model.specs.Limits.{maxCells, maxCalls}
+use Rattle.model.specs.Limits.{maxCells, maxCarts}
 use borrow.Author.Needs.{needs}
 use denote.Ref.{now}
 use mathlib.Core.Logic.{⊎-elim}
@@ -54,7 +54,7 @@ loop-again c =
     (λ w.
     let x : w .1 .result ≡ cellOf rows (l .k) (a .t) = w .1 .ensures .0 in
     let e : c .if1 .on ≡ set (l .on) (w .1 .result) (l .k) = w .4 in
-    let f : maxCalls ≤ getD (l .on) (w .1 .result) 0 = w .3 .left in
+    let f : maxCarts ≤ getD (l .on) (w .1 .result) 0 = w .3 .left in
     rw (e, x) (
       omega arith,
       length-set (l .on) (cellOf rows (l .k) (a .t)) (l .k) ∙ l .inv .1,

@@ -1,4 +1,4 @@
--- `trades` decides whether another path goes the other way. Only the path that stands where path k goes can, and `on` has its number.
+-- `trades` decides whether another cart goes the other way than that of line k. Only the one that stands where it goes can, and `on` has its line's number.
 -- Assumes nothing.
 use Prim.Native.Nat.{_+_}
 use mathlib.Core.Path.{_∙_, _≡_, ap, sym}
@@ -14,7 +14,7 @@ use Rattle.planjudge.proofs.plan.trades.Tie as tie
 mod Places
 use Places.*
 
--- the number that `on` has for the cell that path k goes to
+-- the number that `on` has for the cell that the cart of line k goes to
 seen : (c : tie.After-wide) → c .wide .result ≡ getD (now (wide→start c .args .on)) (cellOf (now (wide→start c .args .rows)) (wide→start c .args .k) (wide→start c .args .t + 1)) 0
 seen c = c .wide .ensures .0 ∙ ap (λ x. getD (now (wide→start c .args .on)) x 0) (wide→cell c .cell .ensures .0)
 

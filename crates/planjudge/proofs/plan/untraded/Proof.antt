@@ -1,4 +1,4 @@
--- `untraded` decides whether no path trades places from a step to the next. Invariant: none below k does. The measure is the paths left.
+-- `untraded` decides whether no cart trades places from a step to the next. Invariant: none of a line below k does. The measure is the lines left.
 -- Assumes nothing.
 use Rattle.planjudge.specs.PlanTests.{Trades}
 use Prim.Native.Nat.{_-_, _<_, _≤_, ℕ}

@@ -1,4 +1,4 @@
--- `walks` decides whether a path is a walk. Invariant: its steps below t are allowed. The measure is the steps left. Assumes nothing.
+-- `walks` decides whether a line is a walk. Invariant: its steps below t are allowed. The measure is the steps left. Assumes nothing.
 use Rattle.job.specs.Held.{Decides}
 use Rattle.planjudge.specs.PlanTests.{Allowed, cellOf}
 use Prim.Native.Nat.{_+_, _-_, _<_, _≤_, ℕ}
@@ -20,7 +20,7 @@ Inv-loop table shut rows k d t₀ t = (t ≤ d) × ((s : ℕ) → s < t → Allo
 abbrev μ-loop : tie.MeasureT-loop
 μ-loop table shut rows k d t₀ t = d - t
 
--- what `allowed` answers, by the path's cells
+-- what `allowed` answers, by the line's cells
 answer : (c : tie.After-allowed Inv-loop μ-loop) → let a = allowed→start c .args in let t = allowed→loop c .loop .t in
     Decides (c .allowed .result) (Allowed (now (a .table)) (now (a .shut)) t (cellOf (now (a .rows)) (a .k) t) (cellOf (now (a .rows)) (a .k) (t + 1)))
 answer c =
