@@ -3,22 +3,20 @@ use Prim.Native.Nat.{ℕ, zero, suc, _+_, _≤_, _<_}
 use mathlib.Core.Path.{_≡_, refl, sym, ap, _∙_}
 use mathlib.Core.List.{List, [], _∷_, _++_}
 use mathlib.Core.Option.{Option, none, some}
-use mathlib.Core.Bool.{Bool, true, false, cond, _&&_, false≢true}
-use native.Mathlib.Omega.{arith}
+use mathlib.Core.Bool.{Bool, true, false, cond, _&&_}
 use native.Mathlib.Numerals.{add-one}
 use lib.Dec.{ltb, leb, eqb}
 use lib.ListN.{length, getD, take, drop}
-use lib.Seq.{length-take-le}
-use borrow.Author.Tests.{ltb-true, lt-ltb, le-ltb, le-leb, lt-leb, eqb-true, eq-eqb, ne-eqb}
+use borrow.Author.Tests.{ltb-true, lt-ltb, le-ltb, le-leb, lt-leb, eq-eqb, ne-eqb}
 use Rattle.model.specs.Limits.{maxSteps}
-use Rattle.model.specs.Job.{Job, CallKind, lift, bay, callOf, horizon}
+use Rattle.model.specs.Job.{Job, callOf, horizon}
 use Rattle.model.specs.Bytes.{bytes}
 use Rattle.model.specs.Plan.{Path}
 use Rattle.model.specs.Choke.{point, cellStep, wholeCall}
 use Rattle.model.specs.Text.{Lines, more, numbersOf, opens, after, planWord, pathWord, cannotWord, chokeWord, wholeWord}
-use Rattle.model.specs.FirstBad.{restSays}
-use Rattle.model.specs.ReadSheet.{Sheet, bad, plan, cannot, allBelow, sizeFits, numbersAfter, pathOf, pathLine, pointOf, isLift, knownWhole, wholeOf, chokeLine, countSays, headSays}
-use Rattle.model.proofs.Basics.{nope, and-right}
+use Rattle.model.specs.FirstBad.{linesDue, restSays}
+use Rattle.model.specs.ReadSheet.{Sheet, bad, cannot, sizeFits, numbersAfter, pathOf, pathLine, sparesSay, pointOf, isLift, knownWhole, wholeOf, chokeLine, countSays, headSays}
+use Rattle.model.proofs.Basics.{nope}
 use Rattle.job.specs.Arrays.{callKind}
 use Rattle.text.specs.declared.scan.Scan.the-variants.{Value, Fault}
 use Rattle.sheet.specs.declared.PathLine.{PathLine}
@@ -28,6 +26,7 @@ use Rattle.sheet.specs.declared.ChokeLine.the-variants as C
 use Rattle.sheet.specs.declared.Head.{Head}
 use Rattle.sheet.specs.declared.Head.the-variants as H
 use Rattle.sheet.specs.Parts.{Found, numbersAt, onlyOf, hasTwo, behind, withTwo, cellsGiven, cellsRead, CallsTold, Tells, pathRead, PathKnown, chokeRead, headGoes, HeadKnown, cannotHead}
+use Rattle.sheet.proofs.Cells.{made, fitting, none-made, cells-say, no-cells, read-unfit, read-fits}
 use Rattle.sheet.proofs.Numbers.{past, numbers-cases, behind-more, behind-none, word-no-number}
 
 -- what f says where there are no two numbers
@@ -52,57 +51,13 @@ by-only f x g p q r s (some (n ∷ m ∷ ns)) = s n m ns
 
 -- A PATH line.
 abbrev onPath : ℕ → ℕ → Option (List ℕ) → Option Path
-onPath a b none = none
-onPath a b (some ws) = some (record { cart = a; call = b; cells = ws })
-
--- the cells, if they are as many as fit
-abbrev fitting : CallKind → ℕ → Option (List ℕ) → Option (List ℕ)
-fitting kind d none = none
-fitting kind d (some ws) = cond (sizeFits kind d (length ws)) (some ws) none
-
-fits-short : (k : CallKind) (d n : ℕ) → sizeFits k d n ≡ true → leb n (suc d) ≡ true
-fits-short lift d n e = and-right (ltb 0 n) (leb n (suc d)) e
-fits-short bay d n e = let h : n ≤ suc d = omega (arith, eqb-true n (suc d) e) in le-leb _ _ h
-
-none-unfit : (k : CallKind) (d : ℕ) → sizeFits k d 0 ≡ false
-none-unfit lift d = refl
-none-unfit bay d = let e : 0 ≡ suc d → ⊥ = λ q. omega arith in ne-eqb _ _ e
-
-no-cells : (k : CallKind) (limit d : ℕ) → fitting k d (cellsGiven limit (suc d) (some [])) ≡ none
-no-cells k limit d = let h : 0 ≤ suc d = omega arith in simp (le-leb _ _ h, none-unfit k d)
-
-module _ (k : CallKind) (d : ℕ) (row : List ℕ) where
-  some-read : (n : ℕ) → suc n ≤ length row → {x : Bool} → sizeFits k d (suc n) ≡ x → fitting k d (some (take (suc n) row)) ≡ cond x (some (take (suc n) row)) none
-  some-read n h e = rw (length-take-le (suc n) row h, e)
-
-  read-unfit : (r : ℕ) → r ≤ length row → sizeFits k d r ≡ false → fitting k d (cellsRead r (take r row)) ≡ none
-  read-unfit zero h e = refl
-  read-unfit (suc n) h e = some-read n h e
-
-  read-fits : (r : ℕ) → r ≤ length row → sizeFits k d r ≡ true → (last : ℕ) → r ≡ suc last → fitting k d (cellsRead r (take r row)) ≡ some (take (suc last) row)
-  read-fits zero h e last n = absurd (omega arith)
-  read-fits (suc m) h e last n = some-read m h e ∙ rw n
+onPath a b = made (λ ws. record { cart = a; call = b; cells = ws })
 
 path-says : (j : Job) (a b : ℕ) (o : Option (List ℕ)) → let q = callOf j b in
     pathOf j (withTwo a b o) ≡ cond (ltb a (length (j .carts)) && ltb b (length (j .calls))) (onPath a b (fitting (q .kind) (q .deadline) (cellsGiven (j .cells) (suc (q .deadline)) o))) none
-path-says j a b none = go (ltb a (length (j .carts)) && ltb b (length (j .calls)))
-  where
-    go : (t : Bool) → _≡_ {A = Option Path} none (cond t none none)
-    go true = refl
-    go false = refl
+path-says j a b none = none-made (ltb a (length (j .carts)) && ltb b (length (j .calls)))
 path-says j a b (some ws) =
-    go (ltb a (length (j .carts)) && ltb b (length (j .calls))) (callOf j b .kind) (callOf j b .deadline) (sizeFits (callOf j b .kind) (callOf j b .deadline) (length ws)) refl
-    (leb (length ws) (suc (callOf j b .deadline))) refl (allBelow (j .cells) ws)
-  where
-    go : (t : Bool) (k : CallKind) (d : ℕ) (x : Bool) → sizeFits k d (length ws) ≡ x → (y : Bool) → leb (length ws) (suc d) ≡ y → (z : Bool)
-        → cond (t && x && z) (some (record { cart = a; call = b; cells = ws })) none ≡ cond t (onPath a b (fitting k d (cond (y && z) (some ws) none))) none
-    go false k d x e y f z = refl
-    go true k d true e true f true = rw e
-    go true k d true e true f false = refl
-    go true k d true e false f z = absurd (false≢true (sym f ∙ fits-short k d (length ws) e))
-    go true k d false e true f true = rw e
-    go true k d false e true f false = refl
-    go true k d false e false f z = refl
+    cells-say (λ l. record { cart = a; call = b; cells = l }) (ltb a (length (j .carts)) && ltb b (length (j .calls))) (callOf j b .kind) (j .cells) (callOf j b .deadline) ws
 
 abbrev pub PathSaid : ℕ → ℕ → ℕ → List ℕ → List ℕ → List ℕ → List ℕ → PathLine → Type 0
 PathSaid cells carts calls kinds deadlines row l r = ((j : Job) → Tells j cells carts calls kinds deadlines → pathRead r row ≡ pathLine j l) × PathKnown carts calls r
@@ -243,11 +198,11 @@ head-unlike calls l e r q = (λ j ls n. ap (λ x. headGoes j x ls) q ∙ goes j 
     goes j ls n = rw (← n, e) (cannot-goes j ls (onlyOf (numbersAfter cannotWord l)) ∙ sym (count-only _ _ (numbersAfter cannotWord l)))
 
 module _ (l : List ℕ) (e : opens planWord l ≡ true) {m : Option ℕ} (only : m ≡ onlyOf (numbersAfter planWord l)) where
-  plan-says : (j : Job) (ls : Lines) → headSays j (more l ls) ≡ countOnly (λ n. eqb n (length (j .calls))) (λ n. restSays bad (pathLine j) plan [] n 2 ls) m
+  plan-says : (j : Job) (ls : Lines) → headSays j (more l ls) ≡ countOnly (λ n. eqb n (length (j .calls))) (λ n. linesDue bad (pathLine j) (sparesSay j) [] n 2 ls) m
   plan-says j ls =
       rw e
       (count-only _ _ (numbersAt l 5)
-      ∙ ap (countOnly (λ n. eqb n (length (j .calls))) (λ n. restSays bad (pathLine j) plan [] n 2 ls)) (sym (only ∙ ap onlyOf (past (planWord ++ (9 ∷ [])) l e))))
+      ∙ ap (countOnly (λ n. eqb n (length (j .calls))) (λ n. linesDue bad (pathLine j) (sparesSay j) [] n 2 ls)) (sym (only ∙ ap onlyOf (past (planWord ++ (9 ∷ [])) l e))))
 
   pub head-few : (calls : ℕ) → m ≡ none → HeadSaid calls l H.Bad
   head-few calls f = (λ j ls n. sym (plan-says j ls ∙ rw f), tt)

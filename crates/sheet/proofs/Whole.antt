@@ -1,5 +1,5 @@
 -- What the whole sheet says, by the end and the head of its first line and by what the lines after it say. Assumes nothing.
-use Prim.Native.Nat.{ℕ, _+_, _≤_, _<_}
+use Prim.Native.Nat.{ℕ, _+_, _-_, _≤_, _<_}
 use mathlib.Core.Path.{_≡_, refl, sym, ap, _∙_}
 use mathlib.Core.List.{List, []}
 use mathlib.Core.Bool.{Bool, true, false}
@@ -8,8 +8,9 @@ use lib.ListN.{length, drop}
 use borrow.Author.Tests.{ltb-true, ltb-false, eq-eqb, ne-eqb}
 use Rattle.model.specs.Job.{Job}
 use Rattle.model.specs.Text.{Lines, more, linesOf}
-use Rattle.model.specs.FirstBad.{restSays}
-use Rattle.model.specs.ReadSheet.{Sheet, bad, headSays, readSheet, pathLine, plan}
+use Rattle.model.specs.Plan.{Path, Ride}
+use Rattle.model.specs.FirstBad.{linesDue, restSays}
+use Rattle.model.specs.ReadSheet.{Sheet, bad, plan, headSays, readSheet, pathLine, spareLine, sparesSay}
 use Rattle.text.specs.Scan.{lineOf}
 use Rattle.text.proofs.LineLaws.{lines-done, next-cut, next-more}
 use Rattle.sheet.specs.declared.Head.{Head}
@@ -35,7 +36,17 @@ module _ (j : Job) (s : List ℕ) {line : List ℕ} {q : ℕ} (taken : (line ≡
   unfolding readSheet
   whole-head h head r said f = ap (λ x. headGoes j x (linesOf (drop q s))) (sym f) ∙ said (linesOf (drop q s)) ∙ ap (headSays j) (sym (next-more s 0 line q taken h))
 
--- The lines of a plan are as many as the job's calls, whatever x says of that number.
-pub plan-whole : (j : Job) (ls : Lines) {s : Sheet} (x : ℕ → Sheet) {n : ℕ} → length (j .calls) ≡ n → x n ≡ restSays bad (pathLine j) plan [] n 2 ls → headGoes j Plan ls ≡ s
-    → x (length (j .calls)) ≡ s
-plan-whole j ls x e f g = rw e (f ∙ rw e at g)
+-- The lines of a plan are as many as the job's calls and spare carts, whatever x says of those numbers.
+pub plan-whole : (j : Job) (ls : Lines) {s : Sheet} (x : ℕ → ℕ → Sheet) {n m : ℕ} → length (j .calls) ≡ n → length (j .carts) ≡ m
+    → x n m ≡ linesDue bad (pathLine j) (sparesSay j) [] n 2 ls → headGoes j Plan ls ≡ s → x (length (j .calls)) (length (j .carts)) ≡ s
+plan-whole j ls x e d f g = rw (e, d) (f ∙ rw e at g)
+
+-- A bad line among the paths is that of the sheet.
+pub paths-stop : (l : ℕ) {out : Sheet} (x y : Sheet) → (l ≡ 0 → ⊥) → unlessBad l y ≡ out → unlessBad l x ≡ out
+paths-stop l x y h e = sym (stops l x h) ∙ stops l y h ∙ e
+
+-- Where there is none, the sheet is what the SPARE lines say, as many as the job's carts without a call; they leave the paths as they are.
+pub spares-behind : (j : Job) {calls carts : ℕ} → length (j .calls) ≡ calls → length (j .carts) ≡ carts → (ps : List Path) {ps′ : List Path} → ps′ ≡ ps
+    → (ss : List Ride) (n : ℕ) (ls : Lines) (l m : ℕ) {out : Sheet} → unlessBad m (plan ps ss) ≡ restSays bad (spareLine j) (plan ps) [] (carts - calls) n ls
+    → l ≡ 0 → unlessBad l (sparesSay j ps n ls) ≡ out → unlessBad m (plan ps′ ss) ≡ out
+spares-behind j e d ps k ss n ls l m f h g = rw k (f ∙ rw (← e, ← d) (goes-on l (sparesSay j ps n ls) h ∙ g))

@@ -7,12 +7,12 @@ use mathlib.Core.Bool.{Bool, true, false, cond, _&&_}
 use lib.Dec.{ltb, leb, eqb}
 use lib.ListN.{length, getD, take, drop}
 use Rattle.model.specs.Limits.{maxSteps}
-use Rattle.model.specs.Job.{Job, callOf}
-use Rattle.model.specs.Plan.{Path}
+use Rattle.model.specs.Job.{Job, callOf, horizon}
+use Rattle.model.specs.Plan.{Path, Ride}
 use Rattle.model.specs.Choke.{Choke}
 use Rattle.model.specs.Text.{Lines, fieldsOf, andNumber, numbersOf, startsWith}
-use Rattle.model.specs.FirstBad.{restSays}
-use Rattle.model.specs.ReadSheet.{Sheet, bad, plan, cannot, allBelow, pathLine, chokeLine}
+use Rattle.model.specs.FirstBad.{linesDue, restSays}
+use Rattle.model.specs.ReadSheet.{Sheet, bad, cannot, allBelow, pathLine, sparesSay, chokeLine}
 use Rattle.text.specs.declared.scan.Scan.{Scan}
 use Rattle.text.specs.declared.scan.Scan.the-variants.{Value, Fault}
 use Rattle.text.specs.Scan.{numberAt}
@@ -22,6 +22,8 @@ use Rattle.sheet.specs.declared.Two.{Two}
 use Rattle.sheet.specs.declared.Two.the-variants as T
 use Rattle.sheet.specs.declared.PathLine.{PathLine}
 use Rattle.sheet.specs.declared.PathLine.the-variants as P
+use Rattle.sheet.specs.declared.SpareLine.{SpareLine}
+use Rattle.sheet.specs.declared.SpareLine.the-variants as S
 use Rattle.sheet.specs.declared.ChokeLine.{ChokeLine}
 use Rattle.sheet.specs.declared.ChokeLine.the-variants as C
 use Rattle.sheet.specs.declared.Head.{Head}
@@ -92,6 +94,12 @@ pub record Tells (j : Job) (cells carts calls : ℕ) (kinds deadlines : List ℕ
   pub calls-told : CallsTold j calls kinds
   pub deadlines-are : (k : ℕ) → k < calls → callOf j k .deadline ≡ getD deadlines k 0
 
+-- Those of the SPARE lines.
+pub record SparesTold (j : Job) (cells carts last : ℕ) : Type 0 where
+  pub cells-are : j .cells ≡ cells
+  pub carts-are : length (j .carts) ≡ carts
+  pub last-is : horizon j ≡ last
+
 abbrev pub pathRead : PathLine → List ℕ → Option Path
 pathRead P.Bad row = none
 pathRead (P.Good a b d) row = some (record { cart = a; call = b; cells = take (suc d) row })
@@ -100,6 +108,15 @@ abbrev pub PathKnown : ℕ → ℕ → PathLine → Type 0
 PathKnown carts calls P.Bad = Unit
 PathKnown carts calls (P.Good a b d) = (a < carts) × (b < calls) × (d < maxSteps)
 
+-- with as many cells as there are steps up to the last
+abbrev pub spareRead : ℕ → SpareLine → List ℕ → Option Ride
+spareRead last S.Bad row = none
+spareRead last (S.Good a) row = some (record { cart = a; cells = take (suc last) row })
+
+abbrev pub SpareKnown : ℕ → SpareLine → Type 0
+SpareKnown carts S.Bad = Unit
+SpareKnown carts (S.Good a) = a < carts
+
 abbrev pub chokeRead : ChokeLine → Option Choke
 chokeRead C.Bad = none
 chokeRead (C.Good kind a b) = some (chokeOf kind a b)
@@ -107,7 +124,7 @@ chokeRead (C.Good kind a b) = some (chokeOf kind a b)
 -- what the sheet is by its first line, with the rest of its lines
 abbrev pub headGoes : Job → Head → Lines → Sheet
 headGoes j H.Bad ls = bad 1
-headGoes j H.Plan ls = restSays bad (pathLine j) plan [] (length (j .calls)) 2 ls
+headGoes j H.Plan ls = linesDue bad (pathLine j) (sparesSay j) [] (length (j .calls)) 2 ls
 headGoes j (H.Cannot n) ls = restSays bad (chokeLine j) cannot [] n 2 ls
 
 abbrev pub HeadKnown : ℕ → Head → Type 0

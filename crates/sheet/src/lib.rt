@@ -1,4 +1,4 @@
-// Sheets, read: paths or choke points in the written form, or the first bad line.
+// Sheets, read: paths and the walks of spare carts, or choke points, in the written form, or the first bad line.
 use job::state::CELL;
 use job::state::Job;
 use job::state::LIFT;
@@ -7,20 +7,21 @@ use model::Limits;
 use model::bytes::wide;
 use text::scan::Scan;
 ghost use mathlib.Core.Path.{_≡_};
-ghost use mathlib.Core.List.{[]};
-ghost use Prim.Native.Nat.{_+_, _≤_, _<_};
+ghost use mathlib.Core.List.{List, []};
+ghost use Prim.Native.Nat.{ℕ, _+_, _-_, _*_, _≤_, _<_};
 ghost use lib.ListN.{length, take, drop};
 ghost use Rattle.model.specs.Limits.{maxCells, maxCarts, maxCalls, maxSteps};
 ghost use Rattle.model.specs.Job as model;
 ghost use Rattle.model.specs.Job.{horizon};
 ghost use Rattle.model.specs.Ready.{Ready};
 ghost use Rattle.model.specs.Text.{Lines, more, linesOf, cannotWord, wholeWord};
-ghost use Rattle.model.specs.FirstBad.{restSays};
-ghost use Rattle.model.specs.ReadSheet.{bad, plan, cannot, numbersAfter, sizeFits, headSays, pathLine, wholeOf, chokeLine, readSheet};
+ghost use Rattle.model.specs.Plan.{Path};
+ghost use Rattle.model.specs.FirstBad.{linesDue, restSays};
+ghost use Rattle.model.specs.ReadSheet.{Sheet, bad, plan, cannot, numbersAfter, sizeFits, headSays, pathLine, spareLine, sparesSay, wholeOf, chokeLine, readSheet};
 ghost use Rattle.job.specs.Arrays.{callKind, jobOf, Sized};
-ghost use Rattle.job.specs.Held.{Room, pathsTo, chokesTo};
+ghost use Rattle.job.specs.Held.{Room, pathsTo, sparesFrom, chokesTo};
 ghost use Rattle.sheet.specs.Form.{formOf, LineFits};
-ghost use Rattle.sheet.specs.Parts.{numbersAt, numbersPast, onlyOf, onlyRead, TwoPast, cellsGiven, cellsRead, CallsTold, Tells, pathRead, PathKnown, chokeRead, headGoes, HeadKnown, cannotHead, unlessBad};
+ghost use Rattle.sheet.specs.Parts.{numbersAt, numbersPast, onlyOf, onlyRead, TwoPast, cellsGiven, cellsRead, CallsTold, Tells, SparesTold, pathRead, PathKnown, spareRead, SpareKnown, chokeRead, headGoes, HeadKnown, cannotHead, unlessBad};
 
 // What a sheet is, by its form.
 pub enum Form {
@@ -46,6 +47,11 @@ enum PathLine {
         call: usize,
         last: usize,
     },
+}
+
+enum SpareLine {
+    Bad,
+    Good { cart: usize },
 }
 
 // A choke point by the bytes that hold it.
@@ -179,6 +185,30 @@ fn path_line<'a>(
     }
 }
 
+// A SPARE line: a cart, and the cells from step 0 to the latest. These go into row.
+fn spare_line(line: &[u8], cells: usize, carts: usize, latest: usize, row: &mut [u8]) -> SpareLine
+    requires { ⌜ (cells ≤ maxCells) × (latest < maxSteps) × (length (now row) ≡ maxSteps) ⌝ }
+    ensures { λ r. ⌜ ((j : model.Job) → SparesTold j cells carts latest → spareRead latest r (now (row .exit)) ≡ spareLine j (now (line .entry))) × SpareKnown carts r ⌝ }
+{
+    if !text::scan::opens_with(line, b"SPARE\t") {
+        return SpareLine::Bad;
+    }
+    // behind the word and its tab
+    let Scan::Value { value: cart, next } = text::scan::number(line, 6) else {
+        return SpareLine::Bad;
+    };
+    if carts <= cart {
+        return SpareLine::Bad;
+    }
+    if line.len() <= next {
+        return SpareLine::Bad;
+    }
+    if read_cells(line, next + 1, cells, latest + 1, row) != latest + 1 {
+        return SpareLine::Bad;
+    }
+    SpareLine::Good { cart }
+}
+
 // A CHOKE line with a whole call: one at a lift.
 fn whole_line(line: &[u8], calls: usize, kinds: &[u8; Limits::CALLS]) -> ChokeLine
     requires { ⌜ calls ≤ maxCalls ⌝ }
@@ -268,10 +298,11 @@ fn head_line(line: &[u8], calls: usize) -> Head
     Head::Plan
 }
 
-// The PATH lines from `at` on, one for each call: 0, or the number of the first bad line. The first line of them has the number 2.
+// The PATH lines from `at` on, one for each call: 0, or the number of the first bad line. The first line of them has the number 2. The place moves on
+// behind them.
 fn read_paths<'a>(
     sheet: &[u8],
-    at: usize,
+    at: &mut usize,
     cells: usize,
     carts: usize,
     calls: usize,
@@ -282,11 +313,11 @@ fn read_paths<'a>(
     lasts: &mut [u8],
     rows: &mut [u8],
 ) -> usize
-    requires { ⌜ (at ≤ length (now sheet)) × (cells ≤ maxCells) × (carts ≤ maxCarts) × (calls ≤ maxCalls) × Room (now first) (now second) (now lasts) (now rows) ⌝ }
-    ensures { λ r. ⌜ ((j : model.Job) → Tells j cells carts calls (now (kinds .entry)) (now (deadlines .entry)) → unlessBad r (plan (pathsTo (now (first .exit)) (now (second .exit)) (now (lasts .exit)) (now (rows .exit)) calls)) ≡ restSays bad (pathLine j) plan [] calls 2 (linesOf (drop at (now (sheet .entry))))) × Room (now (first .exit)) (now (second .exit)) (now (lasts .exit)) (now (rows .exit)) × (r ≤ maxCalls + 2) ⌝ }
+    requires { ⌜ (now at ≤ length (now sheet)) × (cells ≤ maxCells) × (carts ≤ maxCarts) × (calls ≤ maxCalls) × Room (now first) (now second) (now lasts) (now rows) ⌝ }
+    ensures { λ r. ⌜ ((j : model.Job) (on : List Path → ℕ → Lines → Sheet) → Tells j cells carts calls (now (kinds .entry)) (now (deadlines .entry)) → unlessBad r (on (pathsTo (now (first .exit)) (now (second .exit)) (now (lasts .exit)) (now (rows .exit)) calls) (calls + 2) (linesOf (drop (now (at .exit)) (now (sheet .entry))))) ≡ linesDue bad (pathLine j) on [] calls 2 (linesOf (drop (now (at .entry)) (now (sheet .entry))))) × Room (now (first .exit)) (now (second .exit)) (now (lasts .exit)) (now (rows .exit)) × (now (at .exit) ≤ length (now (sheet .entry))) × (r ≤ maxCalls + 2) ⌝ }
 {
     let mut k = 0;
-    let mut p = at;
+    let mut p = *at;
     while k < calls {
         let line = text::lines::next(sheet, &mut p);
         if sheet.len() < p {
@@ -310,10 +341,84 @@ fn read_paths<'a>(
         lasts[k] = last as u8;
         k += 1;
     }
+    *at = p;
+    0
+}
+
+// The SPARE lines from `at` on, one for each cart without a path, and no line after them, likewise. They go behind the paths, which stay as they are.
+fn read_spares(
+    sheet: &[u8],
+    at: usize,
+    cells: usize,
+    carts: usize,
+    calls: usize,
+    latest: usize,
+    first: &mut [u8],
+    lasts: &mut [u8],
+    rows: &mut [u8],
+) -> usize
+    requires { ⌜ (at ≤ length (now sheet)) × (cells ≤ maxCells) × (carts ≤ maxCarts) × (calls ≤ carts) × (latest < maxSteps) × (length (now first) ≡ maxCarts) × (length (now lasts) ≡ maxCarts) × (length (now rows) ≡ maxCarts * maxSteps) ⌝ }
+    ensures { λ r. ⌜ ((j : model.Job) (ps : List Path) → SparesTold j cells carts latest → unlessBad r (plan ps (sparesFrom (now (first .exit)) (now (lasts .exit)) (now (rows .exit)) calls (carts - calls))) ≡ restSays bad (spareLine j) (plan ps) [] (carts - calls) (calls + 2) (linesOf (drop at (now (sheet .entry))))) × ((second : List ℕ) → pathsTo (now (first .exit)) second (now (lasts .exit)) (now (rows .exit)) calls ≡ pathsTo (now (first .entry)) second (now (lasts .entry)) (now (rows .entry)) calls) × (r ≤ maxCarts + 2) ⌝ }
+{
+    let mut k = calls;
+    let mut p = at;
+    while k < carts {
+        let line = text::lines::next(sheet, &mut p);
+        if sheet.len() < p {
+            return k + 2;
+        }
+        let a = k * Limits::STEPS;
+        let e = a + Limits::STEPS;
+        let SpareLine::Good { cart } = spare_line(line, cells, carts, latest, &mut rows[a..e])
+        else {
+            return k + 2;
+        };
+        first[k] = cart as u8;
+        lasts[k] = latest as u8;
+        k += 1;
+    }
     if p < sheet.len() {
         return k + 2;
     }
     0
+}
+
+// The lines after PLAN, likewise: a PATH line for each call, and a SPARE line for each cart that is left.
+fn read_plan<'a>(
+    sheet: &[u8],
+    at: usize,
+    cells: usize,
+    carts: usize,
+    calls: usize,
+    latest: usize,
+    kinds: &'a [u8; Limits::CALLS],
+    deadlines: &'a [u8; Limits::CALLS],
+    first: &mut [u8],
+    second: &mut [u8],
+    lasts: &mut [u8],
+    rows: &mut [u8],
+) -> usize
+    requires { ⌜ (at ≤ length (now sheet)) × (cells ≤ maxCells) × (carts ≤ maxCarts) × (calls ≤ carts) × (latest < maxSteps) × Room (now first) (now second) (now lasts) (now rows) ⌝ }
+    ensures { λ r. ⌜ ((j : model.Job) → Tells j cells carts calls (now (kinds .entry)) (now (deadlines .entry)) → horizon j ≡ latest → unlessBad r (plan (pathsTo (now (first .exit)) (now (second .exit)) (now (lasts .exit)) (now (rows .exit)) calls) (sparesFrom (now (first .exit)) (now (lasts .exit)) (now (rows .exit)) calls (carts - calls))) ≡ linesDue bad (pathLine j) (sparesSay j) [] calls 2 (linesOf (drop at (now (sheet .entry))))) × Room (now (first .exit)) (now (second .exit)) (now (lasts .exit)) (now (rows .exit)) × (r ≤ maxCarts + 2) ⌝ }
+{
+    let mut p = at;
+    let line = read_paths(
+        sheet,
+        &mut p,
+        cells,
+        carts,
+        calls,
+        kinds,
+        deadlines,
+        first,
+        second,
+        lasts,
+        rows,
+    );
+    if line != 0 {
+        return line;
+    }
+    read_spares(sheet, p, cells, carts, calls, latest, first, lasts, rows)
 }
 
 // The CHOKE lines from `at` on, as many as count, likewise. The kind of each choke point goes into third.
@@ -358,8 +463,8 @@ fn read_chokes(
     0
 }
 
-// The first two numbers of each line go into first and second; of the k-th path, the last step into lasts and the cells into row k; of the k-th choke
-// point, the kind into lasts. Where the sheet is bad they hold anything.
+// The first two numbers of each line go into first and second, a spare cart having one; of the k-th path or spare cart, the last step goes into lasts and
+// the cells into row k; of the k-th choke point, the kind into lasts. Where the sheet is bad they hold anything.
 pub fn read_sheet(
     job: Job,
     sheet: &[u8],
@@ -379,17 +484,19 @@ pub fn read_sheet(
     let cells = job.cells;
     let calls = job.calls;
     let head = head_line(first_line, calls);
+    let latest = job::size::horizon(&job.deadlines, calls);
     match head {
         Head::Bad => {
             return Form::Bad { line: 1 };
         }
         Head::Plan => {
-            let line = read_paths(
+            let line = read_plan(
                 sheet,
                 at,
                 cells,
                 job.carts,
                 calls,
+                latest,
                 &job.kinds,
                 &job.deadlines,
                 first,
@@ -403,7 +510,6 @@ pub fn read_sheet(
             return Form::Plan;
         }
         Head::Cannot { points } => {
-            let latest = job::size::horizon(&job.deadlines, calls);
             let line = read_chokes(
                 sheet,
                 at,

@@ -5,12 +5,15 @@ use Rattle.model.specs.Job.{Job, horizon}
 use Prim.Native.Nat.{_-_, _≤_}
 use mathlib.Core.Path.{_∙_, _≡_, ap, sym}
 use native.Mathlib.Omega.{arith}
-use Rattle.model.specs.ReadSheet.{cannot, chokeLine}
+use Rattle.model.specs.ReadSheet.{bad, cannot, chokeLine}
 use Rattle.sheet.specs.Parts.{chokeRead, CallsTold}
-use lib.ListN.{length, length-set}
+use lib.ListN.{length, drop, length-set}
+use mathlib.Core.List.{[]}
+use Rattle.model.specs.Text.{linesOf}
+use Rattle.model.specs.FirstBad.{restSays}
 use Rattle.job.proofs.UpTo.{up-set}
 use Rattle.job.specs.Held.{chokeOf, chokesTo}
-use Rattle.sheet.proofs.Lines.{Left, left-all, turn-bad, turn-cut, turn-good, turns-done, turns-over}
+use Rattle.sheet.proofs.Lines.{Left, ends, left-all, turn-bad, turn-cut, turn-good, turns-done, turns-over}
 use borrow.Author.Needs.{needs}
 use Rattle.sheet.proofs.read_chokes.Statement.{statement}
 use Rattle.sheet.proofs.read_chokes.Tie as tie
@@ -20,7 +23,8 @@ use Places.*
 abbrev Inv-loop : tie.InvT-loop
 Inv-loop sheet at count cells latest calls kinds first₀ second₀ third₀ k₀ p₀ first second third k p =
     (k ≤ count) × (p ≤ length sheet) × (length first ≡ maxCalls) × (length second ≡ maxCalls) × (length third ≡ maxCalls)
-    × ((j : Job) → j .cells ≡ cells → horizon j ≡ latest → CallsTold j calls kinds → Left (chokeLine j) cannot sheet at count (chokesTo first second third k) p k)
+    × ((j : Job) → j .cells ≡ cells → horizon j ≡ latest → CallsTold j calls kinds
+    → Left (chokeLine j) (ends cannot) sheet count (restSays bad (chokeLine j) cannot [] count 2 (linesOf (drop at sheet))) (chokesTo first second third k) p k)
 
 abbrev μ-loop : tie.MeasureT-loop
 μ-loop sheet at count cells latest calls kinds first₀ second₀ third₀ k₀ p₀ first second third k p = count - k

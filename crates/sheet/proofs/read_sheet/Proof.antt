@@ -1,18 +1,20 @@
 -- `read_sheet` reads the first line, and the lines after it by what that says. The arrays of the job hold what its counts promise, so the functions
 -- that read lines are told the job's numbers. Assumes nothing.
-use Prim.Native.Nat.{_<_}
+use Prim.Native.Nat.{_-_, _≤_, _<_}
 use mathlib.Core.Path.{_∙_, _≡_, refl, sym, ap, subst}
 use native.Mathlib.Omega.{arith}
 use denote.Ref.{now}
 use lib.ListN.{length, drop}
-use Rattle.model.specs.Job.{Call}
+use Rattle.model.specs.Job.{Call, horizon}
 use Rattle.model.specs.Text.{linesOf}
 use Rattle.model.specs.ReadSheet.{cannot, plan, readSheet}
 use Rattle.job.specs.Arrays.{jobOf}
-use Rattle.job.specs.Held.{Room, pathsTo, chokesTo}
+use Rattle.job.specs.Held.{Room, pathsTo, sparesFrom, chokesTo}
 use Rattle.job.proofs.Arrays.{call-at, calls-count, carts-count, deadline-at, last-deadline}
 use Rattle.sheet.specs.declared.Head.{Head}
 use Rattle.sheet.specs.declared.Head.the-variants.{Bad, Plan}
+use Rattle.sheet.specs.declared.Form.the-variants as F
+use Rattle.sheet.specs.Form.{formOf}
 use Rattle.sheet.specs.Parts.{headGoes, unlessBad, HeadKnown, CallsTold}
 use Rattle.sheet.proofs.Whole.{goes-on, plan-whole, stops, whole-cut, whole-head}
 use borrow.Author.Needs.{needs}
@@ -41,21 +43,33 @@ said c r e =
 returns-2 : tie.Need-returns-2
 returns-2 c = (said (enum-told→head-line c) Bad (c .enum-told .given .1), enum-told→start c .pre .2, omega arith)
 
-plan-said : (c : tie.After-read-paths) → let j = jobOf (read-paths→start c .args .t1) in let l = c .read-paths .last .1 .1 .1 .1 .1 .1 .1 in
-    unlessBad (c .read-paths .result) (plan (pathsTo (l .0) (l .1 .0) (l .1 .1 .0) (l .1 .1 .1 .0) (length (j .calls)))) ≡ readSheet j (now (read-paths→start c .args .sheet))
+enough : (c : tie.Start) → c .args .t1 .calls ≤ c .args .t1 .carts
+enough c = omega (arith, c .pre .0 .enough, counted c, carts-count (c .args .t1))
+
+read-plan-requires : tie.Need-read-plan-requires
+read-plan-requires c κs =
+    let s = read-plan-arg6→start c in
+    (omega arith, s .pre .0 .fit .few-cells, s .pre .1 .carts, enough s, read-plan-arg6→horizon c .horizon .ensures .1, s .pre .2)
+
+-- the last step as the code found it
+last : (c : tie.After-horizon) → horizon (jobOf (horizon→start c .args .t1)) ≡ c .horizon .result
+last c = last-deadline (horizon→start c .args .t1) ∙ sym (c .horizon .ensures .0)
+
+plan-said : (c : tie.After-read-plan) → let j = jobOf (read-plan→start c .args .t1) in let l = c .read-plan .last .1 .1 .1 .1 .1 .1 .1 .1 in
+    unlessBad (c .read-plan .result) (formOf j F.Plan (l .0) (l .1 .0) (l .1 .1 .0) (l .1 .1 .1 .0)) ≡ readSheet j (now (read-plan→start c .args .sheet))
 plan-said c =
-    let s = read-paths→start c .args .t1 in
-    let n = counted (read-paths→start c) in
-    let l = c .read-paths .last .1 .1 .1 .1 .1 .1 .1 in
-    plan-whole (jobOf s) _ (λ m. unlessBad (c .read-paths .result) (plan (pathsTo (l .0) (l .1 .0) (l .1 .1 .0) (l .1 .1 .1 .0) m))) n
-    (c .read-paths .ensures .0 (jobOf s) (record { cells-are = refl; carts-are = carts-count s; calls-told = told (read-paths→start c); deadlines-are = deadline-at s }))
-    (said (read-paths→head-line c) Plan (read-paths→enum-told2 c .enum-told2 .given .1))
+    let s = read-plan→start c .args .t1 in
+    let l = c .read-plan .last .1 .1 .1 .1 .1 .1 .1 .1 in
+    plan-whole (jobOf s) _ (λ n m. unlessBad (c .read-plan .result) (plan (pathsTo (l .0) (l .1 .0) (l .1 .1 .0) (l .1 .1 .1 .0) n) (sparesFrom (l .0) (l .1 .1 .0) (l .1 .1 .1 .0) n (m - n))))
+    (counted (read-plan→start c)) (carts-count s)
+    (c .read-plan .ensures .0 (jobOf s) (record { cells-are = refl; carts-are = carts-count s; calls-told = told (read-plan→start c); deadlines-are = deadline-at s }) (last (read-plan→horizon c)))
+    (said (read-plan→head-line c) Plan (read-plan→enum-told2 c .enum-told2 .given .1))
 
 returns-3 : tie.Need-returns-3
-returns-3 c = (stops _ _ (c .if2 .taken) ∙ plan-said (then2→read-paths c), then2→read-paths c .read-paths .ensures .1, then2→read-paths c .read-paths .ensures .2)
+returns-3 c = (stops _ _ (c .if2 .taken) ∙ plan-said (then2→read-plan c), then2→read-plan c .read-plan .ensures .1, then2→read-plan c .read-plan .ensures .2)
 
 returns-4 : tie.Need-returns-4
-returns-4 c = (goes-on _ _ (c .if2 .left) ∙ plan-said (else2→read-paths c), else2→read-paths c .read-paths .ensures .1, tt)
+returns-4 c = (goes-on _ _ (c .if2 .left) ∙ plan-said (else2→read-plan c), else2→read-plan c .read-plan .ensures .1, tt)
 
 few : (c : tie.After-known-told) → known-told→head c .head .given .0 .0 < known-told→start c .args .t1 .calls
 few c = subst (HeadKnown (known-told→start c .args .t1 .calls)) (known-told→head c .head .given .1) (known-told→head-line c .head-line .ensures .1)
@@ -70,7 +84,7 @@ cannot-said : (c : tie.After-read-chokes) → let j = jobOf (read-chokes→start
     unlessBad (c .read-chokes .result) (cannot (chokesTo (l .0) (l .1 .0) (l .1 .1 .0) (read-chokes→head c .head .given .0 .0))) ≡ readSheet j (now (read-chokes→start c .args .sheet))
 cannot-said c =
     let s = read-chokes→start c .args .t1 in
-    c .read-chokes .ensures .0 (jobOf s) refl (last-deadline s ∙ sym (read-chokes→horizon c .horizon .ensures .0)) (told (read-chokes→start c))
+    c .read-chokes .ensures .0 (jobOf s) refl (last (read-chokes→horizon c)) (told (read-chokes→start c))
     ∙ said (read-chokes→head-line c) _ (read-chokes→head c .head .given .1)
 
 -- the three lists are as long as they were, and the rows are as they were
@@ -92,7 +106,7 @@ pub read-sheet-spec : {M : Type 1} → statement M
 read-sheet-spec =
     tie.close
     (tie.spec
-    (λ c κs. search needs) returns (λ c κs. search needs) (λ c. search needs) returns-2 (λ c. search needs) (λ c κs. search needs) (λ c. search needs) (λ c. search needs)
-    (λ c. search needs) (λ c. search needs) returns-3 (λ c. search needs) (λ c. search needs) (λ c. search needs) (λ c. search needs) returns-4 (λ c. search needs)
-    (λ c κs. search needs) read-chokes-requires (λ c. search needs) (λ c. search needs) (λ c. search needs) returns-5 (λ c. search needs) (λ c. search needs) (λ c. search needs)
+    (λ c κs. search needs) returns (λ c κs. search needs) (λ c κs. search needs) (λ c. search needs) returns-2 (λ c. search needs) read-plan-requires (λ c. search needs)
+    (λ c. search needs) (λ c. search needs) (λ c. search needs) returns-3 (λ c. search needs) (λ c. search needs) (λ c. search needs) (λ c. search needs) returns-4
+    (λ c. search needs) read-chokes-requires (λ c. search needs) (λ c. search needs) (λ c. search needs) returns-5 (λ c. search needs) (λ c. search needs) (λ c. search needs)
     returns-6)
