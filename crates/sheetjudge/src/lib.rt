@@ -1,4 +1,4 @@
-// A sheet judged: read, then its paths or choke points held against the job. It works in locals.
+// A sheet judged: read, then its paths and spare carts, or its choke points, held against the job. It works in locals.
 use job::state::Job;
 use model::Limits;
 use model::answer::Answer;
@@ -14,10 +14,10 @@ pub fn judge_sheet(job: Job, sheet: &[u8]) -> u64
     requires { ⌜ Ready (jobOf job) × Sized job ⌝ }
     ensures { λ r. ⌜ Judged (jobOf job) (readSheet (jobOf job) (now (sheet .entry))) r ⌝ }
 {
-    let mut first = [0u8; Limits::CALLS];
-    let mut second = [0u8; Limits::CALLS];
-    let mut lasts = [0u8; Limits::CALLS];
-    let mut rows = [0u8; Limits::CALLS * Limits::STEPS];
+    let mut first = [0u8; Limits::CARTS];
+    let mut second = [0u8; Limits::CARTS];
+    let mut lasts = [0u8; Limits::CARTS];
+    let mut rows = [0u8; Limits::CARTS * Limits::STEPS];
     let form = sheet::read_sheet(job, sheet, &mut first, &mut second, &mut lasts, &mut rows);
     match form {
         Form::Bad { line } => {

@@ -1,20 +1,20 @@
--- `judge_sheet` judges what the sheet is read as. A sheet that is read has known paths, or known choke points fewer than the calls, so the two tests may be
--- asked; each decides its case. Assumes nothing.
-use Prim.Native.Nat.{ℕ, _+_, _≤_}
+-- `judge_sheet` judges what the sheet is read as. A sheet that is read has known paths and spare carts, or known choke points fewer than the calls, so the two
+-- tests may be asked; each decides its case. Assumes nothing.
+use Prim.Native.Nat.{ℕ, _+_, _-_, _≤_}
 use mathlib.Core.Path.{_≡_, sym, ap, subst, _∙_}
 use mathlib.Core.List.{List}
 use mathlib.Core.Logic.{inl, inr}
 use native.Mathlib.Omega.{arith}
 use denote.Ref.{now}
 use lib.ListN.{length}
-use Rattle.model.specs.Limits.{maxCalls}
+use Rattle.model.specs.Limits.{maxCarts, maxCalls}
 use Rattle.model.specs.Job.{Job}
 use Rattle.model.specs.ReadSheet.{readSheet}
 use Rattle.model.specs.Contracts.{Judged}
 use Rattle.model.proofs.Floor.{test-choke}
 use Rattle.model.proofs.Read.{plan-back, cannot-back}
 use Rattle.job.specs.Arrays.{jobOf}
-use Rattle.job.specs.Held.{pathsTo, chokeAt, chokesTo}
+use Rattle.job.specs.Held.{pathsTo, sparesFrom, chokeAt, chokesTo}
 use Rattle.job.proofs.Arrays.{calls-count}
 use Rattle.job.proofs.UpTo.{up-count}
 use Rattle.sheet.specs.declared.Form.{Form}
@@ -64,7 +64,7 @@ module _ (c : tie.After-read-sheet) where
 packed-requires : tie.Need-packed-requires
 packed-requires c κs =
     let (f, e) = known-told→form c .form .given in
-    let h : f .0 ≤ maxCalls + 2 = fits (known-told→read-sheet c) (Bad (f .0)) e in
+    let h : f .0 ≤ maxCarts + 2 = fits (known-told→read-sheet c) (Bad (f .0)) e in
     omega (arith, h)
 
 returns : tie.Need-returns
@@ -73,8 +73,11 @@ returns c = let (f, e) = packed→form c .form .given in judged (packed→read-s
 is-plan-requires : tie.Need-is-plan-requires
 is-plan-requires c κs =
     let m = rows3→read-sheet c in
-    let back = plan-back (j m) (now (rows3→start c .args .sheet)) (pathsTo (first m) (second m) (lasts m) (rows m) (length (j m .calls))) (said m Plan (rows3→enum-told c .enum-told .given .1)) in
-    (rows3→start c .pre .0, rows3→start c .pre .1, m .read-sheet .ensures .1, back .2)
+    let n = length (j m .calls) in
+    let ps = pathsTo (first m) (second m) (lasts m) (rows m) n in
+    let ss = sparesFrom (first m) (lasts m) (rows m) n (length (j m .carts) - n) in
+    let back = plan-back (j m) (now (rows3→start c .args .sheet)) ps ss (said m Plan (rows3→enum-told c .enum-told .given .1)) in
+    (rows3→start c .pre .0, rows3→start c .pre .1, m .read-sheet .ensures .1, back .paths, back .spares)
 
 returns-2 : tie.Need-returns-2
 returns-2 c = judged (packed2→read-sheet c) Plan (packed2→enum-told c .enum-told .given .1) _ (inl (packed2→is-plan c .is-plan .ensures .0 (packed2→then1 c .if1 .taken), c .packed2 .ensures))
