@@ -8,10 +8,10 @@ use Rattle.model.specs.Choke.{point}
 use Rattle.floor.specs.Order.{Calls}
 use Rattle.network.specs.declared.planes.Grid.{Grid}
 use Rattle.network.specs.Graph.{nodeOf}
-use Rattle.network.specs.Holds.{Holds}
+use Rattle.network.specs.Store.{gridOf}
 use Rattle.network.proofs.Points.{point-eq}
 
-module _ {j : Job} {targets : List ℕ} {calls : ℕ} {grid : Grid} {s : List ℕ} (a : Calls j targets calls) (h : Holds j grid s) where
+module _ {j : Job} {targets : List ℕ} {calls : ℕ} {grid : Grid} (a : Calls j targets calls) (known : grid ≡ gridOf j) where
   -- The code has the call's number and cell in locals.
   pub node-read : {k q c : ℕ} → k < calls → q ≡ k → c ≡ getD targets q 0 → point c (grid .top) ≡ nodeOf j (callOf j k)
-  node-read {k} l e f = point-eq (f ∙ ap (λ i. getD targets i 0) e ∙ sym (a .cells k l)) (ap (λ g. g .top) (h .grid))
+  node-read {k} l e f = point-eq (f ∙ ap (λ i. getD targets i 0) e ∙ sym (a .cells k l)) (ap (λ g. g .top) known)

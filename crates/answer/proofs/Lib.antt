@@ -1,9 +1,15 @@
 pub mod Nodes
 pub mod Calls
 pub mod Rising
+pub mod SpareTurn
+pub mod SpareKeep
 pub mod PathLinks
+pub mod StayLinks
+pub mod StayRows
+pub mod SpareList
 pub mod PathTrail
 pub mod PathPlan
+pub mod SparePlan
 pub mod CutOrder
 pub mod CutInsert
 pub mod CutLine

@@ -13,7 +13,7 @@ use Rattle.network.specs.declared.planes.Grid.{Grid}
 use Rattle.network.specs.Graph.{top, Inside}
 use Rattle.network.specs.Store.{placeAt, usedAt, prevAt, cameFrom, isUsed}
 use Rattle.network.specs.Links.{backLink}
-use Rattle.network.specs.Holds.{Holds}
+use Rattle.network.specs.Keeping.{KeepsAll}
 use Rattle.network.specs.Stand.{otherBy, stoodBack}
 use Rattle.network.proofs.NodeBytes.{link-off, used-byte, used-known}
 use Rattle.network.proofs.Points.{point-cell, point-eq, to-eq}
@@ -24,36 +24,39 @@ use Rattle.answer.proofs.Nodes.{came-call, came-step, back-off, back-to
 
 -- The cart on v came from u. It stood if the other one came from v's cell, and else it went.
 module _ (back : Point → Link Point) (v u : Point) (e : back v ≡ to u) where
-  abbrev Comes : Type 0
+  abbrev pub Comes : Type 0
   Comes = back (point (u .cell) (v .step)) ≡ to (point (v .cell) (u .step))
 
-  stood : Comes → stoodBack back v ≡ to (point (v .cell) (u .step))
+  pub stood : Comes → stoodBack back v ≡ to (point (v .cell) (u .step))
   stood f = go (meets back v)
     where
       go : Meets back v → stoodBack back v ≡ to (point (v .cell) (u .step))
       go (trades w (g, h) q) = ap back (q ∙ point-eq (point-cell (to-eq (sym g ∙ e))) refl) ∙ f
       go (passes none q) = absurd (none u (e, f))
 
-  went : (Comes → ⊥) → stoodBack back v ≡ to u
+  pub went : (Comes → ⊥) → stoodBack back v ≡ to u
   went ne = go (meets back v)
     where
       go : Meets back v → stoodBack back v ≡ to u
       go (trades w (g, h) q) = let p : w ≡ u = to-eq (sym g ∙ e) in absurd (ne (rw p at h))
       go (passes none q) = ap back q ∙ e
 
-module _ {j : Job} {g : Grid} {s : List ℕ} (h : Holds j g s) (x : Point) (cart : HasCart j s x) where
+module _ {j : Job} {g : Grid} {s : List ℕ} (h : KeepsAll j g s) (x : Point) (cart : HasCart j s x) where
+  pub back-used : backLink j s x ≡ off → ⊥
+  back-used f = cart (ap (backLink j s) (ap (otherBy (backLink j s) x) f) ∙ f)
+
   used : isUsed j s x ≡ true
   used = go (isUsed j s x) refl
     where
       go : (b : Bool) → isUsed j s x ≡ b → b ≡ true
       go true e = refl
-      go false e = let f : backLink j s x ≡ off = link-off (isUsed j s x) _ e in absurd (cart (ap (backLink j s) (ap (otherBy (backLink j s) x) f) ∙ f))
+      go false e = absurd (back-used (link-off (isUsed j s x) _ e))
 
   pub cart-known : Inside j x
   cart-known = used-known j s x used
 
   came : 0 < x .step → backLink j s x ≡ to (cameFrom g s x)
-  came later = back-to h x cart-known (λ e. used-byte j s x used (rw (h .grid) at e)) (λ e. omega arith)
+  came later = back-to j (h .grid) s x cart-known (λ e. used-byte j s x used (rw (h .grid) at e)) (λ e. omega arith)
 
   abbrev last : g .top ≡ top j
   last = ap (λ g. g .top) (h .grid)
@@ -81,16 +84,16 @@ module _ {j : Job} {g : Grid} {s : List ℕ} (h : Holds j g s) (x : Point) (cart
     -- And where the node of that cell stands.
     module _ {w : ℕ} (there : w ≡ placeAt g other) where
       pub from-free : usedAt g s w ≡ 0 → CameFrom j s x a
-      from-free e = went (backLink j s) x before back (λ f. nope (cc (back-off h other (rw there at e))))
+      from-free e = went (backLink j s) x before back (λ f. nope (cc (back-off j (h .grid) s other (rw there at e))))
 
       module _ {b : ℕ} (says : b ≡ prevAt g s w) where
         other-came : cameFrom g s other ≡ point b (x .step - 1)
         other-came = came-step g s other there says (λ e. omega arith)
 
         pub from-other : (b ≡ x .cell → ⊥) → CameFrom j s x a
-        from-other ne = went (backLink j s) x before back (λ f. ne (point-cell (sym other-came ∙ back-of h other f)))
+        from-other ne = went (backLink j s) x before back (λ f. ne (point-cell (sym other-came ∙ back-of j (h .grid) s other f)))
 
         pub from-same : (usedAt g s w ≡ 0 → ⊥) → b ≡ x .cell → CameFrom j s x (x .cell)
         from-same u e =
             stood (backLink j s) x before back
-            (back-to h other other-known (λ z. u (rw there z)) (λ z. omega arith) ∙ ap to (other-came ∙ point-eq e refl))
+            (back-to j (h .grid) s other other-known (λ z. u (rw there z)) (λ z. omega arith) ∙ ap to (other-came ∙ point-eq e refl))

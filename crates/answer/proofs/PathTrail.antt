@@ -11,13 +11,13 @@ use Rattle.model.proofs.Basics.{nope}
 use Rattle.model.proofs.Decide.{dec-lt}
 use Rattle.flow.specs.Flow.{to}
 use Rattle.network.specs.declared.planes.Grid.{Grid}
-use Rattle.network.specs.Holds.{Holds}
+use Rattle.network.specs.Keeping.{KeepsAll}
 use Rattle.network.proofs.Points.{point-eq}
 use Rattle.network.proofs.Plans.{began}
 use Rattle.network.proofs.Calm.{stood-flow}
 use Rattle.answer.specs.Trail.{backFrom, HasCart, CameFrom, Trail}
 
-module _ {j : Job} {g : Grid} {s : List ℕ} (h : Holds j g s) (x : Point) where
+module _ {j : Job} {g : Grid} {s : List ℕ} (h : KeepsAll j g s) (x : Point) where
   pub cart-before : (c : ℕ) → CameFrom j s x c → HasCart j s (point c (x .step - 1))
   cart-before c e f = nope (cc (stood-flow (h .flow) .forth x (point c (x .step - 1)) e, stood-flow (h .flow) .off-prev (point c (x .step - 1)) f))
 

@@ -1,3 +1,4 @@
 pub mod Cut
-pub mod Full
 pub mod Trail
+pub mod Spares
+pub mod Full

@@ -10,17 +10,16 @@ ghost use mathlib.Core.Path.{_≡_};
 ghost use Prim.Native.Nat.{_<_};
 ghost use lib.ListN.{length};
 ghost use Rattle.model.specs.Job as model;
-ghost use Rattle.model.specs.Contracts.{RightPlan};
-ghost use Rattle.job.specs.Held.{Room, pathsTo};
+ghost use Rattle.job.specs.Held.{Room};
 ghost use Rattle.network.specs.Store.{asPoint};
-ghost use Rattle.network.specs.Holds.{Holds};
-ghost use Rattle.answer.specs.Full.{FullFlow};
+ghost use Rattle.network.specs.Keeping.{KeepsAll};
+ghost use Rattle.answer.specs.Full.{FullFlow, PathsTraced};
 ghost use Rattle.answer.specs.Trail.{HasCart, CameFrom, Trail};
 
 // The cell that the cart on the node, at a step after 0, came from. Two carts that would trade places both stand instead.
 fn came_from(store: &[u8], grid: Grid, node: Node) -> usize
-    requires { ⌜ ((j : model.Job) × Holds j grid (now store) × HasCart j (now store) (asPoint node)) × (0 < node .step) × (node .step < grid .top) ⌝ }
-    ensures { λ r. ⌜ ((j : model.Job) → Holds j grid (now (store .entry)) → HasCart j (now (store .entry)) (asPoint node) → CameFrom j (now (store .entry)) (asPoint node) r) ⌝ }
+    requires { ⌜ ((j : model.Job) × KeepsAll j grid (now store) × HasCart j (now store) (asPoint node)) × (0 < node .step) × (node .step < grid .top) ⌝ }
+    ensures { λ r. ⌜ ((j : model.Job) → KeepsAll j grid (now (store .entry)) → HasCart j (now (store .entry)) (asPoint node) → CameFrom j (now (store .entry)) (asPoint node) r) ⌝ }
 {
     let cell = node.cell;
     let step = node.step;
@@ -37,8 +36,8 @@ fn came_from(store: &[u8], grid: Grid, node: Node) -> usize
 
 // Follows the cart on the node back to step 0. Its cells go into the row, and the first of them is the answer.
 fn follow(store: &[u8], grid: Grid, row: &mut [u8], node: Node) -> usize
-    requires { ⌜ ((j : model.Job) × Holds j grid (now store) × HasCart j (now store) (asPoint node)) × (node .step < length (now row)) × (node .step < grid .top) ⌝ }
-    ensures { λ r. ⌜ ((j : model.Job) → Holds j grid (now (store .entry)) → HasCart j (now (store .entry)) (asPoint node) → Trail j (now (store .entry)) (asPoint node) (now (row .entry)) (now (row .exit)) r) ⌝ }
+    requires { ⌜ ((j : model.Job) × KeepsAll j grid (now store) × HasCart j (now store) (asPoint node)) × (node .step < length (now row)) × (node .step < grid .top) ⌝ }
+    ensures { λ r. ⌜ ((j : model.Job) → KeepsAll j grid (now (store .entry)) → HasCart j (now (store .entry)) (asPoint node) → Trail j (now (store .entry)) (asPoint node) (now (row .entry)) (now (row .exit)) r) ⌝ }
 {
     let cell = node.cell;
     let step = node.step;
@@ -71,7 +70,7 @@ pub fn write_paths(
     rows: &mut [u8],
 )
     requires { ⌜ ((j : model.Job) × FullFlow j (now targets) calls (now «cart_on») (now second) grid (now store)) × Room (now first) (now second) (now lasts) (now rows) ⌝ }
-    ensures { λ _. ⌜ Room (now (first .exit)) (now (second .entry)) (now (lasts .exit)) (now (rows .exit)) × ((j : model.Job) → FullFlow j (now (targets .entry)) calls (now («cart_on» .entry)) (now (second .entry)) grid (now (store .entry)) → RightPlan j (pathsTo (now (first .exit)) (now (second .entry)) (now (lasts .exit)) (now (rows .exit)) (length (j .calls)))) ⌝ }
+    ensures { λ _. ⌜ Room (now (first .exit)) (now (second .entry)) (now (lasts .exit)) (now (rows .exit)) × ((j : model.Job) → FullFlow j (now (targets .entry)) calls (now («cart_on» .entry)) (now (second .entry)) grid (now (store .entry)) → PathsTraced j (now (second .entry)) (now (store .entry)) (now (first .exit)) (now (lasts .exit)) (now (rows .exit)) calls) ⌝ }
 {
     let mut i = 0;
     while i < calls {

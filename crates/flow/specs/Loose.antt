@@ -1,7 +1,7 @@
 -- A graph with other starts; and a line that begins at a node of its own, a loose end, which is led on to a node before it.
 use mathlib.Core.Path.{_≡_}
 use mathlib.Core.Logic.{_⊎_}
-use Rattle.flow.specs.Flow.{Link, off, end, to, Graph, Flow}
+use Rattle.flow.specs.Flow.{Link, off, end, to, Graph}
 use Rattle.flow.specs.Update.{upd}
 
 abbrev pub startingAt : {N : Type 0} → Graph N → (N → Type 0) → Graph N

@@ -12,7 +12,6 @@ use Rattle.model.specs.declared.answer.Answer.the-variants as answer
 use Rattle.model.specs.Answers.{number}
 use Rattle.model.specs.Lists.{In}
 use Rattle.model.specs.Job.{Job}
-use Rattle.model.specs.Plan.{Path, Ride}
 use Rattle.model.specs.Choke.{Choke}
 use Rattle.model.specs.SheetText.{planText, cannotText}
 use Rattle.model.specs.ReadJob.{Verdict, refused, accepted, readJob}

@@ -4,7 +4,7 @@ use mathlib.Core.Path.{_≡_, refl, sym, ap, _∙_}
 use mathlib.Core.List.{List, [], _∷_, _++_, map, append-assoc, append-nil}
 use mathlib.Core.Option.{Option, none, some}
 use mathlib.Core.Bool.{Bool, true, false, cond, _&&_, false≢true}
-use mathlib.Core.Logic.{_⊎_, inl, inr, ⊎-elim}
+use mathlib.Core.Logic.{_⊎_, inl, inr}
 use native.Mathlib.Omega.{arith}
 use lib.Dec.{eqb, ltb, leb}
 use lib.ListN.{length, drop}
@@ -370,11 +370,11 @@ module _ (j : Job) where
       let (s, q₁, q₂) = lines-more b l ls q in
       let r = lines-back (pathLine j) (λ p. pathWord) pathNumbers (λ p. knownPath j p ≡ true) path-back (plan ps ss) not-bad (sparesSay j) [] n 2 ls s q₂ h in
       let (rs, c, w, t, z) = rest-back (spareLine j) (λ s. spareWord) spareNumbers (λ s. knownSpare j s ≡ true) spare-back (plan ps ss) not-bad (plan (r .l))
-          (length (j .carts) - length (j .calls)) (r .n) (r .ls) (r .s) (r .behind) (r .says) in
+      (length (j .carts) - length (j .calls)) (r .n) (r .ls) (r .s) (r .behind) (r .says) in
       let (x, y) = plan-same (r .l) ps rs ss z in
       let k : length ps ≡ n = ap length (sym x) ∙ r .size in
       let rest : s ≡ linesText (λ p. pathWord) pathNumbers ps ++ linesText (λ s. spareWord) spareNumbers ss =
-          r .text ∙ ap (λ v. linesText (λ p. pathWord) pathNumbers (r .l) ++ v) w ∙ (λ i. linesText (λ p. pathWord) pathNumbers (x i) ++ linesText (λ s. spareWord) spareNumbers (y i)) in
+      r .text ∙ ap (λ v. linesText (λ p. pathWord) pathNumbers (r .l) ++ v) w ∙ (λ i. linesText (λ p. pathWord) pathNumbers (x i) ++ linesText (λ s. spareWord) spareNumbers (y i)) in
       record {
         text = head-joined planWord b l s _ n q₁ (after-back planWord l (n ∷ []) f) rest
             ∙ ap (λ v. line planWord (v ∷ []) ++ (linesText (λ p. pathWord) pathNumbers ps ++ linesText (λ s. spareWord) spareNumbers ss)) (sym k);

@@ -123,7 +123,7 @@ module _ {A : Type 0} (say : List ℕ → Option A) (word numbers : A → List �
       let t = linesText word numbers l in
       let (m, e) = lines-read on (got ++ (a ∷ [])) l (n + 1) s (λ b i. g b (inr i)) in
       let first : linesOf ((line (word a) (numbers a) ++ t) ++ s) ≡ more (word a ++ fields (numbers a)) (linesOf (t ++ s)) =
-          ap linesOf (append-assoc (line (word a) (numbers a)) t s) ∙ line-read (word a) (numbers a) (t ++ s) (plain a) (small a (g a (inl refl))) in (
+      ap linesOf (append-assoc (line (word a) (numbers a)) t s) ∙ line-read (word a) (numbers a) (t ++ s) (plain a) (small a (g a (inl refl))) in (
         m,
         ap (linesDue bad say on got (suc (length l)) n) first
             ∙ ap (λ o. orBad bad n o (λ x. linesDue bad say on (got ++ (x ∷ [])) (length l) (n + 1) (linesOf (t ++ s)))) (said a (g a (inl refl)))

@@ -1,14 +1,13 @@
 -- Giving a cart that no call gets a line: it begins with the cart's node at step 0; its loose end is led on by standing, until it is at the last step, where a line may begin. The calls stay
 -- served all the while, and the bytes tell where each line goes on. Assumes nothing.
-use Prim.Native.Nat.{ℕ, zero, suc, _+_, _≤_, _<_}
+use Prim.Native.Nat.{ℕ, suc, _+_, _≤_, _<_}
 use mathlib.Core.Path.{_≡_, refl, sym, _∙_, ap}
 use mathlib.Core.List.{List}
-use mathlib.Core.Bool.{Bool, true, false, cond}
+use mathlib.Core.Bool.{Bool, true, false}
 use mathlib.Core.Logic.{_⊎_, inl, inr}
 use native.Mathlib.Omega.{arith}
 use lib.Dec.{eqb}
 use lib.ListN.{length, length-set}
-use borrow.Author.Tests.{eq-eqb, ne-eqb}
 use Rattle.model.specs.Lists.{In}
 use Rattle.model.specs.Job.{Job, Call, horizon}
 use Rattle.model.specs.Choke.{Point, point}
@@ -21,7 +20,7 @@ use Rattle.flow.proofs.Update.{Upd, changed, kept, look}
 use Rattle.flow.proofs.Loose.{restarted, led-on, laid-open}
 use Rattle.network.specs.declared.planes.Grid.{Grid}
 use Rattle.network.specs.Graph.{top, Inside, nodeOf, graphFrom}
-use Rattle.network.specs.Store.{gridOf, idx, placeAt, usedAt, nextAt, leadsTo, cameFrom, meets, withUsed, isUsed, Spacious}
+use Rattle.network.specs.Store.{gridOf, idx, placeAt, usedAt, nextAt, leadsTo, cameFrom, meets, withUsed, isUsed, Spacious, Within}
 use Rattle.network.specs.Links.{backLink, onLink}
 use Rattle.network.specs.Holds.{Holds}
 use Rattle.network.specs.Keeping.{Begins, Keeps, KeepsAll, LooseAt, SameStarts}
@@ -32,6 +31,9 @@ use Rattle.network.proofs.PlaneLaws.{set-here, kept-plane}
 use Rattle.network.proofs.ChokeTargets.{edge-inside-before}
 use Rattle.network.proofs.StandsFlow.{can-stand}
 use Rattle.network.proofs.StandBytes.{Stood, back-stood}
+
+pub keeps-within : {j : Job} {g : Grid} {s : List ℕ} {S : Point → Type 0} → Keeps j g s S → {x : Point} → Inside j x → Within g s (placeAt g x)
+keeps-within {j} k i = (k .room, rw (k .grid) (idx-below j i))
 
 -- The flow that the searches leave.
 module _ {j : Job} {g : Grid} {s : List ℕ} (h : Holds j g s) (full : (q : Call) → In q (j .calls) → onLink j s (nodeOf j q) ≡ end) where

@@ -8,7 +8,7 @@ use Rattle.model.specs.Choke.{Point}
 use Rattle.network.specs.Store.{spot, at, markAt, usedAt, nextAt, prevAt, cellAt, stepAt, viaAt, withMark, withUsed, withNext, withPrev, withEntry, Spacious}
 use Rattle.network.specs.Holds.{SameFlow}
 use Rattle.network.specs.declared.planes.Grid.{Grid}
-use Rattle.network.proofs.Points.{point-eq, point-cell, point-step}
+use Rattle.network.proofs.Points.{point-eq}
 use Rattle.network.proofs.StoreBytes.{at-same, at-other, row-below}
 
 -- What k places have is the same; or it differs at most at v, where it is b now.

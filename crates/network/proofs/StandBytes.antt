@@ -1,12 +1,12 @@
 -- What is written where a cart stands, and the links that are read then: those of the node that it stands on at the next step lead to the one before it, and all others stay. Assumes nothing.
-use Prim.Native.Nat.{ℕ, suc, _+_, _≤_, _<_}
+use Prim.Native.Nat.{ℕ, suc, _≤_, _<_}
 use mathlib.Core.Path.{_≡_, refl, sym, _∙_, ap}
 use mathlib.Core.List.{List}
-use mathlib.Core.Bool.{Bool, true, false}
+use mathlib.Core.Bool.{true, false}
 use native.Mathlib.Omega.{arith}
 use lib.Dec.{eqb}
 use lib.ListN.{length, length-set}
-use borrow.Author.Tests.{eq-eqb, ne-eqb}
+use borrow.Author.Tests.{ne-eqb}
 use Rattle.model.specs.Job.{Job, horizon}
 use Rattle.model.specs.Choke.{Point, point}
 use Rattle.flow.specs.Flow.{to}
@@ -14,7 +14,7 @@ use Rattle.flow.specs.Update.{upd}
 use Rattle.flow.proofs.Update.{Upd, changed, kept, look}
 use Rattle.network.specs.declared.planes.Grid.{Grid}
 use Rattle.network.specs.Graph.{top, Inside}
-use Rattle.network.specs.Store.{gridOf, idx, placeIn, at, usedAt, nextAt, prevAt, cameFrom, withUsed, withNext, withPrev, Spacious, isUsed}
+use Rattle.network.specs.Store.{gridOf, idx, usedAt, nextAt, prevAt, cameFrom, withUsed, withNext, withPrev, Spacious, isUsed}
 use Rattle.network.specs.Links.{backLink}
 use Rattle.network.proofs.Points.{point-eq, dec-point}
 use Rattle.network.proofs.StoreBytes.{idx-below, idx-one}

@@ -1,12 +1,11 @@
 -- A cart whose line ends at a step before the last can stand there: its cell is open at the next step, since a bay on it whose step has come was met by another cart at this very node, or
 -- closed the cell before. So its line can be led on to its own cell, and the one that was to come there, if any, has the loose end then. Assumes nothing.
 use Prim.Native.Nat.{ℕ, suc, _≤_, _<_}
-use mathlib.Core.Path.{_≡_, refl, sym, _∙_, ap, subst}
-use mathlib.Core.Bool.{true}
-use mathlib.Core.Logic.{_⊎_, inl, inr}
+use mathlib.Core.Path.{_≡_, refl, ap}
+use mathlib.Core.Logic.{inl, inr}
 use native.Mathlib.Omega.{arith}
 use Rattle.model.specs.Lists.{In}
-use Rattle.model.specs.Job.{Job, Call, CallKind, bay, horizon}
+use Rattle.model.specs.Job.{Job, Call, bay, horizon}
 use Rattle.model.specs.Walk.{Open, InTime}
 use Rattle.model.specs.Choke.{Point, point}
 use Rattle.model.specs.Ready.{Fit}
@@ -14,7 +13,7 @@ use Rattle.model.proofs.Basics.{nope}
 use Rattle.model.proofs.Decide.{dec-lt}
 use Rattle.flow.specs.Flow.{Link, off, end, to, Flow}
 use Rattle.network.specs.Graph.{nodeOf, Edge, graphFrom}
-use Rattle.network.proofs.Points.{point-cell, point-step, point-eq}
+use Rattle.network.proofs.Points.{point-eq}
 use Rattle.network.proofs.ChokeTargets.{edge-earlier, met-at}
 
 module _ {j : Job} (fit : Fit j) {S : Point → Type 0} {back on : Point → Link Point} (ok : Flow (graphFrom j S) back on)

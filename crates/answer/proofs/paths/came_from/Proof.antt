@@ -4,8 +4,8 @@ use denote.Ref.{now}
 use Rattle.model.specs.Job.{Job}
 use Rattle.model.specs.Choke.{point}
 use Rattle.network.specs.Graph.{Inside}
-use Rattle.network.specs.Holds.{Holds}
-use Rattle.network.proofs.HoldsLaws.{within}
+use Rattle.network.specs.Keeping.{KeepsAll}
+use Rattle.network.proofs.KeepLaws.{keeps-within}
 use Rattle.answer.proofs.PathLinks.{cart-known, other-known, from-free, from-other, from-same}
 use Rattle.answer.proofs.paths.came_from.Statement.{statement}
 use Rattle.answer.proofs.paths.came_from.Tie as tie
@@ -13,20 +13,20 @@ mod Places
 use Places.*
 
 place-requires : tie.Need-place-requires
-place-requires c κs = let (j, h, k) = shared-slice-known→start c .pre .0 in within h (cart-known h _ k) .1
+place-requires c κs = let (j, h, k) = shared-slice-known→start c .pre .0 in keeps-within h (cart-known h _ k) .1
 
 prev-requires : tie.Need-prev-requires
-prev-requires c κs = let (j, h, k) = place→start c .pre .0 in rw (c .place .ensures) (within h (cart-known h _ k))
+prev-requires c κs = let (j, h, k) = place→start c .pre .0 in rw (c .place .ensures) (keeps-within h (cart-known h _ k))
 
 -- The node of the cell that the flow tells.
-other : (c : tie.After-prev) → (j : Job) × Holds j (prev→start c .args .grid) (now (prev→start c .args .store)) × Inside j (point (c .prev .result) (prev→start c .args .node .step))
+other : (c : tie.After-prev) → (j : Job) × KeepsAll j (prev→start c .args .grid) (now (prev→start c .args .store)) × Inside j (point (c .prev .result) (prev→start c .args .node .step))
 other c = let (j, h, k) = prev→start c .pre .0 in (j, h, other-known h _ k (prev→start c .pre .1) (prev→start c .pre .2) (prev→place c .place .ensures) (c .prev .ensures .0))
 
 place-requires-2 : tie.Need-place-requires-2
-place-requires-2 c κs = let (j, h, k) = other c in within h k .1
+place-requires-2 c κs = let (j, h, k) = other c in keeps-within h k .1
 
 used-requires : tie.Need-used-requires
-used-requires c κs = let (j, h, k) = other (place2→prev c) in rw (c .place2 .ensures) (within h k)
+used-requires c κs = let (j, h, k) = other (place2→prev c) in rw (c .place2 .ensures) (keeps-within h k)
 
 returns : tie.Need-returns
 returns c = λ j h k.
@@ -34,7 +34,7 @@ returns c = λ j h k.
     (sym (then1→used c .used .ensures .0) ∙ c .if1 .taken)
 
 prev-requires-2 : tie.Need-prev-requires-2
-prev-requires-2 c κs = let (j, h, k) = other (else1→prev c) in rw (else1→place2 c .place2 .ensures) (within h k)
+prev-requires-2 c κs = let (j, h, k) = other (else1→prev c) in rw (else1→place2 c .place2 .ensures) (keeps-within h k)
 
 returns-2 : tie.Need-returns-2
 returns-2 c = λ j h k.

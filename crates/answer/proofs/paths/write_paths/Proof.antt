@@ -1,12 +1,12 @@
 -- The calls are taken in the order of the sheet. The invariant: the paths so far are traced, for every job that the arrays and the store are of;
 -- the contract says that there is one, which keeps the indices in range. The measure is the number of calls left. Assumes nothing.
 use mathlib.Core.Path.{sym}
-use Rattle.answer.specs.Full.{FullFlow}
+use Rattle.answer.specs.Full.{FullFlow, PathsTraced}
 use Rattle.answer.specs.Trail.{HasCart}
 use Rattle.model.specs.Job.{Job}
 use Rattle.job.specs.Held.{Room}
-use Rattle.network.proofs.HoldsLaws.{within}
-use Rattle.answer.proofs.PathPlan.{PathsTraced, call-known, node-known, can-follow, below-top, few, has-cart, right-plan, row-long, traced-more, traced-none}
+use Rattle.network.proofs.KeepLaws.{keeps-within}
+use Rattle.answer.proofs.PathPlan.{call-known, node-known, can-follow, below-top, few, has-cart, row-long, traced-all, traced-more, traced-none}
 use Prim.Native.Nat.{_-_, _<_, _≤_}
 use native.Mathlib.Nat.{le-of-eq, lt-of-lt-of-le}
 use native.Mathlib.Omega.{arith}
@@ -41,12 +41,12 @@ element-copy-out-wide c = let g = wide→start c .pre .0 .1 in omega (arith, cal
 place-requires : tie.Need-place-requires Inv-loop μ-loop
 place-requires c κs =
     let (j, g) = wide2→start c .pre .0 in
-    within (g .holds) (node-known g (wide2→in-loop c .loop-test .taken) (wide2→wide c .wide .ensures .0) (c .wide2 .ensures .0)) .1
+    keeps-within (g .kept .keeps) (node-known g (wide2→in-loop c .loop-test .taken) (wide2→wide c .wide .ensures .0) (c .wide2 .ensures .0)) .1
 
 prev-requires : tie.Need-prev-requires Inv-loop μ-loop
 prev-requires c κs =
     let (j, g) = place→start c .pre .0 in
-    rw (c .place .ensures) (within (g .holds) (node-known g (place→in-loop c .loop-test .taken) (place→wide c .wide .ensures .0) (place→wide2 c .wide2 .ensures .0)))
+    rw (c .place .ensures) (keeps-within (g .kept .keeps) (node-known g (place→in-loop c .loop-test .taken) (place→wide c .wide .ensures .0) (place→wide2 c .wide2 .ensures .0)))
 
 -- The node where it is met can be followed.
 follows : (c : tie.After-prev Inv-loop μ-loop) (j : Job) → Full (prev→start c) j → HasCart j (now (prev→start c .args .store)) (point (prev→wide2 c .wide2 .result) (c .prev .result))
@@ -55,7 +55,7 @@ follows c j g = can-follow g (prev→in-loop c .loop-test .taken) (prev→wide c
 follow-requires : tie.Need-follow-requires Inv-loop μ-loop
 follow-requires c κs =
     let (j, g) = follow-arg→start c .pre .0 in (
-      (j, g .holds, follows (follow-arg→prev c) j g),
+      (j, g .kept .keeps, follows (follow-arg→prev c) j g),
       lt-of-lt-of-le (follow-arg→prev c .prev .ensures .1) (le-of-eq (sym (row-long (follow-arg→loop c .loop .inv .2) (lt-of-lt-of-le (follow-arg→in-loop c .loop-test .taken) (few g))))),
       below-top g (follow-arg→in-loop c .loop-test .taken) (follow-arg→wide c .wide .ensures .0) (follow-arg→wide2 c .wide2 .ensures .0) (follow-arg→place c .place .ensures)
           (follow-arg→prev c .prev .ensures .0),
@@ -66,7 +66,7 @@ carted : (c : tie.After-follow Inv-loop μ-loop) → (c .follow .result < maxCel
 carted c =
     let (j, g) = follow→start c .pre .0 in
     has-cart g (follow→in-loop c .loop-test .taken) (follow→wide c .wide .ensures .0) (follow→wide2 c .wide2 .ensures .0) (follow→place c .place .ensures) (follow→prev c .prev .ensures .0)
-    (c .follow .ensures j (g .holds) (follows (follow→prev c) j g))
+    (c .follow .ensures j (g .kept .keeps) (follows (follow→prev c) j g))
 
 shared-slice-read-first : tie.Need-shared-slice-read-first Inv-loop μ-loop
 shared-slice-read-first c = omega (arith, shared-slice-known5→start c .pre .0 .1 .carts .size, carted (shared-slice-known5→follow c))
@@ -88,12 +88,12 @@ loop-again c =
     let (j, g) = shared-slice-known5→start c .pre .0 in (
       omega arith,
       i .1,
-      traced-more g l e f v d (back j (g .holds) (can j g)) (i .3 j g) same .room,
-      λ j g. traced-more g l e f v d (back j (g .holds) (can j g)) (i .3 j g) same,
+      traced-more g l e f v d (back j (g .kept .keeps) (can j g)) (i .3 j g) same .room,
+      λ j g. traced-more g l e f v d (back j (g .kept .keeps) (can j g)) (i .3 j g) same,
     )
 
 returns : tie.Need-returns Inv-loop μ-loop
-returns c = (after-loop→loop c .loop .inv .2, λ j g. right-plan g (omega arith) (after-loop→loop c .loop .inv .3 j g))
+returns c = (after-loop→loop c .loop .inv .2, λ j g. traced-all (omega arith) (after-loop→loop c .loop .inv .3 j g))
 
 pub write-paths-spec : {M : Type 1} → statement M
 write-paths-spec =
