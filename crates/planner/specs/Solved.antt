@@ -1,5 +1,5 @@
 -- What the planner's calls are served from, what that leaves, and what the planner answers.
-use Prim.Native.Nat.{ℕ}
+use Prim.Native.Nat.{ℕ, _-_}
 use mathlib.Core.Path.{_≡_}
 use mathlib.Core.List.{List}
 use lib.ListN.{length}
@@ -8,7 +8,7 @@ use Rattle.model.specs.Job.{Job, Call}
 use Rattle.model.specs.Ready.{Ready}
 use Rattle.model.specs.Choke.{Point}
 use Rattle.model.specs.Contracts.{RightPlan, RightChokes}
-use Rattle.job.specs.Held.{pathsTo, chokesTo}
+use Rattle.job.specs.Held.{pathsTo, sparesFrom, chokesTo}
 use Rattle.floor.specs.Tables.{CartOn, Tables}
 use Rattle.floor.specs.Order.{Calls, Order}
 use Rattle.flow.specs.Flow.{end}
@@ -53,7 +53,19 @@ pub record Finished (j : Job) (cartOn order : List ℕ) (g : Grid) (s : List ℕ
   pub holds : Holds j g s
   pub served : ServedAll j s r
 
--- A plan in the written order, or a true choke list in the written order.
+-- Every call was.
+pub record AllServed (j : Job) (cartOn order : List ℕ) (g : Grid) (s : List ℕ) : Type 0 where
+  pub carts : CartOn j cartOn
+  pub ordered : Order j order
+  pub holds : Holds j g s
+  pub full : (q : Call) → In q (j .calls) → onLink j s (nodeOf j q) ≡ end
+
+-- A plan in the written order: paths for the calls, and behind them the walks of the carts that are left.
+abbrev pub PlanHeld : Job → List ℕ → List ℕ → List ℕ → List ℕ → Type 0
+PlanHeld j first second lasts rows =
+    RightPlan j (pathsTo first second lasts rows (length (j .calls))) (sparesFrom first lasts rows (length (j .calls)) (length (j .carts) - length (j .calls)))
+
+-- That, or a true choke list in the written order.
 abbrev pub Solved : Job → Solution → List ℕ → List ℕ → List ℕ → List ℕ → Type 0
-Solved j Plan first second lasts rows = RightPlan j (pathsTo first second lasts rows (length (j .calls)))
+Solved j Plan first second lasts rows = PlanHeld j first second lasts rows
 Solved j (Cannot n) first second lasts rows = RightChokes j (chokesTo first second lasts n)

@@ -18,10 +18,10 @@ pub fn plan_job(job: Job, store: &mut [u8], sheet: &mut [u8]) -> u64
     requires { ⌜ Ready (jobOf job) × Sized job × (storeLeast (jobOf job) ≤ length (now store)) × (sheetLeast (jobOf job) ≤ length (now sheet)) ⌝ }
     ensures { λ r. ⌜ (length (now (store .exit)) ≡ length (now (store .entry))) × Written (jobOf job) (now (sheet .entry)) (now (sheet .exit)) r ⌝ }
 {
-    let mut first = [0u8; Limits::CALLS];
-    let mut second = [0u8; Limits::CALLS];
-    let mut lasts = [0u8; Limits::CALLS];
-    let mut rows = [0u8; Limits::CALLS * Limits::STEPS];
+    let mut first = [0u8; Limits::CARTS];
+    let mut second = [0u8; Limits::CARTS];
+    let mut lasts = [0u8; Limits::CARTS];
+    let mut rows = [0u8; Limits::CARTS * Limits::STEPS];
     let solution = solve(job, store, &mut first, &mut second, &mut lasts, &mut rows);
     match solution {
         Solution::Plan => {

@@ -17,7 +17,7 @@ ghost use Rattle.job.specs.Arrays.{jobOf, Sized};
 ghost use Rattle.job.specs.Held.{Room};
 ghost use Rattle.floor.specs.Tables.{nearSize, Tables};
 ghost use Rattle.network.specs.Holds.{Holds};
-ghost use Rattle.planner.specs.Solved.{Wiped, Begun, ServedAll, Finished, Solved};
+ghost use Rattle.planner.specs.Solved.{Wiped, Begun, ServedAll, Finished, AllServed, PlanHeld, Solved};
 
 // A plan, or how many choke points show that there is none.
 pub enum Solution {
@@ -118,12 +118,50 @@ fn serve_job(job: Job, cart_on: &mut [u8], order: &[u8], store: &mut [u8], grid:
     )
 }
 
-// The numbers of each PATH or CHOKE line go into first and second, the last step of the i-th path or the kind of the i-th choke point into lasts, the path's cells into row i.
-// The calls in their order stand in second.
+// Every call is served: the carts that are left are given lines too, and then paths and walks are read off the flow. The calls in their order stand in second.
+fn write_plan(
+    job: Job,
+    cart_on: &[u8],
+    store: &mut [u8],
+    grid: Grid,
+    first: &mut [u8],
+    second: &[u8],
+    lasts: &mut [u8],
+    rows: &mut [u8],
+)
+    requires { ⌜ Sized job × AllServed (jobOf job) (now «cart_on») (now second) grid (now store) × Room (now first) (now second) (now lasts) (now rows) ⌝ }
+    ensures { λ _. ⌜ (length (now (store .exit)) ≡ length (now (store .entry))) × Room (now (first .exit)) (now (second .entry)) (now (lasts .exit)) (now (rows .exit)) × PlanHeld (jobOf job) (now (first .exit)) (now (second .entry)) (now (lasts .exit)) (now (rows .exit)) ⌝ }
+{
+    answer::spares::keep_spares(&job.starts, job.carts, store, grid);
+    answer::paths::write_paths(
+        &job.targets,
+        job.calls,
+        cart_on,
+        store,
+        grid,
+        first,
+        second,
+        lasts,
+        rows,
+    );
+    answer::staying::write_spares(
+        &job.starts,
+        job.carts,
+        job.calls,
+        store,
+        grid,
+        first,
+        lasts,
+        rows,
+    );
+}
+
+// The numbers of each PATH or CHOKE line go into first and second, the last step of the i-th line or the kind of the i-th choke point into lasts, a path's cells into row i; those of
+// SPARE lines likewise, behind the paths'. The calls in their order stand in second.
 fn write_answer(
     job: Job,
     cart_on: &[u8],
-    store: &[u8],
+    store: &mut [u8],
     grid: Grid,
     served: Served,
     first: &mut [u8],
@@ -132,20 +170,10 @@ fn write_answer(
     rows: &mut [u8],
 ) -> Solution
     requires { ⌜ Sized job × Finished (jobOf job) (now «cart_on») (now second) grid (now store) served × Room (now first) (now second) (now lasts) (now rows) ⌝ }
-    ensures { λ r. ⌜ Room (now (first .exit)) (now (second .exit)) (now (lasts .exit)) (now (rows .exit)) × Solved (jobOf job) r (now (first .exit)) (now (second .exit)) (now (lasts .exit)) (now (rows .exit)) ⌝ }
+    ensures { λ r. ⌜ (length (now (store .exit)) ≡ length (now (store .entry))) × Room (now (first .exit)) (now (second .exit)) (now (lasts .exit)) (now (rows .exit)) × Solved (jobOf job) r (now (first .exit)) (now (second .exit)) (now (lasts .exit)) (now (rows .exit)) ⌝ }
 {
     let Served::No(stamp) = served else {
-        answer::paths::write_paths(
-            &job.targets,
-            job.calls,
-            cart_on,
-            store,
-            grid,
-            first,
-            second,
-            lasts,
-            rows,
-        );
+        write_plan(job, cart_on, store, grid, first, second, lasts, rows);
         return Solution::Plan;
     };
     let points = answer::cut::list_chokes(

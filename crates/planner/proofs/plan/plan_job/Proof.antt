@@ -1,17 +1,17 @@
 -- `plan::plan_job` meets its contract: what is solved can be written, and what is written is the answer. Its text is short, so the packed number fits.
 -- Assumes nothing.
-use Prim.Native.Nat.{ℕ}
+use Prim.Native.Nat.{ℕ, _-_}
 use mathlib.Core.List.{List}
 use mathlib.Core.Path.{_≡_, subst}
 use native.Mathlib.Omega.{arith}
 use denote.Ref.{now}
 use lib.ListN.{length}
 use Rattle.model.specs.Job.{Job}
-use Rattle.model.specs.Plan.{Path}
+use Rattle.model.specs.Plan.{Path, Ride}
 use Rattle.model.specs.Choke.{Choke}
-use Rattle.model.proofs.Floor.{path-known}
+use Rattle.model.proofs.Floor.{path-known, spare-known}
 use Rattle.job.specs.Arrays.{jobOf}
-use Rattle.job.specs.Held.{pathsTo, chokeAt, chokesTo}
+use Rattle.job.specs.Held.{pathsTo, sparesFrom, chokeAt, chokesTo}
 use Rattle.job.proofs.Arrays.{calls-count}
 use Rattle.job.proofs.UpTo.{up-count}
 use Rattle.planner.specs.declared.solve.Solution.{Solution}
@@ -43,6 +43,9 @@ rows c = c .solve .last .1 .1 .1 .1 .1 .0
 abbrev paths : tie.After-solve → List Path
 paths c = pathsTo (first c) (second c) (lasts c) (rows c) (length (job c .calls))
 
+abbrev spares : tie.After-solve → List Ride
+spares c = sparesFrom (first c) (lasts c) (rows c) (length (job c .calls)) (length (job c .carts) - length (job c .calls))
+
 abbrev points : tie.After-solve → ℕ → List Choke
 points c n = chokesTo (first c) (second c) (lasts c) n
 
@@ -52,19 +55,25 @@ solved c o e = subst (λ x. Solved (job c) x (first c) (second c) (lasts c) (row
 put-plan-requires : tie.Need-put-plan-requires
 put-plan-requires c κs =
     let s = put-plan-arg→start c in
-    let right = solved (put-plan-arg→solve c) Plan (put-plan-arg→enum-told c .enum-told .given .1) in
-    (s .pre .0, s .pre .1, put-plan-arg→solve c .solve .ensures .1, (λ p m. path-known (job (put-plan-arg→solve c)) (s .pre .0 .fit) p (right .0 .leads p m)), s .pre .3)
+    let right = solved (put-plan-arg→solve c) Plan (put-plan-arg→enum-told c .enum-told .given .1) in (
+      s .pre .0,
+      s .pre .1,
+      put-plan-arg→solve c .solve .ensures .1,
+      (λ p m. path-known (job (put-plan-arg→solve c)) (s .pre .0 .fit) p (right .0 .served .leads p m)),
+      (λ r m. spare-known (job (put-plan-arg→solve c)) (s .pre .0 .fit) r (right .0 .stay r m)),
+      s .pre .3,
+    )
 
 packed-requires : tie.Need-packed-requires
 packed-requires c κs =
     let right = solved (slice-known4→solve c) Plan (slice-known4→enum-told c .enum-told .given .1) in
-    omega (arith, slice-known4→put-plan c .put-plan .ensures .next, plan-short (job (slice-known4→solve c)) (slice-known4→start c .pre .0 .fit) (paths (slice-known4→solve c)) (right .0))
+    omega (arith, slice-known4→put-plan c .put-plan .ensures .next, plan-short (job (slice-known4→solve c)) (slice-known4→start c .pre .0 .fit) (paths (slice-known4→solve c)) (spares (slice-known4→solve c)) (right .0))
 
 returns : tie.Need-returns
 returns c =
     let right = solved (packed→solve c) Plan (packed→enum-told c .enum-told .given .1) in (
       packed→solve c .solve .ensures .0,
-      plan-written (job (packed→solve c)) (now (packed→start c .args .sheet)) _ _ _ (c .packed .ensures) (paths (packed→solve c)) right (packed→put-plan c .put-plan .ensures),
+      plan-written (job (packed→solve c)) (now (packed→start c .args .sheet)) _ _ _ (c .packed .ensures) (paths (packed→solve c)) (spares (packed→solve c)) right (packed→put-plan c .put-plan .ensures),
     )
 
 put-cannot-requires : tie.Need-put-cannot-requires

@@ -52,15 +52,12 @@ write-answer-requires c κs =
       record { firsts = s .pre .3 .firsts; seconds = write-answer-arg5→by-deadline c .by-deadline .ensures .size; steps = s .pre .3 .steps; cells = s .pre .3 .cells },
     )
 
+-- The store keeps its length throughout.
 same-length : tie.Need-same-length
-same-length c = slice-known12→serve-job c .serve-job .ensures .0 ∙ slice-known12→wipe c .wipe .ensures .1
+same-length c = slice-known13→write-answer c .write-answer .ensures .0 ∙ slice-known13→serve-job c .serve-job .ensures .0 ∙ slice-known13→wipe c .wipe .ensures .1
 
 returns : tie.Need-returns
-returns c = (
-  slice-known12→serve-job c .serve-job .ensures .0 ∙ slice-known12→wipe c .wipe .ensures .1,
-  slice-known12→write-answer c .write-answer .ensures .0,
-  slice-known12→write-answer c .write-answer .ensures .1,
-)
+returns c = (same-length c, slice-known13→write-answer c .write-answer .ensures .1, slice-known13→write-answer c .write-answer .ensures .2)
 
 pub solve-spec : {M : Type 1} → statement M
 solve-spec =

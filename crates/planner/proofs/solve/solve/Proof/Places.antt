@@ -4,13 +4,13 @@
 -- Start After-slice-known After-slice-known2 After-slice-known3 After-slice-known4 After-slice-known5 After-last-step After-wipe-arg After-wipe After-store After-slice-known6
 -- After-job After-by-deadline-arg After-by-deadline-arg2 After-by-deadline-arg3 After-by-deadline After-second After-slice-known7 After-cart-on After-serve-job-arg
 -- After-serve-job-arg2 After-serve-job After-cart-on2 After-store2 After-slice-known8 After-cart-on3 After-write-answer-arg After-write-answer-arg2 After-write-answer-arg3
--- After-write-answer-arg4 After-write-answer-arg5 After-write-answer After-first After-slice-known9 After-second2 After-slice-known10 After-lasts After-slice-known11 After-rows
--- After-slice-known12
+-- After-write-answer-arg4 After-write-answer-arg5 After-write-answer After-store3 After-slice-known9 After-first After-slice-known10 After-second2 After-slice-known11 After-lasts
+-- After-slice-known12 After-rows After-slice-known13
 -- The needs, each with its place:
 -- last-step-requires@After-slice-known5 add-top@After-last-step add-nodes@After-last-step mul-nodes@After-last-step wipe-requires@After-wipe-arg
 -- by-deadline-requires@After-by-deadline-arg3 slice-aggregate-serve-job@After-cart-on serve-job-requires@After-serve-job-arg2 slice-aggregate-write-answer@After-cart-on3
--- write-answer-requires@After-write-answer-arg5 same-length@After-slice-known12 same-length-2@After-slice-known12 same-length-3@After-slice-known12
--- same-length-4@After-slice-known12 same-length-5@After-slice-known12 returns@After-slice-known12
+-- write-answer-requires@After-write-answer-arg5 same-length@After-slice-known13 same-length-2@After-slice-known13 same-length-3@After-slice-known13
+-- same-length-4@After-slice-known13 same-length-5@After-slice-known13 returns@After-slice-known13
 use Rattle.planner.proofs.solve.solve.Tie as tie
 
 abbrev pub last-step→start : tie.After-last-step → tie.Start
@@ -46,11 +46,11 @@ write-answer-arg5→by-deadline c = write-answer-arg5→serve-job c .before .bef
 abbrev pub write-answer-arg5→start : tie.After-write-answer-arg5 → tie.Start
 write-answer-arg5→start c = serve-job-arg2→start (c .before .before .before .before .before .before .before .before .before .before)
 
-abbrev pub slice-known12→write-answer : tie.After-slice-known12 → tie.After-write-answer
-slice-known12→write-answer c = c .before .before .before .before .before .before .before .before
+abbrev pub slice-known13→write-answer : tie.After-slice-known13 → tie.After-write-answer
+slice-known13→write-answer c = c .before .before .before .before .before .before .before .before .before .before
 
-abbrev pub slice-known12→serve-job : tie.After-slice-known12 → tie.After-serve-job
-slice-known12→serve-job c = write-answer-arg5→serve-job (c .before .before .before .before .before .before .before .before .before)
+abbrev pub slice-known13→serve-job : tie.After-slice-known13 → tie.After-serve-job
+slice-known13→serve-job c = slice-known13→write-answer c .before .before .before .before .before .before .before .before .before .before
 
-abbrev pub slice-known12→wipe : tie.After-slice-known12 → tie.After-wipe
-slice-known12→wipe c = slice-known12→serve-job c .before .before .before .before .before .before .before .before .before .before .before .before .before
+abbrev pub slice-known13→wipe : tie.After-slice-known13 → tie.After-wipe
+slice-known13→wipe c = slice-known13→serve-job c .before .before .before .before .before .before .before .before .before .before .before .before .before
