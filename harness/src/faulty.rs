@@ -18,7 +18,7 @@ use crate::model::answer::*;
 use crate::model::job::Job;
 use crate::model::limits::store_least;
 use crate::model::reader;
-use crate::model::sheet::{Choke, Path, Sheet};
+use crate::model::sheet::{Choke, Plan, Sheet};
 use bays::Closed;
 
 #[derive(Clone, Copy, Debug, PartialEq, Eq)]
@@ -73,6 +73,27 @@ pub enum Fault {
     BoundsCellsAlone,
     TakesExponents,
     TakesPowerZero,
+    RefusesSpareCarts,
+    CountsNoSpareLines,
+    CountsSparesInPlan,
+    PassesPathForSpare,
+    PassesSparesBeforePaths,
+    PassesSpareThatEndsEarly,
+    PassesSpareOneTooLong,
+    EndsSparesWithLastPath,
+    PassesSparesInAnyOrder,
+    PassesPathAndSpareOfOneCart,
+    PassesJumpsOfSpares,
+    PassesSpareFromElsewhere,
+    LetsSparesIntoBays,
+    RefusesSpareOnLift,
+    IgnoresSharesOfSpares,
+    IgnoresTradesOfSpares,
+    IgnoresSparesAmongThemselves,
+    FreesSpareAtLastStep,
+    StopsWalksOfFirstCarts,
+    StopsWalksOfSparesToo,
+    BoundsPointsByCarts,
 }
 
 /// The faults, without `None`.
@@ -126,6 +147,27 @@ pub const FAULTS: &[Fault] = &[
     Fault::BoundsCellsAlone,
     Fault::TakesExponents,
     Fault::TakesPowerZero,
+    Fault::RefusesSpareCarts,
+    Fault::CountsNoSpareLines,
+    Fault::CountsSparesInPlan,
+    Fault::PassesPathForSpare,
+    Fault::PassesSparesBeforePaths,
+    Fault::PassesSpareThatEndsEarly,
+    Fault::PassesSpareOneTooLong,
+    Fault::EndsSparesWithLastPath,
+    Fault::PassesSparesInAnyOrder,
+    Fault::PassesPathAndSpareOfOneCart,
+    Fault::PassesJumpsOfSpares,
+    Fault::PassesSpareFromElsewhere,
+    Fault::LetsSparesIntoBays,
+    Fault::RefusesSpareOnLift,
+    Fault::IgnoresSharesOfSpares,
+    Fault::IgnoresTradesOfSpares,
+    Fault::IgnoresSparesAmongThemselves,
+    Fault::FreesSpareAtLastStep,
+    Fault::StopsWalksOfFirstCarts,
+    Fault::StopsWalksOfSparesToo,
+    Fault::BoundsPointsByCarts,
 ];
 
 /// The second check with a fault.
@@ -153,13 +195,16 @@ impl Faulty {
             Ok(job) => job,
             Err(refusal) => return pack(refusal.number, refusal.line),
         };
+        if self.0 == Fault::RefusesSpareCarts && job.carts.len() != job.calls.len() {
+            return pack(UNEVEN, 0);
+        }
         let least = store_least(&job);
         if store.len() < least {
             return pack(STORE_TOO_SHORT, 0);
         }
         let (answer, right) = match form::read(sheet, &job, self.0) {
             Err(line) => return pack(BAD_SHEET, line),
-            Ok(Sheet::Plan(paths)) => (PLAN, self.is_plan(&job, &paths)),
+            Ok(Sheet::Plan(plan)) => (PLAN, self.is_plan(&job, plan)),
             Ok(Sheet::Cannot(chokes)) => (CANNOT, self.is_true_list(&job, &chokes)),
         };
         if !right {
@@ -175,12 +220,12 @@ impl Faulty {
         pack(answer, 0)
     }
 
-    fn is_plan(&self, job: &Job, paths: &[Path]) -> bool {
-        let mut paths = paths.to_vec();
+    fn is_plan(&self, job: &Job, mut plan: Plan) -> bool {
         if self.0 == Fault::PassesLinesOutOfOrder {
-            paths.sort_by_key(|p| (job.calls[p.call].deadline, job.calls[p.call].cell));
+            plan.paths.sort_by_key(|p| (job.calls[p.call].deadline, job.calls[p.call].cell));
         }
-        order::is_kept(job, &paths, self.0) && conflicts::none(job, &paths, self.0)
+        let in_order = order::is_kept(job, &plan.paths, self.0) && order::is_by_cart(&plan.spares, self.0);
+        in_order && conflicts::none(job, plan, self.0)
     }
 
     fn is_true_list(&self, job: &Job, chokes: &[Choke]) -> bool {

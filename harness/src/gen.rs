@@ -19,6 +19,8 @@ pub mod renumbered;
 mod rng;
 pub mod sizes;
 pub mod small;
+pub mod spare_lines;
+pub mod spares;
 pub mod spelled;
 pub mod wrong;
 

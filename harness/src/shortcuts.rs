@@ -17,7 +17,7 @@ use crate::gen::lists::lists;
 use crate::gen::plans::{plans, plans_by};
 use crate::model::job::Job;
 use crate::model::plan::{are_apart, keep_apart, share, trade};
-use crate::model::sheet::{Choke, Path};
+use crate::model::sheet::{Choke, Path, Plan};
 use crate::model::walks::{all_walks, are_stopped, Walk};
 
 /// The nearest pair of cart and call first. Whether a plan is found.
@@ -29,7 +29,7 @@ pub fn nearest_pair_first(job: &Job) -> bool {
         let nearest = all.filter(left).min_by_key(|&(cart, call)| distance(job, cart, call));
         pairs.extend(nearest);
     }
-    let by_pairs = |paths: &Vec<Path>| paths.iter().all(|p| pairs.contains(&(p.cart, p.call)));
+    let by_pairs = |plan: &Plan| plan.paths.iter().all(|p| pairs.contains(&(p.cart, p.call)));
     plans(job, usize::MAX).iter().any(by_pairs)
 }
 
@@ -54,7 +54,8 @@ pub fn never_taking_back(job: &Job) -> bool {
     for call in job.written_order() {
         let fits = |p: &Path| {
             let is_left = chosen.iter().all(|other| other.cart != p.cart);
-            is_left && are_apart(&[chosen.as_slice(), from_ref(p)].concat())
+            let walks: Vec<&[usize]> = chosen.iter().chain(from_ref(p)).map(|p| p.cells.as_slice()).collect();
+            is_left && are_apart(&walks)
         };
         match paths_to(&walks, call).into_iter().find(fits) {
             Some(path) => chosen.push(path),

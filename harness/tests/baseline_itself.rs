@@ -82,7 +82,7 @@ fn jobs_that_only_an_early_lift_serves_and_lists_that_need_whole_calls() {
 fn last_met(job: &Job) -> usize {
     let (mut store, mut sheet) = (vec![1; store_least(job)], vec![1; sheet_least(job)]);
     let met = |packed: u64, sheet: &[u8]| match read(&sheet[..unpack(packed).1], job) {
-        Ok(Sheet::Plan(paths)) => paths[paths.len() - 1].cells.len() - 1,
+        Ok(Sheet::Plan(plan)) => plan.paths[plan.paths.len() - 1].cells.len() - 1,
         other => panic!("{other:?}"),
     };
     let quick = plan(&job.text(), &mut store, &mut sheet);

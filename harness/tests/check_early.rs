@@ -177,7 +177,7 @@ fn the_job_that_only_an_early_lift_serves() {
 }
 
 fn answer(job: &Job, paths: Vec<Path>) -> (u8, usize) {
-    library(&job.text(), store_least(job), &Sheet::Plan(paths).text())
+    library(&job.text(), store_least(job), &Sheet::of_paths(paths).text())
 }
 
 /// The shortest plan that there is for so many carts, and the longest.

@@ -7,7 +7,7 @@ use harness::gen::damage::damaged;
 use harness::gen::floors::*;
 use harness::gen::large::*;
 use harness::gen::orders::{as_in_the_job, differ};
-use harness::gen::wrong::{bay_in_the_way, tampered_list, tampered_plan};
+use harness::gen::wrong::{bay_in_the_way, tampered_list, tampered_paths};
 use harness::gen::Rng;
 use harness::model::answer::*;
 use harness::model::job::Job;
@@ -32,15 +32,15 @@ fn try_out(job: &Job, sheet: &Sheet, tally: &mut Tally, rng: &mut Rng) {
 /// Checks a plan, changed plans, the plan in the order of the job, the plan with lifts before later deadlines, and the choke
 /// list that a lost call makes true, changed as well.
 fn try_plan(job: &Job, paths: &[Path], tally: &mut Tally, rng: &mut Rng) {
-    try_out(job, &Sheet::Plan(paths.to_vec()), tally, rng);
+    try_out(job, &Sheet::of_paths(paths.to_vec()), tally, rng);
     let (later, early) = put_off((job.clone(), paths.to_vec()), limits::DEADLINE.min(job.last() + 20), rng);
-    assert_eq!(answer(&later, &Sheet::Plan(early.clone())), (PLAN, 0));
-    try_out(&later, &Sheet::Plan(tampered_plan(&later, &early, rng)), tally, rng);
-    try_out(job, &Sheet::Plan(tampered_plan(job, paths, rng)), tally, rng);
+    assert_eq!(answer(&later, &Sheet::of_paths(early.clone())), (PLAN, 0));
+    try_out(&later, &Sheet::of_paths(tampered_paths(&later, &early, rng)), tally, rng);
+    try_out(job, &Sheet::of_paths(tampered_paths(job, paths, rng)), tally, rng);
     let in_order_of_job = if differ(job) { WRONG_SHEET } else { PLAN };
-    assert_eq!(answer(job, &Sheet::Plan(as_in_the_job(job, paths))), (in_order_of_job, 0));
+    assert_eq!(answer(job, &Sheet::of_paths(as_in_the_job(job, paths))), (in_order_of_job, 0));
     if let Some(job) = bay_in_the_way(job, paths, rng) {
-        assert_eq!(answer(&job, &Sheet::Plan(paths.to_vec())), (WRONG_SHEET, 0));
+        assert_eq!(answer(&job, &Sheet::of_paths(paths.to_vec())), (WRONG_SHEET, 0));
     }
     if job.cells < limits::CELLS && job.carts.len() < job.cells.min(limits::CARTS) {
         let (job, list) = with_lost_call(job.clone());
@@ -81,7 +81,7 @@ fn moving_carts_at_every_limit() {
         let (job, paths) = made(floor, limits::CARTS, 200, limits::DEADLINE, &mut rng);
         let full = (job.cells, job.tracks.len(), job.carts.len());
         assert_eq!(full, (limits::CELLS, limits::TRACKS, limits::CARTS));
-        assert_eq!(answer(&job, &Sheet::Plan(paths.clone())), (PLAN, 0));
+        assert_eq!(answer(&job, &Sheet::of_paths(paths.clone())), (PLAN, 0));
         try_plan(&job, &paths, &mut Tally::default(), &mut rng);
     }
 }
@@ -91,7 +91,7 @@ fn moving_carts_at_every_limit() {
 fn standing_carts_at_every_limit() {
     let (job, paths) = standing(ring(), limits::CARTS, limits::DEADLINE);
     assert_eq!(job.text().len(), 8586);
-    let sheet = Sheet::Plan(paths);
+    let sheet = Sheet::of_paths(paths);
     assert!(sheet.text().len() > 65_535, "{} bytes", sheet.text().len());
     assert_eq!(answer(&job, &sheet), (PLAN, 0));
 }
@@ -100,7 +100,7 @@ fn standing_carts_at_every_limit() {
 #[test]
 fn single_changes_of_a_large_plan_are_refused() {
     let (job, paths) = standing(loose(limits::CELLS), limits::CARTS, limits::DEADLINE);
-    assert_eq!(answer(&job, &Sheet::Plan(paths.clone())), (PLAN, 0));
+    assert_eq!(answer(&job, &Sheet::of_paths(paths.clone())), (PLAN, 0));
     let mut rng = Rng::new(3);
     for i in 0..300 {
         // First and last steps and lines, then any.
@@ -108,7 +108,7 @@ fn single_changes_of_a_large_plan_are_refused() {
         let step = if i < 4 { i / 2 * limits::DEADLINE } else { rng.below(limits::DEADLINE + 1) };
         let mut changed = paths.clone();
         changed[at].cells[step] = (changed[at].cells[step] + 1 + rng.below(limits::CELLS - 1)) % limits::CELLS;
-        assert_eq!(answer(&job, &Sheet::Plan(changed)), (WRONG_SHEET, 0), "path {at}, step {step}");
+        assert_eq!(answer(&job, &Sheet::of_paths(changed)), (WRONG_SHEET, 0), "path {at}, step {step}");
     }
 }
 

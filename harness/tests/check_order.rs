@@ -168,7 +168,7 @@ fn the_form_comes_before_the_order() {
 }
 
 fn answer_at_limits(job: &Job, paths: Vec<Path>) -> (u8, usize) {
-    library(&job.text(), store_least(job), &Sheet::Plan(paths).text())
+    library(&job.text(), store_least(job), &Sheet::of_paths(paths).text())
 }
 
 /// The highest cell stands first in the job, and its path last on the sheet.

@@ -102,7 +102,7 @@ fn sheets_of_jobs_about_early_lifts() {
     for _ in 0..1000 {
         let (job, paths) = early::early(&mut rng);
         let (stuck, list) = early::whole_calls(5, &mut rng);
-        for known in [Known::by_sheet(job, Sheet::Plan(paths)), Known::by_sheet(stuck, Sheet::Cannot(list))] {
+        for known in [Known::by_sheet(job, Sheet::of_paths(paths)), Known::by_sheet(stuck, Sheet::Cannot(list))] {
             for case in KINDS.iter().flat_map(|kind| kind(&known, &mut rng)).collect::<Vec<Case>>() {
                 tally.count(library_on(&case, &mut rng).0);
             }

@@ -58,7 +58,7 @@ fn the_walks_past_a_bay() {
 #[test]
 fn the_bay_alone_is_the_reason() {
     let job = job(CLOSED_BY_NO_BAY.job);
-    let sheets: Vec<Vec<u8>> = plans(&job, usize::MAX).into_iter().map(|paths| Sheet::Plan(paths).text()).collect();
+    let sheets: Vec<Vec<u8>> = plans(&job, usize::MAX).into_iter().map(|plan| Sheet::Plan(plan).text()).collect();
     assert_eq!(sheets, [tabs(CLOSED_BY_NO_BAY.sheet)]);
     assert_eq!(true_lists(&job), Vec::<Vec<Choke>>::new());
 }
@@ -90,7 +90,8 @@ fn small_jobs_have_bays_of_every_kind() {
         let bays: Vec<&Call> = job.calls.iter().filter(|call| call.is_bay()).collect();
         let is_first = |call: &Call| job.calls.iter().all(|other| call.deadline <= other.deadline);
         let matters = || !has_plan(&job) && has_plan(&no_bays(job.clone()));
-        let is_crossed = || plans(&job, 1).iter().flatten().any(|p| bays.iter().any(|bay| crosses(&job, p, bay)));
+        let is_crossed =
+            || plans(&job, 1).iter().flat_map(|plan| &plan.paths).any(|p| bays.iter().any(|bay| crosses(&job, p, bay)));
         for (kind, is_one) in [
             ("without bays", bays.is_empty()),
             ("bays and lifts", !bays.is_empty() && bays.len() < job.calls.len()),
@@ -128,10 +129,13 @@ fn larger_plans_are_plans_and_a_bay_in_the_way_makes_them_none() {
         let floor = some_floor(&mut rng);
         let carts = rng.below(floor.cells.min(20) + 1);
         let (job, paths) = moving_to_bays(floor.clone(), carts, 0, 30, &mut rng);
-        assert!(is_plan(&job, &paths), "{job:?}");
+        assert!(is_plan(&job, &paths.clone().into()), "{job:?}");
         let (job, paths) = moving(floor, carts, 0, 30, &mut rng);
         if let Some(job) = bay_in_the_way(&job, &paths, &mut rng) {
-            assert!(!is_plan(&job, &paths) && is_plan(&no_bays(job.clone()), &paths), "{job:?}");
+            assert!(
+                !is_plan(&job, &paths.clone().into()) && is_plan(&no_bays(job.clone()), &paths.clone().into()),
+                "{job:?}"
+            );
             broken += 1;
         }
     }

@@ -70,7 +70,7 @@ fn cells_come_first_and_then_calls_by_number() {
 #[test]
 fn the_job_that_only_an_early_lift_serves() {
     let (job, paths) = smallest();
-    assert!(is_plan(&job, &paths) && lifts_early(&job, &paths));
+    assert!(is_plan(&job, &paths.clone().into()) && lifts_early(&job, &paths));
     assert_eq!(answer(&job, &tabs(EARLY_PLAN)), PLAN);
     assert!(!waiting_for_the_deadline(&job));
     let list = stopping_walks_to_deadlines(&job).expect("a list");
@@ -78,7 +78,7 @@ fn the_job_that_only_an_early_lift_serves() {
     assert_eq!(Sheet::Cannot(list).text(), tabs(EARLY_BY_DEADLINES));
     assert_eq!(answer(&job, &tabs(EARLY_BY_DEADLINES)), WRONG_SHEET);
     assert_eq!(true_lists(&job), Vec::<Vec<Choke>>::new());
-    assert!(plans(&job, usize::MAX).iter().all(|paths| lifts_early(&job, paths)));
+    assert!(plans(&job, usize::MAX).iter().all(|plan| lifts_early(&job, &plan.paths)));
     assert_eq!(reader::read(&tabs(EARLY.job)), Ok(job));
 }
 
@@ -89,10 +89,10 @@ fn the_family_of_that_job() {
     let (mut waits, mut larger) = (0, 0);
     for _ in 0..500 {
         let (job, paths) = early(&mut rng);
-        assert!(is_plan(&job, &paths) && !waiting_for_the_deadline(&job), "{job:?}");
+        assert!(is_plan(&job, &paths.clone().into()) && !waiting_for_the_deadline(&job), "{job:?}");
         larger += usize::from(job.calls.len() > 4);
         let (job, paths) = early_and_joined(&mut rng);
-        assert!(is_plan(&job, &paths), "{job:?}");
+        assert!(is_plan(&job, &paths.clone().into()), "{job:?}");
         waits += usize::from(waiting_for_the_deadline(&job));
         let job = too_late(&mut rng);
         assert!(can_be_written_out(&job) && !has_plan(&job), "{job:?}");
@@ -105,7 +105,7 @@ fn that_job_many_times() {
     let mut rng = Rng::new(2);
     for times in [1, 2, 5, 15, 16] {
         let (job, paths) = early_many_times(times, 8, 12, &mut rng);
-        assert!(is_plan(&job, &paths) && lifts_early(&job, &paths), "{job:?}");
+        assert!(is_plan(&job, &paths.clone().into()) && lifts_early(&job, &paths), "{job:?}");
         assert!(job.carts.len() >= 4 * times && job.carts.len() <= CARTS);
     }
 }
@@ -161,12 +161,12 @@ fn deadlines_that_are_put_off() {
         let floor = some_floor(&mut rng);
         let carts = rng.below(floor.cells.min(20) + 1);
         let (job, paths) = put_off(moving_to_bays(floor, carts, 0, 20, &mut rng), 30, &mut rng);
-        assert!(is_plan(&job, &paths), "{job:?}");
+        assert!(is_plan(&job, &paths.clone().into()), "{job:?}");
         early += usize::from(lifts_early(&job, &paths));
     }
     assert!(early > 100, "{early} with early lifts");
     let (job, paths) = put_off(moving_to_bays(grid(16, 16), 64, 100, 200, &mut rng), DEADLINE, &mut rng);
-    assert!(is_plan(&job, &paths) && lifts_early(&job, &paths) && job.has_bays());
+    assert!(is_plan(&job, &paths.clone().into()) && lifts_early(&job, &paths) && job.has_bays());
 }
 
 #[test]
@@ -177,8 +177,8 @@ fn other_numbers_change_nothing_else() {
         let numbers = Numbers::of(&job, &mut rng);
         let other = numbers.job(&job, &mut rng);
         assert_eq!(reader::read(&other.text()), Ok(other.clone()));
-        for paths in plans(&job, 5) {
-            assert!(is_plan(&other, &numbers.plan(&job, &paths)), "{job:?} and {other:?}");
+        for plan in plans(&job, 5) {
+            assert!(is_plan(&other, &numbers.plan(&job, &plan)), "{job:?} and {other:?}");
         }
         for list in true_lists(&job).into_iter().take(5) {
             let list = numbers.list(&list);

@@ -23,9 +23,9 @@ fn what_is_written_is_read() {
     for _ in 0..2000 {
         let job = small(&mut rng);
         assert_eq!(reader::read(&job.text()), Ok(job.clone()));
-        for paths in plans(&job, 10) {
-            assert!(is_plan(&job, &paths));
-            let written = Sheet::Plan(paths);
+        for plan in plans(&job, 10) {
+            assert!(is_plan(&job, &plan));
+            let written = Sheet::Plan(plan);
             assert_eq!(sheet::read(&written.text(), &job), Ok(written));
         }
     }

@@ -25,8 +25,8 @@ fn the_job_that_only_an_early_lift_serves() {
     let job = reader::read(&tabs(EARLY.job)).expect("a job");
     let (answer, sheet) = planned(&job);
     assert_eq!(answer, PLAN);
-    let Ok(Sheet::Plan(paths)) = sheet::read(&sheet, &job) else { panic!("no plan") };
-    assert!(plans(&job, usize::MAX).contains(&paths));
+    let Ok(Sheet::Plan(plan)) = sheet::read(&sheet, &job) else { panic!("no plan") };
+    assert!(plans(&job, usize::MAX).contains(&plan));
 }
 
 #[test]

@@ -14,7 +14,7 @@ use harness::gen::Rng;
 use harness::model::answer::*;
 use harness::model::job::{Call, Job};
 use harness::model::limits::{self, sheet_least, store_least};
-use harness::model::sheet::{self, Path, Sheet};
+use harness::model::sheet::{self, Path, Plan, Sheet};
 use harness::tally::Tally;
 
 fn planned(job: &Job, rng: &mut Rng) -> (u8, Vec<u8>) {
@@ -23,7 +23,7 @@ fn planned(job: &Job, rng: &mut Rng) -> (u8, Vec<u8>) {
 
 /// Deadline and cell of each call, as the calls are served by the lines of a PLAN: each once, and rising.
 fn assert_rising(job: &Job, sheet: &[u8]) {
-    let Ok(Sheet::Plan(paths)) = sheet::read(sheet, job) else { panic!("no plan for {job:?}") };
+    let Ok(Sheet::Plan(Plan { paths, .. })) = sheet::read(sheet, job) else { panic!("no plan for {job:?}") };
     let end = |p: &Path| (job.calls[p.call].deadline, p.cells[p.cells.len() - 1]);
     let ends: Vec<(usize, usize)> = paths.iter().map(end).collect();
     let mut asked: Vec<(usize, usize)> = job.calls.iter().map(|call| (call.deadline, call.cell)).collect();
@@ -80,7 +80,7 @@ fn cells_of_any_number_of_digits() {
     let cells: Vec<usize> = (0..limits::CARTS).map(|i| 4 * i).collect();
     let calls = cells.iter().rev().map(|&cell| Call::lift(cell, 0)).collect();
     let path = |(i, &cell): (usize, &usize)| Path { cart: i, call: limits::CARTS - 1 - i, cells: vec![cell] };
-    let sheet = Sheet::Plan(cells.iter().enumerate().map(path).collect()).text();
+    let sheet = Sheet::of_paths(cells.iter().enumerate().map(path).collect()).text();
     let job = Job { carts: cells, calls, ..loose(limits::CELLS) };
     assert_eq!(planned(&job, &mut Rng::new(6)), (PLAN, sheet));
 }
@@ -93,7 +93,7 @@ fn sixty_four_calls_at_one_step() {
         let (answer, sheet) = planned(&job, &mut rng);
         assert_eq!(answer, PLAN);
         assert_rising(&job, &sheet);
-        assert_eq!(planned(&all_bays(job), &mut rng), (PLAN, Sheet::Plan(paths).text()));
+        assert_eq!(planned(&all_bays(job), &mut rng), (PLAN, Sheet::of_paths(paths).text()));
     }
     let (job, _) = backwards(standing(ring(), limits::CARTS, limits::DEADLINE));
     let (answer, sheet) = planned(&job, &mut rng);

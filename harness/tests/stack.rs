@@ -42,13 +42,13 @@ fn right_sheets() -> Vec<(Job, Sheet, u8)> {
     let (early, early_paths) = early_many_times(16, 12, 12, &mut Rng::new(8));
     let (late, calls) = late_star(limits::CARTS, 0, limits::DEADLINE);
     vec![
-        (still, Sheet::Plan(still_paths), PLAN),
-        (moved, Sheet::Plan(paths), PLAN),
-        (parked, Sheet::Plan(parked_paths), PLAN),
+        (still, Sheet::of_paths(still_paths), PLAN),
+        (moved, Sheet::of_paths(paths), PLAN),
+        (parked, Sheet::of_paths(parked_paths), PLAN),
         (shut, Sheet::Cannot(bay), CANNOT),
         (crowded, Sheet::Cannot(middle), CANNOT),
         (lost, Sheet::Cannot(ends), CANNOT),
-        (early, Sheet::Plan(early_paths), PLAN),
+        (early, Sheet::of_paths(early_paths), PLAN),
         (late, Sheet::Cannot(calls), CANNOT),
     ]
 }

@@ -162,7 +162,7 @@ impl Tried {
         // The planner's sheet has passed the model's check.
         let right = sheet::read(&right, &job).expect("a sheet in the form");
         match &right {
-            Sheet::Plan(paths) => self.lifted_early += usize::from(lifts_early(&job, paths)),
+            Sheet::Plan(plan) => self.lifted_early += usize::from(lifts_early(&job, &plan.paths)),
             Sheet::Cannot(chokes) => self.with_whole_calls += usize::from(has_whole_call(chokes)),
         }
         let known = match size {

@@ -10,6 +10,9 @@ pub fn stops_every_walk(job: &Job, chokes: &[Choke], fault: Fault) -> bool {
     let closed = Closed::by_bays(job, fault);
     let is_closed = |cell, step| fault != Fault::IgnoresBaysInLists && closed.at(cell, step);
     let mut leads_on = vec![false; job.cells];
+    if fault == Fault::StopsWalksOfSparesToo && job.spares() > 0 {
+        leads_on.fill(true);
+    }
     for step in (0..=job.last()).rev() {
         leads_on = one_step_before(job, &leads_on);
         for (number, call) in job.calls.iter().enumerate() {
@@ -23,7 +26,8 @@ pub fn stops_every_walk(job: &Job, chokes: &[Choke], fault: Fault) -> bool {
             *leads_on = *leads_on && !is_closed(cell, step) && !chokes.contains(&Choke::Cell { step, cell });
         }
     }
-    job.carts.iter().all(|&cell| !leads_on[cell])
+    let looked_at = if fault == Fault::StopsWalksOfFirstCarts { job.calls.len() } else { job.carts.len() };
+    job.carts[..looked_at].iter().all(|&cell| !leads_on[cell])
 }
 
 /// Whether a walk that is not stopped yet can end at the call at the step.

@@ -3,7 +3,7 @@
 use super::bays::{lifts, Closed};
 use super::Fault;
 use crate::model::job::{Call, End, Job};
-use crate::model::sheet::{Choke, Path, Sheet};
+use crate::model::sheet::{Choke, Path, Plan, Sheet, Spare};
 
 /// The bytes that are left to read.
 struct Rest<'a>(&'a [u8], Fault);
@@ -57,7 +57,9 @@ pub fn read(sheet: &[u8], job: &Job, fault: Fault) -> Result<Sheet, usize> {
     let is_plan = sheet.starts_with(b"PLAN");
     let count = head(&mut rest, is_plan).ok_or(1usize)?;
     let right = match is_plan {
+        true if fault == Fault::CountsSparesInPlan => count == job.carts.len(),
         true => count == calls,
+        false if fault == Fault::BoundsPointsByCarts => count < job.carts.len(),
         false if fault == Fault::PassesAsManyPointsAsCalls => count <= calls,
         false if fault == Fault::CountsNoBays => count < lifts(job).count(),
         false if fault == Fault::BoundsCellsAlone => count < calls + whole_calls_in(sheet),
@@ -66,14 +68,14 @@ pub fn read(sheet: &[u8], job: &Job, fault: Fault) -> Result<Sheet, usize> {
     if !right {
         return Err(1);
     }
-    let (mut paths, mut chokes) = (Vec::new(), Vec::new());
-    for i in 0..count {
-        match is_plan {
-            true => paths.push(path(&mut rest, job, i, fault).ok_or(i + 2)?),
-            false => chokes.push(choke(&mut rest, job, fault).ok_or(i + 2)?),
-        }
+    if is_plan {
+        return plan(&mut rest, job).map(Sheet::Plan);
     }
-    if fault == Fault::CountsNoWholeCalls && !is_plan {
+    let mut chokes = Vec::new();
+    for i in 0..count {
+        chokes.push(choke(&mut rest, job, fault).ok_or(i + 2)?);
+    }
+    if fault == Fault::CountsNoWholeCalls {
         if chokes.iter().any(|choke| matches!(choke, Choke::Call(_))) {
             return Err(2);
         }
@@ -82,7 +84,6 @@ pub fn read(sheet: &[u8], job: &Job, fault: Fault) -> Result<Sheet, usize> {
         }
     }
     match rest.0 {
-        [] if is_plan => Ok(Sheet::Plan(paths)),
         [] => Ok(Sheet::Cannot(chokes)),
         _ => Err(count + 2),
     }
@@ -93,6 +94,65 @@ fn head(rest: &mut Rest, is_plan: bool) -> Option<usize> {
     let count = rest.field()?;
     rest.bytes(b"\n")?;
     Some(count)
+}
+
+/// The PATH lines, the SPARE lines, and nothing behind them; else the first bad line.
+fn plan(rest: &mut Rest, job: &Job) -> Result<Plan, usize> {
+    let mut plan = Plan::default();
+    let spares_first = rest.1 == Fault::PassesSparesBeforePaths && rest.0.starts_with(b"SPARE");
+    if spares_first {
+        spares(rest, job, &mut plan)?;
+    }
+    for place in 0..job.calls.len() {
+        plan.paths.push(path(rest, job, place, rest.1).ok_or(2 + lines_of(&plan))?);
+    }
+    if !spares_first {
+        spares(rest, job, &mut plan)?;
+    }
+    match rest.0 {
+        [] => Ok(plan),
+        _ => Err(2 + lines_of(&plan)),
+    }
+}
+
+fn lines_of(plan: &Plan) -> usize {
+    plan.paths.len() + plan.spares.len()
+}
+
+fn spares(rest: &mut Rest, job: &Job, plan: &mut Plan) -> Result<(), usize> {
+    let is_due = |rest: &Rest, plan: &Plan| match rest.1 {
+        Fault::CountsNoSpareLines => !rest.0.is_empty(),
+        _ => plan.spares.len() + job.calls.len() < job.carts.len(),
+    };
+    while is_due(rest, plan) {
+        plan.spares.push(spare(rest, job, plan).ok_or(2 + lines_of(plan))?);
+    }
+    Ok(())
+}
+
+fn spare(rest: &mut Rest, job: &Job, plan: &Plan) -> Option<Spare> {
+    let fault = rest.1;
+    match fault {
+        Fault::PassesPathForSpare if rest.bytes(b"PATH").is_some() => (),
+        _ => rest.bytes(b"SPARE")?,
+    }
+    let cart = rest.field_below(job.carts.len())?;
+    let mut cells = Vec::new();
+    while !rest.0.starts_with(b"\n") {
+        cells.push(rest.field_below(job.cells)?);
+    }
+    rest.bytes(b"\n")?;
+    let exact = job.last() + 1;
+    let (least, most) = match fault {
+        Fault::PassesSpareThatEndsEarly => (1, exact),
+        Fault::PassesSpareOneTooLong => (exact, exact + 1),
+        Fault::EndsSparesWithLastPath => {
+            let last = plan.paths.iter().map(|p| p.cells.len()).max().unwrap_or(exact);
+            (last, last)
+        }
+        _ => (exact, exact),
+    };
+    (least <= cells.len() && cells.len() <= most).then_some(Spare { cart, cells })
 }
 
 fn path(rest: &mut Rest, job: &Job, place: usize, fault: Fault) -> Option<Path> {

@@ -2,7 +2,7 @@
 
 use super::Fault;
 use crate::model::job::Job;
-use crate::model::sheet::{Choke, Path};
+use crate::model::sheet::{Choke, Path, Spare};
 
 /// Each call once, by deadline, then cell.
 pub fn is_kept(job: &Job, paths: &[Path], fault: Fault) -> bool {
@@ -24,6 +24,11 @@ fn is_before(job: &Job, one: &Path, other: &Path, fault: Fault) -> bool {
         Fault::PutsPathsByLift => (one.cells.len(), a.cell) < (other.cells.len(), b.cell),
         _ => by(a.cell, b.cell),
     }
+}
+
+/// Each spare cart once, by number.
+pub fn is_by_cart(spares: &[Spare], fault: Fault) -> bool {
+    spares.windows(2).all(|pair| pair[0].cart < pair[1].cart || fault == Fault::PassesSparesInAnyOrder)
 }
 
 /// Each choke point once: cells by step, then cell, then whole calls by number.

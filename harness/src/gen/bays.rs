@@ -2,7 +2,7 @@
 
 use super::Rng;
 use crate::model::job::{End, Job};
-use crate::model::walks::{all_walks, Walk};
+use crate::model::walks::{all_walks, spare_walks, Walk};
 
 /// The job with some of its calls made bays, at least one if there are any: one alone, any number, or all.
 pub fn some_bays(job: Job, rng: &mut Rng) -> Job {
@@ -52,4 +52,9 @@ pub fn walks_over_bays(job: &Job) -> Vec<Vec<Vec<Walk>>> {
         }
     }
     walks
+}
+
+/// Every walk of each cart, if it is spare, as if no bay closed its cell.
+pub fn spare_walks_over_bays(job: &Job) -> Vec<Vec<Walk>> {
+    spare_walks(&no_bays(job.clone()))
 }

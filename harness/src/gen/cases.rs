@@ -1,17 +1,17 @@
 //! What is tried on a job, mostly a small one: right plans, wrong ones, plans in other orders, paths of other lengths,
-//! choke lists, whole calls, damaged sheets, damaged jobs, short stores.
+//! SPARE lines, choke lists, whole calls, damaged sheets, damaged jobs, short stores.
 
-use super::bays::walks_over_bays;
+use super::bays::{spare_walks_over_bays, walks_over_bays};
 use super::damage::{changed, damaged, Damage};
 use super::orders::{exchanged_at_one_step, ORDERS};
-use super::plans::{early_and_late_plans, plans_by};
+use super::plans::{early_and_late_plans, plans_by, plans_of};
 use super::spelled::respelled;
-use super::{lists, wrong, Rng};
+use super::{lists, spare_lines, wrong, Rng};
 use crate::model::job::{Call, Job};
 use crate::model::limits::{self, store_least};
 use crate::model::plan::{is_plan, keep_apart};
 use crate::model::reader;
-use crate::model::sheet::{Choke, Path, Sheet};
+use crate::model::sheet::{Choke, Path, Plan, Sheet};
 use crate::model::walks::{all_walks, Walk};
 
 /// One call of the check.
@@ -26,10 +26,10 @@ pub struct Case {
 pub struct Known {
     pub job: Job,
     pub walks: Vec<Vec<Vec<Walk>>>,
-    pub plans: Vec<Vec<Path>>,
+    pub plans: Vec<Plan>,
     pub lists: Vec<Vec<Choke>>,
     /// What would be a plan if the bays closed nothing, and is none only because a cart stands on a closed cell.
-    pub over_bays: Vec<Vec<Path>>,
+    pub over_bays: Vec<Plan>,
 }
 
 impl Known {
@@ -42,7 +42,7 @@ impl Known {
     pub fn by_sheet(job: Job, right: Sheet) -> Known {
         let walks = vec![vec![Vec::new(); job.calls.len()]; job.carts.len()];
         let (plans, lists) = match right {
-            Sheet::Plan(paths) => (vec![paths], Vec::new()),
+            Sheet::Plan(plan) => (vec![plan], Vec::new()),
             Sheet::Cannot(list) => (Vec::new(), vec![list]),
         };
         Known { job, walks, plans, lists, over_bays: Vec::new() }
@@ -71,9 +71,12 @@ fn some_text(job: &Job, rng: &mut Rng) -> Vec<u8> {
     }
 }
 
-fn over_bays(job: &Job) -> Vec<Vec<Path>> {
+fn over_bays(job: &Job) -> Vec<Plan> {
     let mut all = plans_by(job, &walks_over_bays(job), keep_apart, 300);
-    all.retain(|paths| !is_plan(job, paths));
+    if job.has_bays() && job.spares() > 0 {
+        all.extend(plans_of(job, &all_walks(job), &spare_walks_over_bays(job), 300));
+    }
+    all.retain(|plan| !is_plan(job, plan));
     all
 }
 
@@ -85,6 +88,7 @@ pub const KINDS: &[Kind] = &[
     wrong_plans,
     other_orders,
     other_lengths,
+    spare_carts,
     choke_lists,
     doubled_points,
     whole_calls,
@@ -110,21 +114,26 @@ pub fn wrong_plans(known: &Known, rng: &mut Rng) -> Vec<Case> {
             all.push(rng.pick(&known.over_bays).clone());
         }
     }
-    all.into_iter().map(|paths| known.case(Sheet::Plan(paths).text(), rng)).collect()
+    all.into_iter().map(|plan| known.case(Sheet::Plan(plan).text(), rng)).collect()
 }
 
-/// A right plan, if there is one, with its lines in other orders. One of these can be the written order by chance.
+/// A right plan, if there is one, with its PATH lines in other orders. One of these can be the written order by chance.
 pub fn other_orders(known: &Known, rng: &mut Rng) -> Vec<Case> {
     if known.plans.is_empty() {
         return Vec::new();
     }
     let right = rng.pick(&known.plans);
-    let mut all: Vec<Vec<Path>> = ORDERS.iter().map(|order| order(&known.job, right)).collect();
-    let exchanged = exchanged_at_one_step(&known.job, right);
+    let mut all: Vec<Vec<Path>> = ORDERS.iter().map(|order| order(&known.job, &right.paths)).collect();
+    let exchanged = exchanged_at_one_step(&known.job, &right.paths);
     if !exchanged.is_empty() {
         all.push(rng.pick(&exchanged).clone());
     }
-    all.into_iter().map(|paths| known.case(Sheet::Plan(paths).text(), rng)).collect()
+    all.into_iter().map(|paths| known.case(with_paths(right, paths).text(), rng)).collect()
+}
+
+/// The plan with other paths and the same spare carts.
+fn with_paths(plan: &Plan, paths: Vec<Path>) -> Sheet {
+    Sheet::Plan(Plan { paths, spares: plan.spares.clone() })
 }
 
 /// A right plan, if there is one, with a path that ends earlier, down to none of its cells, or stands on, up to one cell too
@@ -136,20 +145,36 @@ pub fn other_lengths(known: &Known, rng: &mut Rng) -> Vec<Case> {
     let mut all = Vec::new();
     for _ in 0..4 {
         let right = rng.pick(&known.plans);
-        let at = rng.below(right.len());
-        let (deadline, has) = (known.job.calls[right[at].call].deadline, right[at].cells.len());
+        let at = rng.below(right.paths.len());
+        let (deadline, has) = (known.job.calls[right.paths[at].call].deadline, right.paths[at].cells.len());
         let with_length = |length: usize| {
-            let mut paths = right.clone();
+            let mut paths = right.paths.clone();
             let last = paths[at].cells[has - 1];
             paths[at].cells.resize(length, last);
-            paths
+            with_paths(right, paths)
         };
         all.extend([0, rng.below(has), deadline + 1, deadline + 2].map(with_length));
-        let mut waiting = right.clone();
+        let mut waiting = right.paths.clone();
         waiting.iter_mut().for_each(|path| wrong::wait_for_the_deadline(path, &known.job));
-        all.push(waiting);
+        all.push(with_paths(right, waiting));
     }
-    all.into_iter().map(|paths| known.case(Sheet::Plan(paths).text(), rng)).collect()
+    all.into_iter().map(|sheet| known.case(sheet.text(), rng)).collect()
+}
+
+/// A right plan of a job with spare carts, if there is one, with SPARE lines that are wrong, each in one way: all the ways
+/// in the form, and all that are out of it.
+pub fn spare_carts(known: &Known, rng: &mut Rng) -> Vec<Case> {
+    if known.plans.is_empty() || known.job.spares() == 0 {
+        return Vec::new();
+    }
+    let mut sheets = Vec::new();
+    for _ in 0..2 {
+        let right = rng.pick(&known.plans);
+        let in_the_form = spare_lines::in_the_form(&known.job, right, rng);
+        sheets.extend(in_the_form.into_iter().map(|plan| Sheet::Plan(plan).text()));
+        sheets.extend(spare_lines::out_of_the_form(&known.job, right, rng));
+    }
+    sheets.into_iter().map(|sheet| known.case(sheet, rng)).collect()
 }
 
 /// True lists and untrue ones, as short as can be and longer, below the calls, as many as they are, and more.

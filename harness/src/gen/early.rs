@@ -15,7 +15,7 @@ use crate::model::sheet::{self, Choke, Path, Sheet};
 pub fn smallest() -> (Job, Vec<Path>) {
     let job = reader::read(&tabs(EARLY.job)).expect("a filed job");
     match sheet::read(&tabs(EARLY_PLAN), &job) {
-        Ok(Sheet::Plan(paths)) => (job, paths),
+        Ok(Sheet::Plan(plan)) => (job, plan.paths),
         other => panic!("{other:?}"),
     }
 }
@@ -116,5 +116,5 @@ fn side_by_side((one, paths): (Job, Vec<Path>), (other, more): (Job, Vec<Path>))
 /// The job and its plan with numbers as chance has them, which puts the lines of the plan in order.
 fn some_numbers((job, paths): (Job, Vec<Path>), rng: &mut Rng) -> (Job, Vec<Path>) {
     let numbers = Numbers::of(&job, rng);
-    (numbers.job(&job, rng), numbers.plan(&job, &paths))
+    (numbers.job(&job, rng), numbers.paths(&job, &paths))
 }

@@ -2,7 +2,7 @@
 
 use super::Rng;
 use crate::model::job::{Call, Job};
-use crate::model::sheet::{Choke, Path};
+use crate::model::sheet::{Choke, Path, Plan, Spare};
 
 /// By the number that each had, the number that each has.
 pub struct Numbers {
@@ -29,16 +29,25 @@ impl Numbers {
         Job { cells: job.cells, tracks, carts: placed(&self.carts, carts), calls: placed(&self.calls, calls) }
     }
 
-    /// A plan of the job, its lines by the new cells.
-    pub fn plan(&self, job: &Job, paths: &[Path]) -> Vec<Path> {
+    /// A plan of the job, its lines by the new numbers.
+    pub fn plan(&self, job: &Job, plan: &Plan) -> Plan {
+        let spare = |spare: &Spare| Spare { cart: self.carts[spare.cart], cells: self.cells_of(&spare.cells) };
+        let mut spares: Vec<Spare> = plan.spares.iter().map(spare).collect();
+        spares.sort_by_key(|spare| spare.cart);
+        Plan { paths: self.paths(job, &plan.paths), spares }
+    }
+
+    /// Its paths, by the new cells.
+    pub fn paths(&self, job: &Job, paths: &[Path]) -> Vec<Path> {
         let mut paths = paths.to_vec();
         paths.sort_by_key(|p| (job.calls[p.call].deadline, self.cells[job.calls[p.call].cell]));
-        let path = |p: Path| Path {
-            cart: self.carts[p.cart],
-            call: self.calls[p.call],
-            cells: p.cells.into_iter().map(|cell| self.cells[cell]).collect(),
-        };
+        let path =
+            |p: Path| Path { cart: self.carts[p.cart], call: self.calls[p.call], cells: self.cells_of(&p.cells) };
         paths.into_iter().map(path).collect()
+    }
+
+    fn cells_of(&self, walk: &[usize]) -> Vec<usize> {
+        walk.iter().map(|&cell| self.cells[cell]).collect()
     }
 
     /// A choke list of the job, in order.

@@ -1,14 +1,16 @@
 //! Sheets in the form that are hardly ever right: plans with conflicts, lists that let walks through.
 
-use super::{lists, Rng};
+use super::{lists, spare_lines, Rng};
 use crate::model::job::{Call, End, Job};
-use crate::model::sheet::{Choke, Path};
+use crate::model::sheet::{Choke, Path, Plan};
 use crate::model::walks::Walk;
 
-/// A path for each call, in order, by a sharing out and walks as chance has them. They may conflict.
-/// A cart that cannot come to its call jumps.
-pub fn plan_by_chance(job: &Job, walks: &[Vec<Vec<Walk>>], rng: &mut Rng) -> Vec<Path> {
-    let carts = rng.sample(job.carts.len(), job.carts.len());
+/// A path for each call, in order, by a sharing out and walks as chance has them, and walks of the carts that are left.
+/// They may conflict. A cart that cannot come to its call jumps.
+pub fn plan_by_chance(job: &Job, walks: &[Vec<Vec<Walk>>], rng: &mut Rng) -> Plan {
+    let mut carts = rng.sample(job.carts.len(), job.carts.len());
+    let mut left = carts.split_off(job.calls.len());
+    left.sort();
     let order = job.written_order();
     let path = |(call, cart): (usize, usize)| {
         let cells = match walks[cart][call].as_slice() {
@@ -17,7 +19,8 @@ pub fn plan_by_chance(job: &Job, walks: &[Vec<Vec<Walk>>], rng: &mut Rng) -> Vec
         };
         Path { cart, call, cells }
     };
-    order.into_iter().zip(carts).map(path).collect()
+    let paths = order.into_iter().zip(carts).map(path).collect();
+    Plan { paths, spares: left.into_iter().map(|cart| spare_lines::by_chance(job, cart, rng)).collect() }
 }
 
 /// As many cells as the call allows, any of the floor.
@@ -27,11 +30,22 @@ fn jumps(job: &Job, call: usize, rng: &mut Rng) -> Walk {
     (0..=*rng.pick(&steps)).map(|_| rng.below(job.cells)).collect()
 }
 
-/// The paths with one thing changed, if there are any.
-pub fn tampered_plan(job: &Job, paths: &[Path], rng: &mut Rng) -> Vec<Path> {
-    if paths.is_empty() {
-        return Vec::new();
+/// The plan with one thing changed, a path or a spare cart, if it has any.
+pub fn tampered_plan(job: &Job, plan: &Plan, rng: &mut Rng) -> Plan {
+    let mut plan = plan.clone();
+    match (plan.paths.is_empty(), plan.spares.is_empty()) {
+        (true, true) => (),
+        (is_without, false) if is_without || rng.once_in(2) => {
+            let changed = spare_lines::in_the_form(job, &plan, rng);
+            plan = rng.pick(&changed).clone();
+        }
+        _ => plan.paths = tampered_paths(job, &plan.paths, rng),
     }
+    plan
+}
+
+/// The paths, of which there are some, with one thing changed.
+pub fn tampered_paths(job: &Job, paths: &[Path], rng: &mut Rng) -> Vec<Path> {
     let mut paths = paths.to_vec();
     let (one, other) = (rng.below(paths.len()), rng.below(paths.len()));
     match rng.below(if job.has_bays() { 9 } else { 8 }) {
@@ -61,12 +75,12 @@ pub fn wait_for_the_deadline(path: &mut Path, job: &Job) {
     path.cells.resize(job.calls[path.call].deadline + 1, last);
 }
 
-fn change_cell(cells: &mut [usize], job: &Job, rng: &mut Rng) {
+pub(super) fn change_cell(cells: &mut [usize], job: &Job, rng: &mut Rng) {
     cells[rng.below(cells.len())] = rng.below(job.cells);
 }
 
 /// On the cell of a bay after its step, where the path is long enough for one.
-fn stand_in_bay(cells: &mut [usize], job: &Job, rng: &mut Rng) {
+pub(super) fn stand_in_bay(cells: &mut [usize], job: &Job, rng: &mut Rng) {
     let passed: Vec<&Call> = job.calls.iter().filter(|call| call.is_bay() && call.deadline + 1 < cells.len()).collect();
     if !passed.is_empty() {
         let bay = *rng.pick(&passed);

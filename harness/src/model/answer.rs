@@ -13,6 +13,7 @@ pub const NO_NUMBER: u8 = 4;
 pub const OUT_OF_RANGE: u8 = 5;
 pub const TOO_MANY: u8 = 6;
 pub const DOUBLED: u8 = 7;
+/// Fewer carts than calls and bays.
 pub const UNEVEN: u8 = 8;
 pub const STORE_TOO_SHORT: u8 = 9;
 /// The buffer that is written to: the sheet's, or the text's of a map.

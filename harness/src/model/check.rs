@@ -18,7 +18,7 @@ pub fn check(job: &[u8], store_len: usize, sheet: &[u8]) -> (u8, usize) {
 fn verdict(job: &[u8], store_len: usize, sheet: &[u8]) -> Result<u8, Refusal> {
     let job = accepted(job, store_len)?;
     match sheet::read(sheet, &job)? {
-        Sheet::Plan(paths) if is_plan(&job, &paths) => Ok(PLAN),
+        Sheet::Plan(plan) if is_plan(&job, &plan) => Ok(PLAN),
         Sheet::Cannot(chokes) if is_true_list(&job, &chokes) => Ok(CANNOT),
         _ => Err(refusal(WRONG_SHEET)),
     }

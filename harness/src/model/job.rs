@@ -71,6 +71,11 @@ impl Job {
         self.calls.iter().any(Call::is_bay)
     }
 
+    /// How many carts no call can get: they stay on the floor.
+    pub fn spares(&self) -> usize {
+        self.carts.len().saturating_sub(self.calls.len())
+    }
+
     /// The largest deadline, 0 if there are no calls; the README calls it H.
     pub fn last(&self) -> usize {
         self.calls.iter().map(|c| c.deadline).max().unwrap_or(0)

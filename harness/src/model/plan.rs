@@ -1,41 +1,42 @@
-//! Whether paths are a plan of a job, in the written order.
+//! Whether paths and spare walks are a plan of a job, in the written order.
 
 use super::job::Job;
-use super::sheet::Path;
+use super::sheet::Plan;
 
-/// The paths have no more cells and no fewer than their calls allow: the reader of sheets has seen to that.
-pub fn is_plan(job: &Job, paths: &[Path]) -> bool {
-    is_in_order(job, paths) && carts_differ(paths) && are_walks(job, paths) && are_apart(paths)
+/// The walks have no more cells and no fewer than they may have: the reader of sheets has seen to that.
+pub fn is_plan(job: &Job, plan: &Plan) -> bool {
+    is_in_order(job, plan) && each_cart_has_one(job, plan) && are_walks(job, plan) && are_apart(&plan.walks())
 }
 
-/// One path for each call, and the paths as their lines go.
-fn is_in_order(job: &Job, paths: &[Path]) -> bool {
-    paths.iter().map(|p| p.call).eq(job.written_order())
+/// One path for each call, the paths as their lines go, and behind them the spare carts by number.
+fn is_in_order(job: &Job, plan: &Plan) -> bool {
+    let paths_are = plan.paths.iter().map(|p| p.call).eq(job.written_order());
+    paths_are && plan.spares.windows(2).all(|pair| pair[0].cart < pair[1].cart)
 }
 
-/// No cart has two paths.
-fn carts_differ(paths: &[Path]) -> bool {
-    let mut carts: Vec<usize> = paths.iter().map(|p| p.cart).collect();
+/// Every cart has a path or is spare, and no cart has two lines.
+fn each_cart_has_one(job: &Job, plan: &Plan) -> bool {
+    let mut carts = plan.carts();
     carts.sort();
-    carts.windows(2).all(|pair| pair[0] != pair[1])
+    carts.into_iter().eq(0..job.carts.len())
 }
 
-/// Each path starts on its cart's cell, ends on its call's cell, at each step stands or goes along one track, and is on
-/// open cells all the time.
-fn are_walks(job: &Job, paths: &[Path]) -> bool {
+/// Each walk starts on its cart's cell, at each step stands or goes along one track, and is on open cells all the time. A
+/// path ends on its call's cell; a spare cart's walk ends anywhere.
+fn are_walks(job: &Job, plan: &Plan) -> bool {
     let near = job.within_a_step();
-    let is_walk = |p: &Path| {
-        p.cells.first() == Some(&job.carts[p.cart])
-            && p.cells.last() == Some(&job.calls[p.call].cell)
-            && p.cells.windows(2).all(|step| near[step[0]].contains(&step[1]))
-            && p.cells.iter().enumerate().all(|(step, &cell)| job.is_open(cell, step))
+    let is_walk = |(cart, cells): (usize, &[usize])| {
+        cells.first() == Some(&job.carts[cart])
+            && cells.windows(2).all(|step| near[step[0]].contains(&step[1]))
+            && cells.iter().enumerate().all(|(step, &cell)| job.is_open(cell, step))
     };
-    paths.iter().all(is_walk)
+    let ends = plan.paths.iter().all(|p| p.cells.last() == Some(&job.calls[p.call].cell));
+    ends && plan.carts().into_iter().zip(plan.walks()).all(is_walk)
 }
 
-/// No two carts are in a conflict.
-pub fn are_apart(paths: &[Path]) -> bool {
-    paths.iter().enumerate().all(|(i, p)| paths[..i].iter().all(|q| keep_apart(&p.cells, &q.cells)))
+/// No two carts are in a conflict, spare ones included.
+pub fn are_apart(walks: &[&[usize]]) -> bool {
+    walks.iter().enumerate().all(|(i, one)| walks[..i].iter().all(|other| keep_apart(one, other)))
 }
 
 /// The carts of these two walks never share a cell and never trade the ends of a track.
@@ -44,8 +45,8 @@ pub fn keep_apart(one: &[usize], other: &[usize]) -> bool {
 }
 
 /// Both on one cell at one step. A walk has the steps up to the one at which its cart is lifted or parks, that one
-/// included; `zip` ends with the shorter walk, whose cart is off the floor from then on, however late its deadline, or
-/// parked on a cell that is closed.
+/// included, and all of them if its cart is spare; `zip` ends with the shorter walk, whose cart is off the floor from then
+/// on, however late its deadline, or parked on a cell that is closed.
 pub fn share(one: &[usize], other: &[usize]) -> bool {
     one.iter().zip(other).any(|(a, b)| a == b)
 }

@@ -43,7 +43,7 @@ pub fn read(text: &[u8]) -> Result<Job, Refusal> {
         let taken = take(&mut job, before, &line);
         before = Some(taken.map_err(|number| Refusal { number, line: i + 1 })?);
     }
-    if job.carts.len() != job.calls.len() {
+    if job.carts.len() < job.calls.len() {
         return Err(refusal(UNEVEN));
     }
     Ok(job)

@@ -8,8 +8,15 @@ use super::lines::{lines, number, numbers, write, Line};
 
 #[derive(Clone, Debug, PartialEq, Eq)]
 pub enum Sheet {
-    Plan(Vec<Path>),
+    Plan(Plan),
     Cannot(Vec<Choke>),
+}
+
+/// A path for each call, and a walk for each cart that has no path.
+#[derive(Clone, Debug, Default, PartialEq, Eq)]
+pub struct Plan {
+    pub paths: Vec<Path>,
+    pub spares: Vec<Spare>,
 }
 
 /// A cart's walk to its call: the cells from step 0 to the step at which it is lifted, or parks.
@@ -17,6 +24,13 @@ pub enum Sheet {
 pub struct Path {
     pub cart: usize,
     pub call: usize,
+    pub cells: Vec<usize>,
+}
+
+/// A spare cart's walk: the cells from step 0 to the job's last, wherever that is.
+#[derive(Clone, Debug, PartialEq, Eq)]
+pub struct Spare {
+    pub cart: usize,
     pub cells: Vec<usize>,
 }
 
@@ -30,7 +44,7 @@ pub enum Choke {
     Call(usize),
 }
 
-/// What the first line announces, and how many lines are to follow.
+/// What the first line announces, and how many lines it counts.
 enum Head {
     Plan(usize),
     Cannot(usize),
@@ -38,32 +52,45 @@ enum Head {
 
 /// The sheet, or the refusal of its first bad line.
 pub fn read(text: &[u8], job: &Job) -> Result<Sheet, Refusal> {
-    let mut rest = lines(text);
-    let first = rest.next().and_then(|line| head(&line, job));
-    match first.ok_or(bad_line(1))? {
-        Head::Plan(count) => body(rest, count, |line| path(line, job)).map(Sheet::Plan),
-        Head::Cannot(count) => body(rest, count, |line| choke(line, job)).map(Sheet::Cannot),
-    }
+    let mut body = Body { rest: lines(text), number: 1 };
+    let sheet = match body.next(|line| head(line, job))? {
+        Head::Plan(count) => {
+            let paths = body.several(count, |line| path(line, job))?;
+            let spares = body.several(job.spares(), |line| spare(line, job))?;
+            Sheet::Plan(Plan { paths, spares })
+        }
+        Head::Cannot(count) => Sheet::Cannot(body.several(count, |line| choke(line, job))?),
+    };
+    body.end()?;
+    Ok(sheet)
 }
 
-fn bad_line(line: usize) -> Refusal {
-    Refusal { number: BAD_SHEET, line }
+/// The lines that are left, and the number of the next, which need not be there.
+struct Body<I> {
+    rest: I,
+    number: usize,
 }
 
-/// The counted lines, which begin at line 2, and nothing behind them.
-fn body<'a, T>(
-    mut rest: impl Iterator<Item = Line<'a>>,
-    count: usize,
-    read: impl Fn(&Line) -> Option<T>,
-) -> Result<Vec<T>, Refusal> {
-    let mut all = Vec::new();
-    for number in 2..count + 2 {
-        let one = rest.next().and_then(|line| read(&line));
-        all.push(one.ok_or(bad_line(number))?);
+impl<'a, I: Iterator<Item = Line<'a>>> Body<I> {
+    fn next<T>(&mut self, read: impl Fn(&Line) -> Option<T>) -> Result<T, Refusal> {
+        let one = self.rest.next().and_then(|line| read(&line)).ok_or(self.bad_line())?;
+        self.number += 1;
+        Ok(one)
     }
-    match rest.next() {
-        None => Ok(all),
-        Some(_) => Err(bad_line(count + 2)),
+
+    fn several<T>(&mut self, count: usize, read: impl Fn(&Line) -> Option<T>) -> Result<Vec<T>, Refusal> {
+        (0..count).map(|_| self.next(&read)).collect()
+    }
+
+    fn end(mut self) -> Result<(), Refusal> {
+        match self.rest.next() {
+            None => Ok(()),
+            Some(_) => Err(self.bad_line()),
+        }
+    }
+
+    fn bad_line(&self) -> Refusal {
+        Refusal { number: BAD_SHEET, line: self.number }
     }
 }
 
@@ -93,9 +120,20 @@ fn path(line: &Line, job: &Job) -> Option<Path> {
     let n = numbers_of(line, "PATH")?;
     let [cart, call, cells @ ..] = n.as_slice() else { return None };
     let named = job.calls.get(*call)?;
-    let known = *cart < job.carts.len() && cells.iter().all(|&cell| cell < job.cells);
     let in_time = cells.len().checked_sub(1).is_some_and(|last| named.is_met_at(last));
-    (known && in_time).then(|| Path { cart: *cart, call: *call, cells: cells.to_vec() })
+    (are_known(*cart, cells, job) && in_time).then(|| Path { cart: *cart, call: *call, cells: cells.to_vec() })
+}
+
+/// A cell for each step of the job, whatever the paths have.
+fn spare(line: &Line, job: &Job) -> Option<Spare> {
+    let n = numbers_of(line, "SPARE")?;
+    let [cart, cells @ ..] = n.as_slice() else { return None };
+    let to_the_last = cells.len() == job.last() + 1;
+    (are_known(*cart, cells, job) && to_the_last).then(|| Spare { cart: *cart, cells: cells.to_vec() })
+}
+
+fn are_known(cart: usize, cells: &[usize], job: &Job) -> bool {
+    cart < job.carts.len() && cells.iter().all(|&cell| cell < job.cells)
 }
 
 fn choke(line: &Line, job: &Job) -> Option<Choke> {
@@ -116,15 +154,44 @@ fn cell_at_step(numbers: &[usize], job: &Job) -> Option<Choke> {
     (cell < job.cells && step <= job.last()).then_some(Choke::Cell { step, cell })
 }
 
+impl Plan {
+    /// The walks of all its carts, those of the paths first.
+    pub fn walks(&self) -> Vec<&[usize]> {
+        let of_paths = self.paths.iter().map(|p| p.cells.as_slice());
+        of_paths.chain(self.spares.iter().map(|spare| spare.cells.as_slice())).collect()
+    }
+
+    /// Their numbers, in the same order.
+    pub fn carts(&self) -> Vec<usize> {
+        let of_paths = self.paths.iter().map(|p| p.cart);
+        of_paths.chain(self.spares.iter().map(|spare| spare.cart)).collect()
+    }
+}
+
+/// The plan of a job that has no spare carts.
+impl From<Vec<Path>> for Plan {
+    fn from(paths: Vec<Path>) -> Plan {
+        Plan { paths, spares: Vec::new() }
+    }
+}
+
 impl Sheet {
+    /// The plan of a job that has no spare carts.
+    pub fn of_paths(paths: Vec<Path>) -> Sheet {
+        Sheet::Plan(paths.into())
+    }
+
     /// The sheet as it is written, also where it is wrong.
     pub fn text(&self) -> Vec<u8> {
         let mut out = Vec::new();
         match self {
-            Sheet::Plan(paths) => {
-                write(&mut out, "PLAN", &[paths.len()]);
-                for p in paths {
+            Sheet::Plan(plan) => {
+                write(&mut out, "PLAN", &[plan.paths.len()]);
+                for p in &plan.paths {
                     write(&mut out, "PATH", &[&[p.cart, p.call], p.cells.as_slice()].concat());
+                }
+                for spare in &plan.spares {
+                    write(&mut out, "SPARE", &[&[spare.cart], spare.cells.as_slice()].concat());
                 }
             }
             Sheet::Cannot(chokes) => {

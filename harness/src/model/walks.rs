@@ -32,6 +32,20 @@ fn walks_to_calls(job: &Job, near: &[Vec<usize>], start: usize) -> Vec<Vec<Walk>
     to_calls
 }
 
+/// Every walk of each cart that has all steps of the job, wherever it ends: those of a spare cart.
+pub fn spare_walks(job: &Job) -> Vec<Vec<Walk>> {
+    let near = job.within_a_step();
+    job.carts.iter().map(|&cell| walks_to_the_last_step(job, &near, cell)).collect()
+}
+
+fn walks_to_the_last_step(job: &Job, near: &[Vec<usize>], start: usize) -> Vec<Walk> {
+    let mut walks = vec![vec![start]];
+    for _ in 0..job.last() {
+        walks = walks.iter().flat_map(|walk| one_step_longer(job, near, walk)).collect();
+    }
+    walks
+}
+
 fn one_step_longer<'a>(job: &'a Job, near: &'a [Vec<usize>], walk: &'a [usize]) -> impl Iterator<Item = Walk> + 'a {
     let (here, step) = (walk[walk.len() - 1], walk.len());
     let open = near[here].iter().filter(move |&&next| job.is_open(next, step));

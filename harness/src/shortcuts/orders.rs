@@ -3,7 +3,7 @@
 use crate::gen::orders::{as_in_the_job, by_cell_alone, Order};
 use crate::gen::plans::plans;
 use crate::model::job::Job;
-use crate::model::sheet::Sheet;
+use crate::model::sheet::{Plan, Sheet};
 
 /// Leaving calls of one step in the order of the job. The sheet, if there is a plan.
 pub fn leaving_one_step_as_in_the_job(job: &Job) -> Option<Sheet> {
@@ -16,5 +16,6 @@ pub fn going_by_cell_alone(job: &Job) -> Option<Sheet> {
 }
 
 fn first_plan_in(order: Order, job: &Job) -> Option<Sheet> {
-    plans(job, 1).first().map(|paths| Sheet::Plan(order(job, paths)))
+    let plan = plans(job, 1).into_iter().next();
+    plan.map(|plan| Sheet::Plan(Plan { paths: order(job, &plan.paths), ..plan }))
 }
