@@ -1,7 +1,9 @@
-//! The filed examples: jobs with the answers that whoever asked for the planner, and later for bays, for early lifts and for
-//! exponents, wrote down. Tabs are shown as spaces. Each job is in `examples/` too, with its sheet, under its name in small letters.
+//! The filed examples: jobs with the answers that whoever asked for the planner, and later for bays, for early lifts, for
+//! exponents and for spare carts, wrote down. Tabs are shown as spaces. Each job is in `examples/` too, with its sheet, under
+//! its name in small letters; those of `spares` are here alone.
 
 pub mod exponents;
+pub mod spares;
 
 use crate::model::answer::*;
 
@@ -138,7 +140,8 @@ pub const REFUSED: &[(&str, u8, usize)] = &[
     ("FLOOR 2\nTRACK 0 0\n", DOUBLED, 2),
     ("FLOOR 1\nTRACK 0 0\n", DOUBLED, 2),
     ("FLOOR 2\nTRACK 0 1\nTRACK 1 0\n", DOUBLED, 3),
-    ("FLOOR 1\nCART 0\n", UNEVEN, 0),
+    ("FLOOR 1\nCALL 0 0\n", UNEVEN, 0),
+    ("FLOOR 2\nCART 0\nCALL 0 0\nCALL 1 0\n", UNEVEN, 0),
     ("FLOOR 1\nCART 00\nCALL 0 0\n", NO_NUMBER, 2),
     ("FLOOR 1\nCART 1e0\nCALL 0 0\n", OUT_OF_RANGE, 2),
     ("FLOOR 1\nCART 999e9\nCALL 0 0\n", OUT_OF_RANGE, 2),

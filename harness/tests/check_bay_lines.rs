@@ -90,14 +90,15 @@ fn carts_are_compared_with_calls_and_bays_together() {
             ("FLOOR 1\nBAY 0 0\n", 0),
             ("FLOOR 2\nCART 0\nBAY 0 0\nBAY 1 0\n", 0),
             ("FLOOR 2\nCART 0\nCALL 0 0\nBAY 1 0\n", 0),
-            ("FLOOR 2\nCART 0\nCART 1\nBAY 0 0\n", 0),
-            ("FLOOR 3\nCART 0\nCART 1\nCART 2\nBAY 0 0\nCALL 1 0\n", 0),
+            ("FLOOR 3\nCART 0\nCART 1\nBAY 0 0\nCALL 1 0\nBAY 2 0\n", 0),
         ],
     );
     for (job, sheet) in [
         ("FLOOR 1\nCART 0\nBAY 0 0\n", "PLAN 1\nPATH 0 0 0\n"),
         ("FLOOR 2\nCART 0\nCART 1\nBAY 1 0\nCALL 0 0\n", "PLAN 2\nPATH 0 1 0\nPATH 1 0 1\n"),
         ("FLOOR 2\nCART 0\nCART 1\nCALL 1 0\nBAY 0 0\n", "PLAN 2\nPATH 0 1 0\nPATH 1 0 1\n"),
+        ("FLOOR 2\nCART 0\nCART 1\nBAY 1 0\n", "PLAN 1\nPATH 1 0 1\nSPARE 0 0\n"),
+        ("FLOOR 3\nCART 0\nCART 1\nCART 2\nBAY 0 0\nCALL 1 0\n", "PLAN 2\nPATH 0 0 0\nPATH 1 1 1\nSPARE 2 2\n"),
     ] {
         assert_eq!(library(&tabs(job), BUFFER, &tabs(sheet)), (PLAN, 0), "{job:?}");
     }

@@ -238,7 +238,7 @@ fn the_whole_store_is_wiped_or_left_alone() {
 
 #[test]
 fn refusals_of_the_job_come_before_those_of_the_store() {
-    assert_eq!(library(&tabs("FLOOR 1\nCART 0\n"), 0, b""), (UNEVEN, 0));
+    assert_eq!(library(&tabs("FLOOR 1\nCALL 0 0\n"), 0, b""), (UNEVEN, 0));
     assert_eq!(library(&tabs("FLOOR 1\nCART 1\n"), 0, b""), (OUT_OF_RANGE, 2));
     assert_eq!(library(b"", 0, b""), (BAD_LINE, 1));
     assert_eq!(library(&[0; limits::TEXT + 1], 0, b""), (TEXT_TOO_LONG, 0));

@@ -157,16 +157,17 @@ fn what_stands_twice_is_7() {
 }
 
 #[test]
-fn carts_and_calls_that_differ_in_number_are_8() {
+fn fewer_carts_than_calls_are_8() {
     assert_turned_back(
         UNEVEN,
         &[
-            ("FLOOR 1\nCART 0\n", 0),
             ("FLOOR 1\nCALL 0 0\n", 0),
             ("FLOOR 2\nCART 0\nCALL 0 0\nCALL 1 0\n", 0),
-            ("FLOOR 2\nCART 0\nCART 1\nCALL 0 0\n", 0),
+            ("FLOOR 3\nCART 0\nCART 1\nCALL 0 0\nCALL 1 0\nCALL 2 0\n", 0),
         ],
     );
+    // More are none: the next refusal is that of the store.
+    assert_turned_back(STORE_TOO_SHORT, &[("FLOOR 1\nCART 0\n", 0), ("FLOOR 2\nCART 0\nCART 1\nCALL 0 0\n", 0)]);
 }
 
 #[test]

@@ -65,7 +65,7 @@ const ROWS: &[(JobFault, &str, &str, &str)] = &[
     (JobFault::KeepsPowerForNextField, "FLOOR 2\nTRACK 0e9 1\n", "FLOOR 2\nTRACK 0 1\n", "REFUSED 5 2"),
     (JobFault::RefusesInFloor, "FLOOR 1e0\n", "FLOOR 1\n", "REFUSED 4 1"),
     (JobFault::RefusesInTracks, "FLOOR 2\nTRACK 0 1e0\n", "FLOOR 2\nTRACK 0 1\n", "REFUSED 4 2"),
-    (JobFault::RefusesInCarts, "FLOOR 1\nCART 0e0\n", "REFUSED 8 0", "REFUSED 4 2"),
+    (JobFault::RefusesInCarts, "FLOOR 1\nCART 0e0\n", "FLOOR 1\nCART 0\n", "REFUSED 4 2"),
     (JobFault::RefusesInCalls, "FLOOR 1\nCALL 0e0 0\n", "REFUSED 8 0", "REFUSED 4 2"),
     (JobFault::RefusesInBays, "FLOOR 1\nBAY 0 0e0\n", "REFUSED 8 0", "REFUSED 4 2"),
     (JobFault::RefusesInDeadlines, "FLOOR 1\nCALL 0 0e0\n", "REFUSED 8 0", "REFUSED 4 2"),
@@ -75,6 +75,8 @@ const ROWS: &[(JobFault, &str, &str, &str)] = &[
     (JobFault::FindsDoubledBySpelling, "FLOOR 2\nTRACK 1 1e0\n", "REFUSED 7 2", "FLOOR 2\nTRACK 1 1\n"),
     (JobFault::TestsNumbersBeforeForm, "FLOOR 1e-1 1\n", "REFUSED 3 1", "REFUSED 4 1"),
     (JobFault::TestsFieldByField, "FLOOR 2\nTRACK 999e9 x\n", "REFUSED 4 2", "REFUSED 5 2"),
+    (JobFault::RefusesSpareCarts, "FLOOR 1\nCART 0e0\n", "FLOOR 1\nCART 0\n", "REFUSED 8 0"),
+    (JobFault::TakesFewerCarts, "FLOOR 1\nCALL 0e0 0\n", "REFUSED 8 0", "FLOOR 1\nCALL 0 0\n"),
 ];
 
 #[test]

@@ -1,6 +1,7 @@
 //! The library called by the names of the C header: its limits, lengths and answers, each at its edge, and the parameters
 //! of planner and check in the order of their prototypes. `header_map.rs` has the map call. Tabs are shown as spaces.
 
+use harness::examples::spares::D_WITHOUT_CALL;
 use harness::examples::{A, B, BAY, CLOSED, D, F, F_TRADED, G, WHOLE};
 use harness::header::{answers, assert_rows, parameters, row, Row};
 
@@ -23,6 +24,7 @@ fn the_limits() {
         ("planned_job(256, CARTFLOOR_TRACKS_MAX + 1, 0, 0, 0)", "TOO_MANY 514"),
         ("planned_job(256, 0, CARTFLOOR_CARTS_MAX, 64, 0)", "PLAN, checked PLAN 0"),
         ("planned_job(256, 0, CARTFLOOR_CARTS_MAX + 1, 64, 0)", "TOO_MANY 66"),
+        ("planned_job(256, 0, CARTFLOOR_CARTS_MAX, 0, 0)", "PLAN, checked PLAN 0"),
         ("planned_job(256, 0, 64, CARTFLOOR_CALLS_MAX, 0)", "PLAN, checked PLAN 0"),
         ("planned_job(256, 0, 64, CARTFLOOR_CALLS_MAX + 1, 0)", "TOO_MANY 130"),
         ("planned_job(1, 0, 1, 1, CARTFLOOR_DEADLINE_MAX)", "PLAN, checked PLAN 0"),
@@ -31,6 +33,8 @@ fn the_limits() {
         ("planned_length(CARTFLOOR_TEXT_MAX + 1)", "TEXT_TOO_LONG 0"),
         // All at once, in buffers that are enough for every job.
         ("planned_job(256, 512, 64, 64, 255)", "PLAN, checked PLAN 0"),
+        ("planned_job(256, 512, 64, 1, 255)", "PLAN, checked PLAN 0"),
+        ("planned_job(256, 512, 64, 63, 255)", "PLAN, checked PLAN 0"),
     ];
     assert_rows(FOLDER, "limits", &rows.map(|(statement, expected)| row(statement, expected)));
 }
@@ -128,6 +132,9 @@ fn every_answer_by_its_name() {
         checked(CLOSED.job, "4768", CLOSED.sheet, "CANNOT 0"),
         planned(WHOLE.job, "4864", "120", WHOLE.sheet, "the sheet, 4864 wiped, CANNOT 22"),
         checked(WHOLE.job, "4864", WHOLE.sheet, "CANNOT 0"),
+        planned(D_WITHOUT_CALL.job, "4128", "84", D_WITHOUT_CALL.sheet, "the sheet, 4128 wiped, PLAN 17"),
+        checked(D_WITHOUT_CALL.job, "4128", D_WITHOUT_CALL.sheet, "PLAN 0"),
+        checked(D_WITHOUT_CALL.job, "4128", "PLAN 0\n", "BAD_SHEET 2"),
     ];
     let long = "x".repeat(16_385);
     let refused: &[(&str, &str)] = &[
@@ -140,7 +147,7 @@ fn every_answer_by_its_name() {
         ("FLOOR 1\nCART 0\nCALL 0 256\n", "OUT_OF_RANGE 3"),
         ("FLOOR 2\nTRACK 0 1\nTRACK 1 0\n", "DOUBLED 3"),
         ("FLOOR 1\nBAY 0 0\nCALL 0 1\n", "DOUBLED 3"),
-        ("FLOOR 1\nCART 0\n", "UNEVEN 0"),
+        ("FLOOR 2\nCART 0\nCALL 0 0\nBAY 1 0\n", "UNEVEN 0"),
         ("FLOOR 1\nCALL 0 0\n", "UNEVEN 0"),
         ("FLOOR 1\nBAY 0 0\n", "UNEVEN 0"),
     ];

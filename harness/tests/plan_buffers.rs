@@ -50,7 +50,7 @@ fn least_and_shorter_and_longer_for_large_jobs() {
 #[test]
 fn refusals_of_the_job_come_before_those_of_the_buffers() {
     let mut rng = Rng::new(3);
-    assert_eq!(plan(&tabs("FLOOR 1\nCART 0\n"), 0, 0, &mut rng).0, UNEVEN);
+    assert_eq!(plan(&tabs("FLOOR 1\nCALL 0 0\n"), 0, 0, &mut rng).0, UNEVEN);
     assert_eq!(plan(b"", 0, 0, &mut rng).0, BAD_LINE);
     assert_eq!(plan(&[0; TEXT + 1], 0, 0, &mut rng).0, TEXT_TOO_LONG);
     for line in ["CALL 0 0\n", "BAY 0 0\n"] {

@@ -6,6 +6,7 @@ use std::path::PathBuf;
 use std::process::Command;
 
 use harness::child::{finish, piped, Ended};
+use harness::examples::spares::SPARES;
 use harness::examples::{e_in_bay, tabs, BUFFER, D, EXAMPLES, PLANNED, REFUSED};
 use harness::model::answer::PLAN;
 use harness::model::check::check;
@@ -103,9 +104,27 @@ fn every_refusal_of_a_job() {
         refused("a track twice", star_and("TRACK 255 0\n"), 7, 257),
         refused("a second cart", tabs(&(loose(20, 10, 0, 0) + "CART 9\n")), 7, 12),
         refused("a second call", tabs(&(loose(20, 10, 9, 7) + "CALL 8 6\n")), 7, 21),
-        refused("more carts than calls", tabs(&loose(20, 10, 9, 0)), 8, 0),
         refused("more calls than carts", tabs(&loose(20, 10, 11, 0)), 8, 0),
+        refused("calls without a cart", tabs(&loose(20, 0, 1, 0)), 8, 0),
     ]);
+}
+
+/// On a floor without tracks everybody stands, so that there is one plan alone where the calls come to an end at step 0, or
+/// in bays.
+#[test]
+fn more_carts_than_calls() {
+    let sheet = |carts: usize, calls: usize, deadline: usize| {
+        let spare = |i| format!("SPARE {i}{}\n", format!(" {i}").repeat(deadline + 1));
+        standing(calls, deadline) + &(calls..carts).map(spare).collect::<String>()
+    };
+    let mut rows: Vec<Row> = SPARES.iter().map(|x| row(x.name, tabs(x.job), x.sheet)).collect();
+    for (carts, calls) in [(1, 0), (10, 9), (64, 0), (64, 1), (64, 8), (64, 63)] {
+        let name = format!("{carts} carts, {calls} calls");
+        rows.push(row(&name, tabs(&loose(64, carts, calls, 0)), &sheet(carts, calls, 0)));
+        let last = if calls == 0 { 0 } else { 29 };
+        rows.push(row(&name, tabs(&in_bays(loose(64, carts, calls, 29))), &sheet(carts, calls, last)));
+    }
+    assert_rows(rows);
 }
 
 /// The job with bays for its calls.

@@ -158,7 +158,7 @@ pub const REFUSED: &[(&str, u8, usize)] = &[
     ("FLOOR 2\nCART 0\nCALL 0 0\nCALL 0e1 3e2\n", OUT_OF_RANGE, 4),
     ("FLOOR 2\nCART 0e1\nCART 0e2\nx\n", DOUBLED, 3),
     // The counts go by lines.
-    ("FLOOR 25e1\nCART 2e2\n", UNEVEN, 0),
+    ("FLOOR 25e1\nCART 2e2\nCALL 1e2 1\nCALL 1e1 1\n", UNEVEN, 0),
     ("FLOOR 1e0\nCALL 0e0 25e1\n", UNEVEN, 0),
     ("FLOOR 2e0\nCART 1e0\nBAY 1E0 1e2\nBAY 0E+0 1\n", UNEVEN, 0),
 ];
@@ -169,6 +169,7 @@ pub const READ: &[(&str, &str)] = &[
     ("FLOOR 256e0\n", "FLOOR 256\n"),
     ("FLOOR 1E+0\n", "FLOOR 1\n"),
     ("FLOOR 1e2\n", "FLOOR 100\n"),
+    ("FLOOR 25e1\nCART 2e2\n", "FLOOR 250\nCART 200\n"),
     ("FLOOR 2\nCART 1e0\nCALL 1e0 0e9\n", "FLOOR 2\nCART 1\nCALL 1 0\n"),
     ("FLOOR 1\nCART 0\nCALL 0 255e0\n", "FLOOR 1\nCART 0\nCALL 0 255\n"),
     ("FLOOR 1\nCART 0E9\nBAY 0e+9 25E1\n", "FLOOR 1\nCART 0\nBAY 0 250\n"),

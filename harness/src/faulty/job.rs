@@ -70,6 +70,8 @@ pub enum JobFault {
     FindsDoubledBySpelling,
     TestsNumbersBeforeForm,
     TestsFieldByField,
+    RefusesSpareCarts,
+    TakesFewerCarts,
     CountsBeforeRange,
     FindsDoubledBeforeCount,
     LimitsTextAsBefore,
@@ -131,6 +133,8 @@ pub const JOB_FAULTS: &[JobFault] = &[
     JobFault::FindsDoubledBySpelling,
     JobFault::TestsNumbersBeforeForm,
     JobFault::TestsFieldByField,
+    JobFault::RefusesSpareCarts,
+    JobFault::TakesFewerCarts,
     JobFault::CountsBeforeRange,
     JobFault::FindsDoubledBeforeCount,
     JobFault::LimitsTextAsBefore,
@@ -186,7 +190,13 @@ impl Pass {
             return Err(Refusal { number: BAD_LINE, line: self.line });
         }
         let job = self.taken.job;
-        match job.carts.len() == job.calls.len() {
+        let (carts, calls) = (job.carts.len(), job.calls.len());
+        let are_enough = match self.fault {
+            JobFault::RefusesSpareCarts => carts == calls,
+            JobFault::TakesFewerCarts => true,
+            _ => carts >= calls,
+        };
+        match are_enough {
             true => Ok(job),
             false => Err(refusal(UNEVEN)),
         }

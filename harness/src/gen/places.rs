@@ -20,8 +20,8 @@ impl Place {
     }
 }
 
-/// Each place, on a floor of so many cells. With a number in range the text is a job but for a count of carts or calls, or
-/// has a track from cell 0 to itself.
+/// Each place, on a floor of so many cells. With a number in range the text is a job but for a call that has no cart, or has
+/// a track from cell 0 to itself.
 pub fn places(cells: usize) -> Vec<Place> {
     let place = |text: &str, range: Range<usize>| {
         let (before, behind) = text.split_once('#').expect("a place");
