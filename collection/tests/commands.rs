@@ -5,13 +5,12 @@ mod kit;
 use std::fs;
 use std::os::unix::fs::MetadataExt;
 
+use collection::words::{Words, NUMBERS};
 use harness::examples::{e_in_bay, A, A_BY_CALL, B, C, D, F, G, PLANNED, WHOLE};
 use kit::mixed::mixed;
 use kit::{is_right, tabs, Folder};
 
 const DOUBLED: &str = "r.job:3: error[7]: a second cart on a cell\n    to do: strike that line\n";
-const UNEVEN: &str = "u.job: error[8]: there are not as many carts as calls and bays together\n    \
-    to do: give each cart a call or bay, or leave it out\n";
 const BAD: &str = "floor 2/d.sheet:2: error[11]: the sheet is not in the form\n    \
     to do: do not run it: see that line's word, numbers and count of fields, or plan the job again (floors plan --again)\n";
 const WRONG: &str =
@@ -20,11 +19,17 @@ const WRONG: &str =
 const NONE_OF_C: &str = "floor 1/c.job: error: no sheet; the answer is PLAN\n    to do: floors plan writes it\n";
 const NONE_OF_G: &str = "g.job: error: no sheet; the answer is CANNOT\n    to do: floors plan writes it\n";
 
+/// Fewer carts than calls, in the words that `words` holds against the README.
+fn uneven() -> String {
+    let Words { says, advice, .. } = &NUMBERS[8];
+    format!("u.job: error[8]: {says}\n    to do: {advice}\n")
+}
+
 #[test]
 fn status_shows_every_job() {
     let right = "floor 1/a.sheet: right PLAN\nfloor 1/b.sheet: right CANNOT\n";
     let summary = "8 jobs: 4 plan, 2 cannot, 2 refused; sheets: 2 right, 2 missing, 2 wrong\n";
-    let all = [right, NONE_OF_C, BAD, WRONG, NONE_OF_G, DOUBLED, UNEVEN, summary].concat();
+    let all = [right, NONE_OF_C, BAD, WRONG, NONE_OF_G, DOUBLED, &uneven(), summary].concat();
     let folder = mixed();
     let before = folder.files();
     folder.floors(&["status"]).expect(1, &all, "");
@@ -36,7 +41,7 @@ fn status_shows_every_job() {
 #[test]
 fn check_shows_what_is_wrong() {
     let summary = "8 jobs: 4 plan, 2 cannot, 2 refused; sheets: 2 right, 2 missing, 2 wrong\n";
-    let wrong = [NONE_OF_C, BAD, WRONG, NONE_OF_G, DOUBLED, UNEVEN, summary].concat();
+    let wrong = [NONE_OF_C, BAD, WRONG, NONE_OF_G, DOUBLED, &uneven(), summary].concat();
     let folder = mixed();
     let before = folder.files();
     folder.floors(&["check"]).expect(1, &wrong, "");
@@ -54,13 +59,13 @@ fn plan_writes_the_missing_sheets() {
     let filed = "floor 1/c.sheet: filed PLAN\n";
     let filed_too = "g.sheet: filed CANNOT\n";
     let summary = "8 jobs: 4 plan, 2 cannot, 2 refused; sheets: 4 right, 0 missing, 2 wrong; 2 filed\n";
-    let shown = [filed, BAD, WRONG, filed_too, DOUBLED, UNEVEN, summary].concat();
+    let shown = [filed, BAD, WRONG, filed_too, DOUBLED, &uneven(), summary].concat();
     folder.floors(&["plan"]).expect(1, &shown, "");
     files.insert(b"floor 1/c.sheet".to_vec(), tabs(C.sheet));
     files.insert(b"g.sheet".to_vec(), tabs(G.sheet));
     assert_eq!(folder.files(), files);
     let summary = "8 jobs: 4 plan, 2 cannot, 2 refused; sheets: 4 right, 0 missing, 2 wrong\n";
-    folder.floors(&["plan"]).expect(1, &[BAD, WRONG, DOUBLED, UNEVEN, summary].concat(), "");
+    folder.floors(&["plan"]).expect(1, &[BAD, WRONG, DOUBLED, &uneven(), summary].concat(), "");
     assert_eq!(folder.files(), files);
 }
 
@@ -70,7 +75,7 @@ fn plan_again_writes_wrong_sheets_too() {
     let mut files = folder.files();
     let lines = "floor 1/c.sheet: filed PLAN\nfloor 2/d.sheet: filed PLAN\nfloor 2/f.sheet: filed PLAN\ng.sheet: filed CANNOT\n";
     let summary = "8 jobs: 4 plan, 2 cannot, 2 refused; sheets: 6 right, 0 missing, 0 wrong; 4 filed\n";
-    folder.floors(&["plan", "--again"]).expect(1, &[lines, DOUBLED, UNEVEN, summary].concat(), "");
+    folder.floors(&["plan", "--again"]).expect(1, &[lines, DOUBLED, &uneven(), summary].concat(), "");
     for (name, sheet) in [("floor 1/c", C.sheet), ("floor 2/d", D.sheet), ("g", G.sheet)] {
         files.insert(format!("{name}.sheet").into_bytes(), tabs(sheet));
     }
@@ -102,7 +107,7 @@ fn a_dry_run_writes_nothing() {
     let due = "floor 1/c.sheet: would be filed: PLAN\nfloor 2/d.sheet: would be filed: PLAN\n\
                floor 2/f.sheet: would be filed: PLAN\ng.sheet: would be filed: CANNOT\n";
     let summary = "8 jobs: 4 plan, 2 cannot, 2 refused; sheets: 2 right, 2 missing, 2 wrong; 4 to be filed\n";
-    folder.floors(&["plan", "--again", "--dry-run"]).expect(1, &[due, DOUBLED, UNEVEN, summary].concat(), "");
+    folder.floors(&["plan", "--again", "--dry-run"]).expect(1, &[due, DOUBLED, &uneven(), summary].concat(), "");
     assert_eq!(folder.files(), before);
 }
 
@@ -217,17 +222,18 @@ fn bays() {
 fn refused_bays() {
     let second = "-:5: error[7]: a second call or bay on a cell\n";
     let out_of_range = "-:4: error[5]: a bay on a cell that the floor has not, or a step over 255\n";
-    let uneven = "-: error[8]: there are not as many carts as calls and bays together\n";
+    let uneven = format!("-: error[8]: {}\n", NUMBERS[8].says);
     let jobs = [
         ("CALL 0 0\nBAY 0 1\n", second),
         ("BAY 0 1\nCALL 0 0\n", second),
         ("BAY 0 1\nBAY 0 0\n", second),
         ("BAY 2 0\n", out_of_range),
         ("BAY 0 256\n", out_of_range),
-        ("BAY 0 0\n", uneven),
+        ("BAY 0 0\nCALL 1 0\nBAY 2 0\n", &uneven),
     ];
     for (lines, told) in jobs {
-        let job = tabs(&format!("FLOOR 2\nCART 0\nCART 1\n{lines}"));
+        let floor = if lines.contains("BAY 2 0\n") && told == uneven { 3 } else { 2 };
+        let job = tabs(&format!("FLOOR {floor}\nCART 0\nCART 1\n{lines}"));
         Folder::new().floors_with(&["plan", "-q", "-"], &job).expect(1, "", told);
     }
     let carts: String = (0..64).map(|cell| format!("CART {cell}\n")).collect();

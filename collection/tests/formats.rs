@@ -2,6 +2,7 @@
 
 mod kit;
 
+use collection::words::NUMBERS;
 use harness::examples::{A, G};
 use kit::mixed::mixed;
 use kit::{tabs, Folder};
@@ -17,7 +18,8 @@ fn a_table_with_tabs() {
         floor 2/f.job\tplan\twrong\tleft\t12\t0\tthe sheet is in the form, yet no plan, no true choke list, or out of order\n\
         g.job\tcannot\tright\tfiled\t1\t0\tCANNOT: there is no plan, and the sheet has the choke points that show it\n\
         r.job\trefused\tunknown\tleft\t7\t3\ta second cart on a cell\n\
-        u.job\trefused\tunknown\tleft\t8\t0\tthere are not as many carts as calls and bays together\n";
+        u.job\trefused\tunknown\tleft\t8\t0\t#8\n";
+    let rows = rows.replace("#8", NUMBERS[8].says);
     let folder = mixed();
     let summary = "8 jobs: 4 plan, 2 cannot, 2 refused; sheets: 4 right, 0 missing, 2 wrong";
     let changes: String = rows.split_inclusive('\n').filter(|row| !row.contains("right\tleft")).collect();

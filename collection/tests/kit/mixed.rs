@@ -19,7 +19,7 @@ pub fn mixed() -> Folder {
     folder.put("g.job", tabs(G.job));
     folder.put("r.job", tabs("FLOOR 2\nCART 0\nCART 0\n"));
     folder.put("r.sheet", tabs("PLAN 0\n"));
-    folder.put("u.job", tabs("FLOOR 1\nCART 0\n"));
+    folder.put("u.job", tabs("FLOOR 1\nCALL 0 0\n"));
     for name in ["notes.txt", "xjob", "x.jobs", "x.JOB", "x.job~"] {
         folder.put(name, "no job");
     }
