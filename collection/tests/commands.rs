@@ -227,13 +227,12 @@ fn refused_bays() {
         ("CALL 0 0\nBAY 0 1\n", second),
         ("BAY 0 1\nCALL 0 0\n", second),
         ("BAY 0 1\nBAY 0 0\n", second),
-        ("BAY 2 0\n", out_of_range),
+        ("BAY 3 0\n", out_of_range),
         ("BAY 0 256\n", out_of_range),
         ("BAY 0 0\nCALL 1 0\nBAY 2 0\n", &uneven),
     ];
     for (lines, told) in jobs {
-        let floor = if lines.contains("BAY 2 0\n") && told == uneven { 3 } else { 2 };
-        let job = tabs(&format!("FLOOR {floor}\nCART 0\nCART 1\n{lines}"));
+        let job = tabs(&format!("FLOOR 3\nCART 0\nCART 1\n{lines}"));
         Folder::new().floors_with(&["plan", "-q", "-"], &job).expect(1, "", told);
     }
     let carts: String = (0..64).map(|cell| format!("CART {cell}\n")).collect();

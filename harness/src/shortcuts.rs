@@ -1,15 +1,17 @@
-//! Shortcuts that lose a lane: fifteen planners that are wrong, each on some job, four of them about bays, two about the
-//! order of the lines and four about early lifts.
+//! Shortcuts that lose a lane: nineteen planners that are wrong, each on some job, four of them about bays, two about the
+//! order of the lines, four about early lifts and four about spare carts.
 //!
 //! They search small jobs exhaustively but for the shortcut, so that nothing else can be the reason.
 
 mod bays;
 mod early;
 mod orders;
+mod spares;
 
 pub use bays::*;
 pub use early::*;
 pub use orders::*;
+pub use spares::*;
 
 use std::slice::from_ref;
 

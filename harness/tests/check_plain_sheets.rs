@@ -2,6 +2,7 @@
 //! shown as spaces.
 
 use harness::compare::{answer_to_map, library};
+use harness::examples::spares::SPARES;
 use harness::examples::{tabs, Example, BUFFER, EARLY, EARLY_PLAN, EXAMPLES};
 use harness::gen::spelled::{at_full_length, respelled, spellings, with_field};
 use harness::gen::Rng;
@@ -16,10 +17,10 @@ fn numbers(sheet: &str) -> Vec<(usize, usize, usize)> {
     sheet.lines().enumerate().flat_map(in_line).collect()
 }
 
-/// The filed examples and a plan with early lifts: CHOKE and CHOKE CALL lines are among them.
+/// The filed examples, those with spare carts and a plan with early lifts: CHOKE and CHOKE CALL lines are among them.
 fn examples() -> Vec<Example> {
     let early = Example { name: EARLY.name, job: EARLY.job, sheet: EARLY_PLAN, answer: PLAN };
-    EXAMPLES.iter().map(|x| Example { ..*x }).chain([early]).collect()
+    EXAMPLES.iter().chain(SPARES).map(|x| Example { ..*x }).chain([early]).collect()
 }
 
 #[test]
@@ -52,7 +53,7 @@ fn a_job_with_exponents_and_its_plain_sheet_pass() {
 /// Of lines that are right but for a number, each kind has been tried.
 #[test]
 fn the_examples_have_lines_of_every_kind() {
-    let words = ["PLAN ", "PATH ", "CANNOT ", "CHOKE ", "CHOKE CALL "];
+    let words = ["PLAN ", "PATH ", "SPARE ", "CANNOT ", "CHOKE ", "CHOKE CALL "];
     let has = |word: &str| examples().iter().any(|x| x.sheet.lines().any(|line| line.starts_with(word)));
     assert!(words.into_iter().all(has));
 }

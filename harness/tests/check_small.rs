@@ -4,6 +4,7 @@ use harness::compare::library_on;
 use harness::gen::cases::{self, Case, Kind, Known, KINDS};
 use harness::gen::early;
 use harness::gen::small::{small, small_at_one_step, small_with_bays};
+use harness::gen::spares::small_with_spares;
 use harness::gen::Rng;
 use harness::model::answer::*;
 use harness::model::job::Job;
@@ -61,6 +62,25 @@ fn sheets_of_30_000_jobs_with_bays() {
     plans.assert_each(&[PLAN, WRONG_SHEET], 20_000);
     let lists = try_on(small_with_bays, cases::choke_lists, 10, 10_000);
     lists.assert_each(&[CANNOT, WRONG_SHEET], 20_000);
+}
+
+#[test]
+fn spare_lines() {
+    let tally = try_on(small_with_spares, cases::spare_carts, 15, 2000);
+    tally.assert_only(&[PLAN, BAD_SHEET, WRONG_SHEET]);
+    tally.assert_each(&[PLAN, BAD_SHEET, WRONG_SHEET], 5000);
+}
+
+/// The sheets that the search of all plans and lists finds, and many beside them.
+#[test]
+fn sheets_of_10_000_jobs_with_spare_carts() {
+    let right = try_on(small_with_spares, cases::right_sheets, 16, 4000);
+    right.assert_only(&[PLAN, CANNOT]);
+    right.assert_each(&[PLAN, CANNOT], 2000);
+    let plans = try_on(small_with_spares, cases::wrong_plans, 17, 3000);
+    plans.assert_each(&[PLAN, WRONG_SHEET], 5000);
+    let lists = try_on(small_with_spares, cases::choke_lists, 18, 3000);
+    lists.assert_each(&[CANNOT, WRONG_SHEET], 1000);
 }
 
 #[test]

@@ -7,6 +7,8 @@ use harness::examples::spares::SPARES;
 use harness::examples::tabs;
 use harness::gen::bays::no_bays;
 use harness::gen::early::about_early_lifts;
+use harness::gen::floors::{grid, some_floor};
+use harness::gen::large::{moving_with_spares, put_off_with_spares};
 use harness::gen::lists::true_lists;
 use harness::gen::plans::{calls_have_plan, has_plan, plans, plans_of, plans_with};
 use harness::gen::renumbered::Numbers;
@@ -125,6 +127,29 @@ fn spare_carts_can_always_stand_still() {
         let still: Vec<Vec<Walk>> = job.carts.iter().map(still).collect();
         assert_eq!(calls_have_plan(&job), !plans_of(&job, &all_walks(&job), &still, 1).is_empty(), "{job:?}");
     }
+}
+
+/// Larger plans, as they are made and with later deadlines.
+#[test]
+fn larger_plans_are_plans() {
+    let mut rng = Rng::new(7);
+    let answer = |job: &Job, plan: Plan| check(&job.text(), store_least(job), &Sheet::Plan(plan).text());
+    let mut moving = 0;
+    for _ in 0..200 {
+        let floor = some_floor(&mut rng);
+        let carts = 1 + rng.below(floor.cells.min(20));
+        let spares = rng.below(carts + 1);
+        let (job, plan) = moving_with_spares(floor, (carts, spares), 0, 20, &mut rng);
+        assert_eq!((job.spares(), plan.spares.len()), (spares, spares));
+        assert_eq!(answer(&job, plan.clone()), (PLAN, 0), "{job:?}");
+        moving += plan.spares.iter().filter(|spare| spare.cells.iter().any(|&cell| cell != spare.cells[0])).count();
+        let (job, plan) = put_off_with_spares((job, plan), 30, &mut rng);
+        assert_eq!(answer(&job, plan), (PLAN, 0), "{job:?}");
+    }
+    assert!(moving > 500, "{moving} spare carts move");
+    let (job, plan) = moving_with_spares(grid(16, 16), (64, 32), 200, 255, &mut rng);
+    assert_eq!(answer(&job, plan), (PLAN, 0));
+    assert_eq!((job.spares(), job.last()), (32, 255));
 }
 
 #[test]

@@ -62,6 +62,28 @@ fn plans() {
     seen.assert_all("PATH", 2, 0..=limits::CELLS - 1);
 }
 
+/// Carts that stand without a call, up to the step of one bay or without any: there is one plan.
+#[test]
+fn spare_carts() {
+    let at_once = (0..4).map(|quarter| (quarter * limits::CARTS, None));
+    let long = [(0, Some(1)), (limits::CELLS - limits::CARTS, Some(limits::DEADLINE))];
+    let seen = at_once.chain(long).map(|(first, bay)| {
+        let (calls, deadline) = (usize::from(bay.is_some()), bay.unwrap_or(0));
+        let floor = format!("FLOOR {}\n", limits::CELLS);
+        let starts = lines(limits::CARTS, |i| format!("CART {}\n", first + i));
+        let bays = lines(calls, |i| format!("BAY {} {deadline}\n", first + i));
+        let walk = |i| format!(" {}", first + i).repeat(deadline + 1);
+        let paths = lines(calls, |i| format!("PATH {i} {i}{}\n", walk(i)));
+        let spares = lines(limits::CARTS - calls, |i| format!("SPARE {}{}\n", calls + i, walk(calls + i)));
+        let sheet = tabs(&format!("PLAN {calls}\n{paths}{spares}"));
+        assert_eq!(planned(&(floor + &starts + &bays)), (PLAN, sheet.clone()));
+        sheet
+    });
+    let seen = Seen(seen.collect());
+    seen.assert_all("SPARE", 0, 0..=limits::CARTS - 1);
+    seen.assert_all("SPARE", 1, 0..=limits::CELLS - 1);
+}
+
 /// Carts that park where they stand at step 0, and one more that can never come to its call: a list with fewer points than
 /// calls has just one point for each of the others, on its cell.
 fn parked(cells: &[usize]) -> String {

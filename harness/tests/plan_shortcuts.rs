@@ -1,6 +1,7 @@
 //! The shortcuts that lose a lane: for each a job on which it is wrong, and the planner is right.
 
 use harness::compare::{library, plan};
+use harness::examples::spares::D_WITHOUT_CALL;
 use harness::examples::{tabs, A, A_BY_CALL, BAY, BUFFER, CLOSED, EARLY, EARLY_BY_DEADLINES};
 use harness::gen::plans::has_plan;
 use harness::gen::Rng;
@@ -149,5 +150,42 @@ fn whole_calls_against_carts_that_cross_their_cells() {
     let sheet = Sheet::Cannot(stopping_crossing_walks(&job).expect("a list")).text();
     assert_eq!(sheet, tabs("CANNOT 1\nCHOKE CALL 1\n"));
     assert_eq!(library(&job.text(), BUFFER, &sheet), (WRONG_SHEET, 0));
+    assert_eq!(right_answer(&job), PLAN);
+}
+
+#[test]
+fn leaving_a_spare_cart_where_a_path_leads() {
+    // The first cart that comes to cell 2 in time goes over cell 1, where the other stands.
+    let job = job("FLOOR 4\nTRACK 0 1\nTRACK 1 2\nTRACK 1 3\nCART 0\nCART 1\nBAY 2 2\n");
+    let sheet = leaving_spares_standing(&job).expect("paths").text();
+    assert_eq!(sheet, tabs("PLAN 1\nPATH 0 0 0 1 2\nSPARE 1 1 1 1\n"));
+    assert_eq!(library(&job.text(), BUFFER, &sheet), (WRONG_SHEET, 0));
+    assert_eq!(right_answer(&job), PLAN);
+}
+
+#[test]
+fn giving_up_where_a_spare_cart_is_in_the_way() {
+    // If cart 0 goes to cell 2, cart 1 finds no way out. It can go itself.
+    let job = job("FLOOR 3\nTRACK 0 1\nTRACK 1 2\nCART 0\nCART 1\nBAY 2 2\n");
+    assert!(!blaming_spares(&job));
+    assert_eq!(right_answer(&job), PLAN);
+}
+
+#[test]
+fn ending_spare_carts_with_the_last_path() {
+    // The call is met at step 0, three steps before its deadline.
+    let job = job("FLOOR 2\nCART 0\nCART 1\nCALL 0 3\n");
+    let sheet = ending_spares_with_the_last_path(&job).expect("a plan").text();
+    assert_eq!(sheet, tabs("PLAN 1\nPATH 0 0 0\nSPARE 1 1\n"));
+    assert_eq!(library(&job.text(), BUFFER, &sheet), (BAD_SHEET, 3));
+    assert_eq!(right_answer(&job), PLAN);
+}
+
+#[test]
+fn leaving_spare_carts_out() {
+    let job = job(D_WITHOUT_CALL.job);
+    let sheet = leaving_spares_out(&job).expect("a plan").text();
+    assert_eq!(sheet, tabs("PLAN 0\n"));
+    assert_eq!(library(&job.text(), BUFFER, &sheet), (BAD_SHEET, 2));
     assert_eq!(right_answer(&job), PLAN);
 }

@@ -41,6 +41,14 @@ fn right_sheets() -> Vec<(Job, Sheet, u8)> {
     let (lost, ends) = with_lost_call(others);
     let (early, early_paths) = early_many_times(16, 12, 12, &mut Rng::new(8));
     let (late, calls) = late_star(limits::CARTS, 0, limits::DEADLINE);
+    let floor = with_most_tracks(grid(16, 16), &mut Rng::new(9));
+    let spare = |spares| {
+        let carts = (limits::CARTS, spares);
+        moving_with_spares(floor.clone(), carts, 200, limits::DEADLINE, &mut Rng::new(10))
+    };
+    let ((few, few_spare), (many, many_spare)) = (spare(8), spare(limits::CARTS - 1));
+    let (mut gate, steps) = crowded_star(255, 32, 32);
+    gate.carts.extend(100..132);
     vec![
         (still, Sheet::of_paths(still_paths), PLAN),
         (moved, Sheet::of_paths(paths), PLAN),
@@ -50,6 +58,9 @@ fn right_sheets() -> Vec<(Job, Sheet, u8)> {
         (lost, Sheet::Cannot(ends), CANNOT),
         (early, Sheet::of_paths(early_paths), PLAN),
         (late, Sheet::Cannot(calls), CANNOT),
+        (few, Sheet::Plan(few_spare), PLAN),
+        (many, Sheet::Plan(many_spare), PLAN),
+        (gate, Sheet::Cannot(steps), CANNOT),
     ]
 }
 

@@ -8,8 +8,18 @@ use crate::model::lines::{number, LF, TAB};
 pub type Damage = fn(&[u8], &mut Rng) -> Vec<u8>;
 
 const BYTES: [Damage; 6] = [changed_byte, lost_byte, added_byte, cut_off, trailing, repeated];
-const LINES: [Damage; 8] =
-    [lost_line, doubled_line, swapped_lines, other_word, other_end, added_bay, other_choke, added_whole_call];
+const LINES: [Damage; 10] = [
+    lost_line,
+    doubled_line,
+    swapped_lines,
+    other_word,
+    other_end,
+    added_bay,
+    other_choke,
+    added_whole_call,
+    added_spare,
+    other_sheet_word,
+];
 const FIELDS: [Damage; 8] =
     [other_number, leading_zero, lost_field, added_field, other_count, other_length, other_spelling, added_exponent];
 
@@ -147,8 +157,10 @@ fn on_parts(text: &[u8], rng: &mut Rng, change: fn(&mut Vec<Vec<u8>>, &mut Rng))
 
 fn other_word(text: &[u8], rng: &mut Rng) -> Vec<u8> {
     on_parts(text, rng, |parts, rng| {
-        let words =
-            ["FLOOR", "TRACK", "CART", "CALL", "BAY", "PLAN", "PATH", "CANNOT", "CHOKE", "", "Path", "CARTS", "BAYS"];
+        let words = [
+            "FLOOR", "TRACK", "CART", "CALL", "BAY", "PLAN", "PATH", "SPARE", "CANNOT", "CHOKE", "", "Path", "CARTS",
+            "BAYS",
+        ];
         parts[0] = rng.pick(&words).as_bytes().to_vec();
     })
 }
@@ -191,6 +203,38 @@ fn added_whole_call(text: &[u8], rng: &mut Rng) -> Vec<u8> {
 /// A BAY line more, mostly behind all others, where it may stand.
 fn added_bay(text: &[u8], rng: &mut Rng) -> Vec<u8> {
     with_line_more(format!("BAY\t{}\t{}\n", any_number(rng), any_number(rng)), text, rng)
+}
+
+/// A SPARE line more, mostly behind all others, where one may stand.
+fn added_spare(text: &[u8], rng: &mut Rng) -> Vec<u8> {
+    let cells: String = (0..=rng.below(3)).map(|_| format!("\t{}", any_number(rng))).collect();
+    with_line_more(format!("SPARE\t{}{cells}\n", any_number(rng)), text, rng)
+}
+
+/// A path that becomes a spare cart's walk, or a spare cart's walk that becomes a path, with or without the number of a
+/// call. Other texts are left as they are.
+fn other_sheet_word(text: &[u8], rng: &mut Rng) -> Vec<u8> {
+    let mut lines = lines(text);
+    let walks: Vec<usize> = (0..lines.len()).filter(|&at| is_walk(&lines[at])).collect();
+    if !walks.is_empty() {
+        let line = &mut lines[*rng.pick(&walks)];
+        let mut parts: Vec<Vec<u8>> = line.split(|&b| b == TAB).map(<[u8]>::to_vec).collect();
+        let is_path = parts[0] == b"PATH";
+        parts[0] = if is_path { b"SPARE".to_vec() } else { b"PATH".to_vec() };
+        if parts.len() > 2 && rng.once_in(2) {
+            match is_path {
+                true => drop(parts.remove(2)),
+                false => parts.insert(2, any_number(rng).to_string().into_bytes()),
+            }
+        }
+        *line = parts.join(&TAB);
+    }
+    lines.concat()
+}
+
+/// Whether the line is a PATH or a SPARE.
+fn is_walk(line: &[u8]) -> bool {
+    matches!(word(line), Some(b"PATH" | b"SPARE"))
 }
 
 fn with_line_more(line: String, text: &[u8], rng: &mut Rng) -> Vec<u8> {
@@ -282,16 +326,18 @@ fn other_count(text: &[u8], rng: &mut Rng) -> Vec<u8> {
     lines.concat()
 }
 
-/// A path that ends earlier, down to none of its cells, or stands on. Other texts are left as they are.
+/// A path or a spare cart's walk that ends earlier, down to none of its cells, or stands on. Other texts are left as they
+/// are.
 fn other_length(text: &[u8], rng: &mut Rng) -> Vec<u8> {
     let mut lines = lines(text);
-    let paths: Vec<usize> = (0..lines.len()).filter(|&at| word(&lines[at]) == Some(b"PATH")).collect();
-    if !paths.is_empty() {
-        let line = &mut lines[*rng.pick(&paths)];
+    let walks: Vec<usize> = (0..lines.len()).filter(|&at| is_walk(&lines[at])).collect();
+    if !walks.is_empty() {
+        let line = &mut lines[*rng.pick(&walks)];
         let stripped = line.strip_suffix(&[LF]).unwrap_or(line);
         let mut parts: Vec<Vec<u8>> = stripped.split(|&b| b == TAB).map(<[u8]>::to_vec).collect();
-        // The word, the cart and the call come before the cells.
-        let (least, last) = (parts.len().min(3), parts[parts.len() - 1].clone());
+        // The word, the cart and, in a path, the call come before the cells.
+        let before = if parts[0] == b"PATH" { 3 } else { 2 };
+        let (least, last) = (parts.len().min(before), parts[parts.len() - 1].clone());
         match rng.once_in(2) {
             true => parts.truncate(least + rng.below(parts.len() - least + 1)),
             false => parts.resize(parts.len() + 1 + rng.below(4), last),

@@ -7,7 +7,7 @@ use super::spelled::at_full_length;
 use super::Rng;
 use crate::model::job::{Call, End, Job};
 use crate::model::limits;
-use crate::model::sheet::{Choke, Path};
+use crate::model::sheet::{Choke, Path, Plan, Spare};
 
 /// So many carts that stand on the last cells of the floor up to the deadline, where their calls are.
 pub fn standing(floor: Job, carts: usize, deadline: usize) -> (Job, Vec<Path>) {
@@ -30,12 +30,32 @@ pub fn backwards((mut job, mut paths): (Job, Vec<Path>)) -> (Job, Vec<Path>) {
 /// Carts that move as chance has it, each up to some deadline, where a call is put under it. Carts that find no cell
 /// without a call up to the last step are left out, so there may be fewer than asked for.
 pub fn moving(floor: Job, carts: usize, least: usize, most: usize, rng: &mut Rng) -> (Job, Vec<Path>) {
-    moved(floor, carts, least, most, |_| End::Lift, rng)
+    let (job, plan) = moved(floor, (carts, 0), least, most, |_| End::Lift, rng);
+    (job, plan.paths)
 }
 
 /// The same where about half of the calls are bays, whose cells the carts keep off from then on.
 pub fn moving_to_bays(floor: Job, carts: usize, least: usize, most: usize, rng: &mut Rng) -> (Job, Vec<Path>) {
-    moved(floor, carts, least, most, |rng| if rng.once_in(2) { End::Bay } else { End::Lift }, rng)
+    let (job, plan) = moved(floor, (carts, 0), least, most, bay_or_lift, rng);
+    (job, plan.paths)
+}
+
+/// The same with so many spare carts among them, which move up to the last step.
+pub fn moving_with_spares(
+    floor: Job,
+    (carts, spares): (usize, usize),
+    least: usize,
+    most: usize,
+    rng: &mut Rng,
+) -> (Job, Plan) {
+    moved(floor, (carts, spares), least, most, bay_or_lift, rng)
+}
+
+fn bay_or_lift(rng: &mut Rng) -> End {
+    match rng.once_in(2) {
+        true => End::Bay,
+        false => End::Lift,
+    }
 }
 
 /// How a walk ends, as chance has it.
@@ -44,26 +64,44 @@ type SomeEnd = fn(&mut Rng) -> End;
 /// A walk that has ended, and how.
 type Ended = (Vec<usize>, End);
 
-fn moved(floor: Job, carts: usize, least: usize, most: usize, end: SomeEnd, rng: &mut Rng) -> (Job, Vec<Path>) {
+/// So many carts, of which so many are spare.
+fn moved(
+    floor: Job,
+    (carts, spares): (usize, usize),
+    least: usize,
+    most: usize,
+    end: SomeEnd,
+    rng: &mut Rng,
+) -> (Job, Plan) {
     let near = floor.within_a_step();
-    let mut on_floor: Vec<Vec<usize>> = rng.sample(floor.cells, carts).into_iter().map(|cell| vec![cell]).collect();
+    let starts = rng.sample(floor.cells, carts);
+    let is_spare = |walk: &[usize]| starts[..spares].contains(&walk[0]);
+    let mut on_floor: Vec<Vec<usize>> = starts.iter().map(|&cell| vec![cell]).collect();
     let mut ended: Vec<Ended> = Vec::new();
     for step in 0..=most {
         if step >= least {
-            end_some(&mut on_floor, &mut ended, most - step, end, rng);
+            let left = most - step;
+            end_some(&mut on_floor, &mut ended, |walk, rng| !is_spare(walk) && rng.once_in(left + 1), end, rng);
         }
         rng.shuffle(&mut on_floor);
         move_all(&near, &mut on_floor, &closed(&ended), rng);
     }
-    called(floor, ended, rng)
+    on_floor.retain(|walk| is_spare(walk));
+    called(floor, ended, on_floor, rng)
 }
 
-/// Ends the walks of some carts that stand where no call is yet; the sooner the last step, the more of them.
-fn end_some(on_floor: &mut Vec<Vec<usize>>, ended: &mut Vec<Ended>, left: usize, end: SomeEnd, rng: &mut Rng) {
+/// Ends the walks of some carts that stand where no call is yet.
+fn end_some(
+    on_floor: &mut Vec<Vec<usize>>,
+    ended: &mut Vec<Ended>,
+    ends: impl Fn(&[usize], &mut Rng) -> bool,
+    end: SomeEnd,
+    rng: &mut Rng,
+) {
     for i in (0..on_floor.len()).rev() {
         let here = on_floor[i].last();
         let free = ended.iter().all(|(walk, _)| walk.last() != here);
-        if free && rng.once_in(left + 1) {
+        if free && ends(&on_floor[i], rng) {
             ended.push((on_floor.remove(i), end(rng)));
         }
     }
@@ -100,12 +138,24 @@ pub fn put_off((mut job, mut paths): (Job, Vec<Path>), most: usize, rng: &mut Rn
     (job, paths)
 }
 
-/// The job of which the walks are a plan, carts and calls in any order.
-fn called(floor: Job, walks: Vec<Ended>, rng: &mut Rng) -> (Job, Vec<Path>) {
-    let carts = rng.sample(walks.len(), walks.len());
+/// The same with spare carts, which stand on where they are: nobody else is on the floor then.
+pub fn put_off_with_spares((job, plan): (Job, Plan), most: usize, rng: &mut Rng) -> (Job, Plan) {
+    let (job, paths) = put_off((job, plan.paths), most, rng);
+    let mut spares = plan.spares;
+    for spare in &mut spares {
+        spare.cells.resize(job.last() + 1, spare.cells[spare.cells.len() - 1]);
+    }
+    (job, Plan { paths, spares })
+}
+
+/// The job of which the walks, with those of spare carts, are a plan, carts and calls in any order.
+fn called(floor: Job, walks: Vec<Ended>, spare_walks: Vec<Vec<usize>>, rng: &mut Rng) -> (Job, Plan) {
+    let count = walks.len() + spare_walks.len();
+    let mut carts = rng.sample(count, count);
+    let mut spare_carts = carts.split_off(walks.len());
     let calls = rng.sample(walks.len(), walks.len());
     let mut job = floor;
-    job.carts = vec![0; walks.len()];
+    job.carts = vec![0; count];
     job.calls = vec![Call::lift(0, 0); walks.len()];
     let mut paths = Vec::new();
     for (((cells, end), cart), call) in walks.into_iter().zip(carts).zip(calls) {
@@ -115,7 +165,14 @@ fn called(floor: Job, walks: Vec<Ended>, rng: &mut Rng) -> (Job, Vec<Path>) {
         paths.push(Path { cart, call, cells });
     }
     paths.sort_by_key(|p| (p.cells.len(), job.calls[p.call].cell));
-    (job, paths)
+    spare_carts.sort();
+    let mut spares = Vec::new();
+    for (mut cells, cart) in spare_walks.into_iter().zip(spare_carts) {
+        job.carts[cart] = cells[0];
+        cells.truncate(job.last() + 1);
+        spares.push(Spare { cart, cells });
+    }
+    (job, Plan { paths, spares })
 }
 
 /// Carts round a star, with calls across it: each walk goes through the middle between the first step and the last, and

@@ -1,18 +1,20 @@
-//! Small jobs: 1 to 5 cells, 0 to 4 carts, deadlines 0 to 4.
+//! Small jobs: 1 to 5 cells, 0 to 4 carts, deadlines 0 to 4; a little more with spare carts.
 
 use super::bays::some_bays;
+use super::spares::small_with_spares;
 use super::{orders, Rng};
 use crate::model::job::{Call, End, Job};
 
-/// Half of the jobs have bays.
+/// About half of the jobs have bays, and a third spare carts.
 pub fn small(rng: &mut Rng) -> Job {
-    match rng.once_in(2) {
-        true => small_with_bays(rng),
-        false => small_without_bays(rng),
+    match rng.below(3) {
+        0 => small_with_spares(rng),
+        1 => small_with_bays(rng),
+        _ => small_without_bays(rng),
     }
 }
 
-/// Full floors come more often than empty ones: there the carts are in each other's way.
+/// As many calls as carts. Full floors come more often than empty ones: there the carts are in each other's way.
 pub fn small_without_bays(rng: &mut Rng) -> Job {
     let cells = 1 + rng.below(5).max(rng.below(5));
     let most = cells.min(4);
@@ -25,7 +27,7 @@ pub fn small_without_bays(rng: &mut Rng) -> Job {
     }
 }
 
-/// A job with a bay at least: any job with bays among its calls, or a corridor that one closes.
+/// A job with a bay at least, and as many calls as carts: any job with bays among its calls, or a corridor that one closes.
 pub fn small_with_bays(rng: &mut Rng) -> Job {
     let job = match rng.once_in(2) {
         true => corridor(rng),
