@@ -69,7 +69,7 @@ fn deciding(value: usize) -> Vec<(Job, usize, usize)> {
 
 /// Each field is a word or a plain number.
 fn is_plain(sheet: &[u8]) -> bool {
-    let is_word = |part: &[u8]| [&b"PLAN"[..], b"PATH", b"CANNOT", b"CHOKE", b"CALL"].contains(&part);
+    let is_word = |part: &[u8]| [&b"PLAN"[..], b"PATH", b"SPARE", b"CANNOT", b"CHOKE", b"CALL"].contains(&part);
     let lines = sheet.strip_suffix(&[LF]).unwrap_or(sheet);
     lines.split(|b| [TAB, LF].contains(b)).all(|part| is_word(part) || number(part).is_some())
 }

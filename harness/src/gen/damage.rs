@@ -8,8 +8,9 @@ use crate::model::lines::{number, LF, TAB};
 pub type Damage = fn(&[u8], &mut Rng) -> Vec<u8>;
 
 const BYTES: [Damage; 6] = [changed_byte, lost_byte, added_byte, cut_off, trailing, repeated];
-const LINES: [Damage; 10] = [
+const LINES: [Damage; 11] = [
     lost_line,
+    lost_cart,
     doubled_line,
     swapped_lines,
     other_word,
@@ -114,6 +115,16 @@ pub(super) fn lost_line(text: &[u8], rng: &mut Rng) -> Vec<u8> {
     let mut lines = lines(text);
     if !lines.is_empty() {
         lines.remove(rng.below(lines.len()));
+    }
+    lines.concat()
+}
+
+/// A CART line less: there may be fewer carts than calls then. Other texts are left as they are.
+fn lost_cart(text: &[u8], rng: &mut Rng) -> Vec<u8> {
+    let mut lines = lines(text);
+    let carts: Vec<usize> = (0..lines.len()).filter(|&at| word(&lines[at]) == Some(b"CART")).collect();
+    if !carts.is_empty() {
+        lines.remove(*rng.pick(&carts));
     }
     lines.concat()
 }
