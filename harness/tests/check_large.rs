@@ -7,7 +7,7 @@ use harness::gen::damage::damaged;
 use harness::gen::floors::*;
 use harness::gen::large::*;
 use harness::gen::orders::{as_in_the_job, differ};
-use harness::gen::wrong::{bay_in_the_way, tampered_list, tampered_paths};
+use harness::gen::wrong::{bay_in_the_way, tampered_list, tampered_paths, tampered_plan};
 use harness::gen::Rng;
 use harness::model::answer::*;
 use harness::model::job::Job;
@@ -84,6 +84,29 @@ fn moving_carts_at_every_limit() {
         assert_eq!(answer(&job, &Sheet::of_paths(paths.clone())), (PLAN, 0));
         try_plan(&job, &paths, &mut Tally::default(), &mut rng);
     }
+}
+
+/// Plans with spare carts, changed ones, and the choke list that a lost call makes true.
+#[test]
+fn moving_carts_with_spare_ones() {
+    let mut rng = Rng::new(7);
+    let mut tally = Tally::default();
+    for round in 0..40 {
+        let floor = grid(2 + rng.below(15), 2 + rng.below(15));
+        let carts = 1 + rng.below(limits::CARTS.min(floor.cells));
+        let (most, spares) = (rng.below(if round < 4 { limits::DEADLINE + 1 } else { 40 }), rng.below(carts + 1));
+        let (job, plan) = moving_with_spares(floor, (carts, spares), 0, most, &mut rng);
+        assert_eq!(answer(&job, &Sheet::Plan(plan.clone())), (PLAN, 0));
+        try_out(&job, &Sheet::Plan(plan.clone()), &mut tally, &mut rng);
+        for _ in 0..5 {
+            try_out(&job, &Sheet::Plan(tampered_plan(&job, &plan, &mut rng)), &mut tally, &mut rng);
+        }
+        if job.cells < limits::CELLS && job.carts.len() < job.cells.min(limits::CARTS) {
+            let (job, list) = with_lost_call(job);
+            try_list(&job, &list, &mut tally, &mut rng);
+        }
+    }
+    tally.assert_each(&[PLAN, CANNOT, BAD_SHEET, WRONG_SHEET], 10);
 }
 
 /// The largest sheet there is: 64 carts on cells of three digits up to step 255.
