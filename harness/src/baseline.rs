@@ -1,7 +1,8 @@
 //! A planner in plain Rust without proofs: what the library's planner is timed against.
 //!
 //! The same algorithm and the same lent buffers, the store wiped at the end. From each call in the written order it
-//! searches back to a free cart, along a guess first. It trusts the job: no line is refused. `map` turns maps into floors.
+//! searches back to a free cart, along a guess first; carts that no call gets are kept out of the way of the others. It
+//! trusts the job: no line is refused. `map` turns maps into floors.
 
 mod aim;
 mod augment;
@@ -10,6 +11,7 @@ pub mod map;
 mod planes;
 mod search;
 mod sheet;
+mod spares;
 
 use aim::aim;
 use augment::augment;
@@ -17,6 +19,7 @@ use job::Job;
 use planes::{planes, Planes};
 use search::search;
 use sheet::{write_cannot, write_plan, Writer};
+use spares::{keep_spares, write_spares};
 
 use crate::model::answer::{pack, CANNOT, PLAN};
 use crate::model::limits::CELLS;
@@ -80,7 +83,11 @@ pub fn plan_by<M: Mode>(mode: &mut M, text: &[u8], store: &mut [u8], sheet: &mut
     let mut w = Writer { sheet, at: 0 };
     let answer = match solve(&j, &mut p, mode) {
         Ok(()) => {
+            let spares = (j.carts > j.calls).then(|| keep_spares(&j, &mut p));
             write_plan(&j, &p, &mut w);
+            if let Some(ends) = spares {
+                write_spares(&j, &mut p, &ends, &mut w);
+            }
             PLAN
         }
         Err(stuck) => {

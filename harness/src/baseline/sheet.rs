@@ -32,7 +32,7 @@ impl Writer<'_> {
 }
 
 /// Where the cart on b at step t comes from. Two carts that would trade places both stand instead.
-fn came_from(j: &Job, p: &Planes, b: u8, t: usize) -> u8 {
+pub fn came_from(j: &Job, p: &Planes, b: u8, t: usize) -> u8 {
     let a = p.prev[t * j.cells + b as usize];
     let w = t * j.cells + a as usize;
     if p.used[w] != 0 && p.prev[w] == b {
