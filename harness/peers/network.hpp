@@ -1,14 +1,15 @@
 // The network of a job for the peers: every call as a node, and every cell at every step from 0 to the latest deadline as
 // two nodes, joined by an arc, so that one cart can stand there. All capacities are 1. A call comes after its cell at each
-// step at which it is met. A bay's cell after its step is closed: no arc comes to its nodes or leaves them.
+// step at which it is met. A bay's cell after its step is closed: no arc comes to its nodes or leaves them. Carts that no
+// call gets are left out: that they can be kept on the floor is known without a flow.
 #pragma once
 #include <utility>
 #include <vector>
 
 struct Job {
-    int cells, tracks, calls;
+    int cells, tracks, carts, calls;
     const int *from, *to;            // tracks
-    const int *starts;               // carts, as many as calls
+    const int *starts;               // carts, as many as calls or more
     const int *lifts, *deadlines;    // calls
     const int *bays;                 // 1 where a call is a bay, else 0
 };
@@ -29,9 +30,9 @@ inline Network network_of(const Job &job, bool backward) {
     std::vector<int> call(n, -1), cart(n, 0), shut(n, last + 1);    // the step of the bay
     for (int q = 0; q < job.calls; q++) {
         call[job.lifts[q]] = q;
-        cart[job.starts[q]] = 1;
         if (job.bays[q]) shut[job.lifts[q]] = job.deadlines[q];
     }
+    for (int i = 0; i < job.carts; i++) cart[job.starts[i]] = 1;
     // Cells within a step of each cell, itself first.
     std::vector<int> row(n + 1, 0), near(n + 2 * job.tracks), filled(n, 1);
     for (int c = 0; c < n; c++) row[c + 1] = 1;
@@ -45,7 +46,7 @@ inline Network network_of(const Job &job, bool backward) {
     const int calls = 2 * k + 2;
     Network net{calls + job.calls, 2 * k, 2 * k + 1, {}};
     auto &arcs = net.arcs;
-    arcs.reserve(k + last * near.size() + met + 2 * job.calls);
+    arcs.reserve(k + last * near.size() + met + job.carts + job.calls);
     // Node 2v is where a cart comes in, 2v + 1 where it goes on; backward the other way round.
     for (int t = 0, v = 0; t <= last; t++)
         for (int c = 0; c < n; c++, v++) {

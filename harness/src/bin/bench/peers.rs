@@ -19,6 +19,7 @@ const M_MMAP_THRESHOLD: c_int = -3;
 struct Handed {
     cells: c_int,
     tracks: c_int,
+    carts: c_int,
     calls: c_int,
     from: *const c_int,
     to: *const c_int,
@@ -89,6 +90,7 @@ impl Peer {
         let handed = Handed {
             cells: job.cells,
             tracks: job.from.len() as c_int,
+            carts: job.starts.len() as c_int,
             calls: job.lifts.len() as c_int,
             from: job.from.as_ptr(),
             to: job.to.as_ptr(),
