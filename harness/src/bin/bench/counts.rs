@@ -27,7 +27,8 @@ impl<const KEEP_PLACE: bool> Mode for Counting<KEEP_PLACE> {
     }
 }
 
-/// The counts of the library's search, and of one that keeps places. That they are the library's shows in the sheet.
+/// The counts of the library's search, and of one that keeps places. That they are the library's shows in the sheet. Not so
+/// with spare carts, which each may keep out of the way as it likes.
 pub fn counts(text: &[u8], store: &mut [u8], sheet: &mut [u8], library_sheet: &[u8]) -> (Counts, Counts) {
     let (mut library, mut keeping) = (Counting::<false>::default(), Counting::<true>::default());
     let (_, len) = unpack(plan_by(&mut library, text, store, sheet));

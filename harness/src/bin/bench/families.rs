@@ -22,11 +22,11 @@ pub const LIMITS: Size = Size { side: 16, carts: CARTS, last: DEADLINE };
 pub const BELOW: Size = Size { side: 12, carts: 36, last: 120 };
 
 /// Makes the i-th job of a family.
-type Make = fn(Size, usize, &mut Rng) -> Job;
+pub type Make = fn(Size, usize, &mut Rng) -> Job;
 
 pub struct Family {
     pub name: &'static str,
-    make: Make,
+    pub make: Make,
 }
 
 pub const OPEN_GRID: Family = Family { name: "open grid", make: |s, i, r| on(grid(s.side, s.side), s, i, r) };
@@ -34,6 +34,7 @@ pub const SMALL_HALL: Family = Family { name: "small hall", make: |_, i, r| smal
 pub const HALF_BAYS: Family =
     Family { name: "open grid, half bays", make: |s, i, r| to_bays_on(grid(s.side, s.side), s, i, r) };
 
+/// As many carts as calls; `spares` has the others.
 pub const FAMILIES: [Family; 18] = [
     OPEN_GRID,
     Family { name: "bottleneck", make: |s, _, r| bottleneck(s, r) },

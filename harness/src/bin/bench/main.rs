@@ -2,9 +2,9 @@
 //!
 //! For every job of every family, by turns in one process and in processor time of the thread: the planner's call, the
 //! baseline's, the wiping of the store alone, the check of the planner's sheet, the max-flow libraries that are there, and
-//! with `--before OBJECT` the calls of a former library. Maps turned into floors, and job texts read alone, by the call and
-//! by plain Rust; with `--placed FOLDER` texts also by objects of this library and of a former one. With `--floors PROGRAM`
-//! also a collection planned by that program.
+//! with `--before OBJECT` the calls of a former library. Jobs with spare carts beside jobs with as many calls more. Maps
+//! turned into floors, and job texts read alone, by the call and by plain Rust; with `--placed FOLDER` texts also by objects
+//! of this library and of a former one. With `--floors PROGRAM` also a collection planned by that program.
 
 mod before;
 mod clock;
@@ -14,10 +14,12 @@ mod families;
 mod floors;
 mod maps;
 mod measure;
+mod pairs;
 mod peers;
 mod placed;
 mod report;
 mod shared;
+mod spares;
 mod table;
 mod texts;
 mod tight;
@@ -29,6 +31,7 @@ use harness::model::job::Job;
 use measure::{measure, Effort};
 use peers::Peer;
 use report::Measured;
+use spares::SPARE_FAMILIES;
 
 const FULL: Effort = Effort { rounds: 40, peer_rounds: 4 };
 const QUICK: Effort = Effort { rounds: 3, peer_rounds: 0 };
@@ -45,6 +48,11 @@ const WORDS: &str = "\
   better direction: LEMON Preflow, igraph_maxflow_value, Boost push_relabel_max_flow, as their manuals have it. The best peer is that of each job.
   `lemon_static` is LEMON tuned by hand: a static graph, capacities that take no memory, only the cut where there is no plan.
 - before: a former library's calls, where `./bench --before ARCHIVE` names one, on the jobs that it answers alike; its check gets its own sheet.
+- Families with spare carts, more carts than calls, have rows of their own above, and no part in the others. Peers serve their calls and leave out
+  the spare carts. How these are kept out of the way is not told by a count of visits.
+- 56 spares: a job at the limits with 64 carts and 8 calls, one of them at the last step. As many lifts: the same job with 56 calls more, each due when
+  a cart can be there. As many bays: 56 bays at the last step on the same cells, which have as many cells on the sheet as spare carts. Lifts are met
+  early, and have far fewer.
 - Times are processor time of the thread, by turns in one process; the best of many runs counts.
 - map: the library's call for maps, for eight maps of a family in turn. Its baseline: `harness/src/baseline/map.rs`, the same in plain Rust.
 - read: a job text read alone, by the planner's call with an empty store, which is found too short once the whole text is accepted; for eight
@@ -70,10 +78,12 @@ fn main() {
         name: name.into(),
         jobs: jobs.iter().map(|job| measure(job, peers, before, effort)).collect(),
         has_bays: jobs.iter().any(Job::has_bays),
+        has_spares: jobs.iter().any(|job| job.carts.len() > job.calls.len()),
     };
 
     let mut families = Vec::new();
-    for family in FAMILIES.iter().filter(|f| after("--only").is_none_or(|name| f.name == name)) {
+    let all = FAMILIES.iter().chain(&SPARE_FAMILIES);
+    for family in all.filter(|f| after("--only").is_none_or(|name| f.name == name)) {
         eprintln!("{}", family.name);
         let plain = family.jobs(is_quick);
         let other: Vec<Job> = plain.iter().zip(1..).map(|(job, seed)| renumbered(job, &mut Rng::new(seed))).collect();
@@ -83,6 +93,10 @@ fn main() {
     let at_limits: Vec<Job> = (0..6).map(|i| OPEN_GRID.job(LIMITS, i)).collect();
     let open_grid = measured("open grid at the limits", &at_limits, &[]);
     let sizes: Vec<(Size, Measured)> = SIDES.into_iter().map(of_side).collect();
+
+    eprintln!("spare carts beside calls");
+    let has_spares = families.iter().any(|family| family.has_spares);
+    let pairs = if has_spares { pairs::measure(effort.rounds) } else { Vec::new() };
 
     eprintln!("maps");
     let maps = maps::measure(before, effort.rounds);
@@ -94,7 +108,7 @@ fn main() {
     let (count, rounds) = if is_quick { SMALL_COLLECTION } else { COLLECTION };
     let filed = after("--floors").map(|program| collection::measure(program, count, rounds));
 
-    report::ratios(&families, &open_grid, &maps, &texts, filed);
+    report::ratios(&families, &open_grid, &pairs, &maps, &texts, filed);
     let names: Vec<&str> = peers.iter().map(|p| p.name).collect();
     let missing: Vec<&str> = peers::NAMES.into_iter().filter(|name| !names.contains(name)).collect();
     println!("Peers: {}. Missing: {}.\n", listed(&names), listed(&missing));
@@ -103,6 +117,8 @@ fn main() {
     report::family_ratios(&families);
     println!("## Microseconds, the median of a family and its longest\n");
     report::family_times(&families, &names);
+    println!("## Spare carts beside as many calls, microseconds, the median of a floor and its worst\n");
+    report::pairs(&pairs);
     println!("## Maps, microseconds each\n");
     report::maps(&maps);
     println!("## Job texts, nanoseconds each\n");
@@ -116,7 +132,7 @@ fn of_side(side: usize) -> (Size, Measured) {
     let size = Size { side, carts: side * side / 4, last: side * side - 1 };
     let jobs: Vec<Job> = (0..20).map(|i| OPEN_GRID.job(size, i)).collect();
     let jobs = jobs.iter().map(|job| measure(job, &[], None, QUICK)).collect();
-    (size, Measured { name: String::new(), jobs, has_bays: false })
+    (size, Measured { name: String::new(), jobs, has_bays: false, has_spares: false })
 }
 
 fn listed(names: &[&str]) -> String {

@@ -3,7 +3,7 @@
 use std::hint::black_box;
 
 use harness::baseline;
-use harness::model::answer::{pack, unpack, PLAN};
+use harness::model::answer::{is_refusal, pack, unpack, PLAN};
 use harness::model::job::Job;
 use harness::model::limits::{sheet_least, store_least};
 
@@ -36,8 +36,8 @@ pub struct Figures {
     /// The best of all peers, and the best of those used as their manuals have it: no number where there is none.
     pub best: f64,
     pub best_plain: f64,
-    pub library: Counts,
-    pub keeping: Counts,
+    /// The library's, and if it kept places. None with spare carts.
+    pub counts: Option<(Counts, Counts)>,
 }
 
 /// Runs this short are timed several at once.
@@ -48,9 +48,11 @@ pub fn measure(job: &Job, peers: &[Peer], before: Option<Before>, effort: Effort
     let (mut store, mut sheet) = (vec![1u8; store_least(job)], vec![1u8; sheet_least(job)]);
     let planned = cartfloor::plan(&text, &mut store, &mut sheet);
     let (answer, len) = unpack(planned);
+    assert!(!is_refusal(answer), "the library refuses a job: {answer}");
     let passed = pack(answer, 0);
     let written = sheet[..len].to_vec();
-    let (library, keeping) = counts(&text, &mut store, &mut sheet, &written);
+    let has_spares = job.carts.len() > job.calls.len();
+    let counts = (!has_spares).then(|| counts(&text, &mut store, &mut sheet, &written));
     // A former library turns back what it did not know yet, and had other plans. Its lines may go in another order: it
     // checks its own sheet.
     let mut before = before.and_then(|b| {
@@ -94,8 +96,7 @@ pub fn measure(job: &Job, peers: &[Peer], before: Option<Before>, effort: Effort
         best: least(by_peer.iter().copied()),
         best_plain: least(plain),
         peers: by_peer,
-        library,
-        keeping,
+        counts,
     }
 }
 

@@ -1,9 +1,11 @@
-//! What is printed: the ratios that are asked for, then the families, the maps, the job texts, and the growth.
+//! What is printed: the ratios that are asked for, then the families, the spare carts, the maps, the job texts, and the
+//! growth.
 
 use crate::collection::Filed;
 use crate::families::Size;
 use crate::maps;
 use crate::measure::Figures;
+use crate::pairs::{self, OnFloor, SPARES};
 use crate::table::{geometric_mean, least, median, most, Table};
 use crate::texts::{self, Spelled};
 
@@ -12,6 +14,7 @@ pub struct Measured {
     pub name: String,
     pub jobs: Vec<Figures>,
     pub has_bays: bool,
+    pub has_spares: bool,
 }
 
 impl Measured {
@@ -52,21 +55,46 @@ fn of_check_before(f: &Figures) -> f64 {
 }
 
 fn visits(f: &Figures) -> f64 {
-    f.library.visits as f64 / f.nodes as f64
+    f.counts.map_or(f64::NAN, |(library, _)| library.visits as f64 / f.nodes as f64)
 }
 
-/// Each ratio beside what is asked of it. `open_grid` has the jobs at the limits.
+fn looks(f: &Figures) -> f64 {
+    f.counts.map_or(f64::NAN, |(library, _)| library.looks as f64 / library.visits as f64)
+}
+
+fn looks_keeping(f: &Figures) -> f64 {
+    f.counts.map_or(f64::NAN, |(library, keeping)| keeping.looks as f64 / library.visits as f64)
+}
+
+fn to_bays(f: &pairs::Figures) -> f64 {
+    f.spares / f.bays
+}
+
+fn to_lifts(f: &pairs::Figures) -> f64 {
+    f.spares / f.lifts
+}
+
+impl OnFloor {
+    fn median(&self, of: fn(&pairs::Figures) -> f64) -> f64 {
+        median(self.jobs.iter().map(of))
+    }
+}
+
+/// Each ratio beside what is asked of it. `open_grid` has the jobs at the limits. Families with spare carts have rows of
+/// their own.
 pub fn ratios(
     families: &[Measured],
     open_grid: &Measured,
+    pairs: &[OnFloor],
     maps: &[maps::Figures],
     texts: &[Spelled],
     filed: Option<Filed>,
 ) {
-    let all = || families.iter().flat_map(|family| &family.jobs);
-    let medians = |of: fn(&Figures) -> f64| families.iter().map(move |family| family.median(of));
-    let without =
-        |of: fn(&Figures) -> f64| families.iter().filter(|f| !f.has_bays).map(move |family| family.median(of));
+    let of_kind = |has_spares: bool| families.iter().filter(move |family| family.has_spares == has_spares);
+    let all = || of_kind(false).flat_map(|family| &family.jobs);
+    let medians = |of: fn(&Figures) -> f64| of_kind(false).map(move |family| family.median(of));
+    let without = |of: fn(&Figures) -> f64| of_kind(false).filter(|f| !f.has_bays).map(move |family| family.median(of));
+    let with_spares = |of: fn(&Figures) -> f64| of_kind(true).map(move |family| family.median(of));
     let mut table = Table::new(&["ratio", "asked", "measured"]);
     let mut row = |name: &str, asked: &str, value: f64| table.row([name.into(), asked.into(), shown(value, 2)]);
     row("plan / baseline, geometric mean of the families", "at most 1.1", geometric_mean(medians(to_baseline)));
@@ -83,6 +111,15 @@ pub fn ratios(
     row("plan / plan before, geometric mean of the families", "", geometric_mean(medians(of_before)));
     row("plan / plan before, worst family", "", most(medians(of_before)));
     row("check / check before, geometric mean of the families", "", geometric_mean(medians(of_check_before)));
+    row("plan / baseline with spare carts, geometric mean", "", geometric_mean(with_spares(to_baseline)));
+    row("plan / baseline with spare carts, worst family", "", most(with_spares(to_baseline)));
+    row("best peer / plan with spare carts, geometric mean", "", geometric_mean(with_spares(of_peer)));
+    let jobs_with_spares = of_kind(true).flat_map(|family| &family.jobs);
+    row("best peer / plan with spare carts, worst job", "", least(jobs_with_spares.map(of_peer)));
+    row("check / plan with spare carts, worst family", "", most(with_spares(of_check)));
+    let in_place = |of: fn(&pairs::Figures) -> f64| most(pairs.iter().map(|floor| floor.median(of)));
+    row(&format!("plan with {SPARES} spares / as many bays, worst floor"), "at most 1", in_place(to_bays));
+    row(&format!("plan with {SPARES} spares / as many lifts, worst floor"), "at most 1", in_place(to_lifts));
     let map_ratios = || maps.iter().map(|f| f.map / f.baseline);
     row("map / baseline, geometric mean of the families", "", geometric_mean(map_ratios()));
     row("map / baseline, worst family", "at most 1.5", most(map_ratios()));
@@ -117,7 +154,6 @@ pub fn family_ratios(families: &[Measured]) {
     for family in families {
         let pair = |of: fn(&Figures) -> f64| format!("{} {}", shown(family.median(of), 2), shown(family.most(of), 2));
         let plans = family.jobs.iter().filter(|f| f.is_plan).count();
-        let per_visit = |looks: usize, f: &Figures| looks as f64 / f.library.visits as f64;
         table.row([
             family.name.clone(),
             format!("{plans} of {}", family.jobs.len()),
@@ -126,9 +162,9 @@ pub fn family_ratios(families: &[Measured]) {
             format!("{} {}", shown(family.median(of_peer), 1), shown(least(family.jobs.iter().map(of_peer)), 1)),
             pair(to_memset),
             pair(of_check),
-            format!("{:.3} {:.3}", family.median(visits), family.most(visits)),
-            format!("{:.2}", family.median(|f| per_visit(f.library.looks, f))),
-            format!("{:.2}", family.median(|f| per_visit(f.keeping.looks, f))),
+            format!("{} {}", shown(family.median(visits), 3), shown(family.most(visits), 3)),
+            shown(family.median(looks), 2),
+            shown(family.median(looks_keeping), 2),
         ]);
     }
     table.print();
@@ -145,6 +181,26 @@ pub fn family_times(families: &[Measured], peers: &[&str]) {
         row.extend(own.into_iter().map(pair));
         row.extend((0..peers.len()).map(|i| pair(&|f: &Figures| f.peers[i])));
         table.row(row);
+    }
+    table.print();
+}
+
+/// Spare carts beside as many calls, a floor: the median, then the longest or the worst.
+pub fn pairs(floors: &[OnFloor]) {
+    let head = ["floor", "spares", "bays", "lifts", "spares / bays", "spares / lifts"];
+    let mut table = Table::new(&head);
+    for floor in floors {
+        let pair = |shown: &dyn Fn(f64) -> String, of: fn(&pairs::Figures) -> f64| {
+            format!("{} {}", shown(floor.median(of)), shown(most(floor.jobs.iter().map(of))))
+        };
+        table.row([
+            floor.name.into(),
+            pair(&time, |f| f.spares),
+            pair(&time, |f| f.bays),
+            pair(&time, |f| f.lifts),
+            pair(&|ratio| shown(ratio, 2), to_bays),
+            pair(&|ratio| shown(ratio, 2), to_lifts),
+        ]);
     }
     table.print();
 }

@@ -79,7 +79,23 @@ pub fn crossing(floor: Job, size: Size, rng: &mut Rng) -> (Job, Job) {
     brink(size.last, due_at).expect("time for all to cross")
 }
 
-/// The same with bays for half of the calls.
+/// The same with so many of the calls alone, some of them bays, and with all carts.
+pub fn crossing_of_some(floor: Job, size: Size, calls: usize, bays: usize, rng: &mut Rng) -> (Job, Job) {
+    loop {
+        let seed = rng.below(1 << 30) as u64;
+        let due_at = |k: usize| {
+            let rng = &mut Rng::new(seed);
+            let mut job = across(floor.clone(), size, 1 + calls / 16, rng, k);
+            job.calls.drain(..job.calls.len() - calls); // the last ones are late
+            with_bays(job, bays, rng)
+        };
+        if let Some(pair) = brink(size.last, due_at) {
+            return pair;
+        }
+    }
+}
+
+/// The same with all calls, half of them bays.
 pub fn crossing_to_bays(floor: Job, size: Size, rng: &mut Rng) -> (Job, Job) {
     loop {
         let seed = rng.below(1 << 30) as u64;
@@ -177,7 +193,7 @@ fn brink(most: usize, job: impl Fn(usize) -> Job) -> Option<(Job, Job)> {
     Some((job(some), job(none)))
 }
 
-fn has_plan(job: &Job) -> bool {
+pub fn has_plan(job: &Job) -> bool {
     let (mut store, mut sheet) = (vec![0; store_least(job)], vec![0; sheet_least(job)]);
     unpack(baseline::plan(&job.text(), &mut store, &mut sheet)).0 == PLAN
 }
