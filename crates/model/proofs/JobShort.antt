@@ -10,7 +10,7 @@ use native.Mathlib.Omega.{arith}
 use lib.Dec.{eqb, ltb, leb}
 use lib.ListN.{length, drop, length-append, length-drop}
 use borrow.Author.Tests.{eqb-true, ltb-true, ne-eqb}
-use Rattle.model.specs.declared.answer.Answer.the-variants.{BadLine, TooFewCarts}
+use Rattle.model.specs.declared.answer.Answer.the-variants.{BadLine, Uneven}
 use Rattle.model.specs.Limits.{maxCells}
 use Rattle.model.specs.Job.{Job, track, call}
 use Rattle.model.specs.Text.{Lines, done, cut, more, onFirst, linesOf, onField, fieldsOf, isMark, numberOf, digitsOf, behindDigits, withoutPlus, oneDigit, powerOf}
@@ -131,7 +131,7 @@ lines-weigh j j′ n m done h e = go (eqb (j .cells) 0) (leb (length (j .calls))
     same : accepted j ≡ accepted j′ → j ≡ j′
     same e = cc
 
-    go : (t u : Bool) → cond t (refused BadLine n) (cond u (accepted j) (refused TooFewCarts 0)) ≡ accepted j′ → weight j + m ≤ weight j′
+    go : (t u : Bool) → cond t (refused BadLine n) (cond u (accepted j) (refused Uneven 0)) ≡ accepted j′ → weight j + m ≤ weight j′
     go true u e = nope (cc)
     go false true e = omega (arith, ap weight (same e))
     go false false e = nope (cc)

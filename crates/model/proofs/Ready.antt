@@ -11,7 +11,7 @@ use lib.ListN.{length, getD, length-append, List·getD-append}
 use lib.Seq.{getD-append-seam}
 use borrow.Author.Tests.{ltb-true, ltb-false, leb-true, eqb-true, eqb-false, not-true}
 use Rattle.model.specs.declared.answer.Answer.{Answer}
-use Rattle.model.specs.declared.answer.Answer.the-variants.{TextTooLong, BadLine, TooFewCarts}
+use Rattle.model.specs.declared.answer.Answer.the-variants.{TextTooLong, BadLine, Uneven}
 use Rattle.model.specs.Limits.{maxCells, maxTracks, maxCarts, maxCalls, maxSteps, maxText}
 use Rattle.model.specs.Lists.{In, NoDup}
 use Rattle.model.specs.Job.{Job, Track, lift, bay, track, call}
@@ -256,7 +256,7 @@ lines-ready j j′ n done f e = go (eqb (j .cells) 0) refl (leb (length (j .call
     same e = cc
 
     go : (t : Bool) → eqb (j .cells) 0 ≡ t → (u : Bool) → leb (length (j .calls)) (length (j .carts)) ≡ u
-        → cond t (refused BadLine n) (cond u (accepted j) (refused TooFewCarts 0)) ≡ accepted j′ → Ready j′
+        → cond t (refused BadLine n) (cond u (accepted j) (refused Uneven 0)) ≡ accepted j′ → Ready j′
     go true p u q e = nope (cc)
     go false p true q e = subst Ready (same e) (record { fit = f; has-cells = let n = eqb-false (j .cells) 0 p in omega arith; enough = leb-true (length (j .calls)) (length (j .carts)) q })
     go false p false q e = nope (cc)

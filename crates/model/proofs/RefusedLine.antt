@@ -11,7 +11,7 @@ use lib.Dec.{eqb, ltb, leb}
 use lib.ListN.{length, length-append}
 use borrow.Author.Tests.{ltb-true, eqb-true}
 use Rattle.model.specs.declared.answer.Answer.{Answer}
-use Rattle.model.specs.declared.answer.Answer.the-variants.{Plan, Cannot, TextTooLong, BadLine, NoNumber, OutOfRange, TooMany, Doubled, TooFewCarts}
+use Rattle.model.specs.declared.answer.Answer.the-variants.{Plan, Cannot, TextTooLong, BadLine, NoNumber, OutOfRange, TooMany, Doubled, Uneven}
 use Rattle.model.specs.declared.answer.Answer.the-variants.{StoreTooShort, SheetTooShort, BadSheet, WrongSheet, BadMap, NoFloor}
 use Rattle.model.specs.Answers.{number}
 use Rattle.model.specs.Contracts.{withStore, withRoom, Told, Planned, textAnswer, Mapped}
@@ -68,10 +68,10 @@ module _ (j : Job) (n : ℕ) where
 lines-early : (j : Job) (n : ℕ) (ls : Lines) (a : Answer) (l : ℕ) → Fit j → Behind j n → linesSay scaledOf j n ls ≡ refused a l → l ≤ jobEnd
 lines-early j n done a l f h e = go (eqb (j .cells) 0) (leb (length (j .calls)) (length (j .carts))) e
   where
-    go : (t u : Bool) → cond t (refused BadLine n) (cond u (accepted j) (refused TooFewCarts 0)) ≡ refused a l → l ≤ jobEnd
+    go : (t u : Bool) → cond t (refused BadLine n) (cond u (accepted j) (refused Uneven 0)) ≡ refused a l → l ≤ jobEnd
     go true u e = omega (arith, line-same BadLine a n l e, behind-few j n f h)
     go false true e = nope (cc)
-    go false false e = omega (arith, line-same TooFewCarts a 0 l e)
+    go false false e = omega (arith, line-same Uneven a 0 l e)
 lines-early j n cut a l f h e = omega (arith, line-same BadLine a n l e, behind-few j n f h)
 lines-early j n (more r ls) a l f h e = go (lineSays scaledOf j r) refl e (λ k. lines-early k (n + 1) ls a l)
   where
@@ -136,7 +136,7 @@ number-low NoNumber = omega arith
 number-low OutOfRange = omega arith
 number-low TooMany = omega arith
 number-low Doubled = omega arith
-number-low TooFewCarts = omega arith
+number-low Uneven = omega arith
 number-low StoreTooShort = omega arith
 number-low SheetTooShort = omega arith
 number-low BadSheet = omega arith

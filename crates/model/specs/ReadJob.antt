@@ -7,7 +7,7 @@ use lib.Dec.{ltb, leb, eqb}
 use lib.ListN.{length, getD}
 use Rattle.model.specs.Limits.{maxCells, maxTracks, maxCarts, maxCalls, maxSteps, maxText}
 use Rattle.model.specs.declared.answer.Answer.{Answer}
-use Rattle.model.specs.declared.answer.Answer.the-variants.{TextTooLong, BadLine, NoNumber, OutOfRange, TooMany, Doubled, TooFewCarts}
+use Rattle.model.specs.declared.answer.Answer.the-variants.{TextTooLong, BadLine, NoNumber, OutOfRange, TooMany, Doubled, Uneven}
 use Rattle.model.specs.Job.{Job, Track, CallKind, lift, bay, track, call}
 use Rattle.model.specs.Text.{Lines, done, cut, more, linesOf, numbersBy, scaledOf, opens, after, floorWord, trackWord, cartWord, callWord, bayWord}
 
@@ -108,7 +108,7 @@ goOn (right j) n on = on j
 
 -- 8: fewer carts than calls. A text without a line has no FLOOR.
 abbrev pub wholeJob : Job → ℕ → Verdict Job
-wholeJob j n = cond (eqb (j .cells) 0) (refused BadLine n) (cond (leb (length (j .calls)) (length (j .carts))) (accepted j) (refused TooFewCarts 0))
+wholeJob j n = cond (eqb (j .cells) 0) (refused BadLine n) (cond (leb (length (j .calls)) (length (j .carts))) (accepted j) (refused Uneven 0))
 
 -- The lines from line n on, after those that said j.
 abbrev pub linesSay : (List ℕ → Option ℕ) → Job → ℕ → Lines → Verdict Job

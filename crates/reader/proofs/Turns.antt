@@ -7,7 +7,7 @@ use native.Mathlib.Omega.{arith}
 use lib.ListN.{length, drop, replicate, length-replicate}
 use borrow.Author.Tests.{lt-ltb, le-ltb, le-leb, lt-leb, eq-eqb, ne-eqb}
 use Rattle.model.specs.declared.answer.Answer.{Answer}
-use Rattle.model.specs.declared.answer.Answer.the-variants.{Cannot, TextTooLong, BadLine, TooFewCarts}
+use Rattle.model.specs.declared.answer.Answer.the-variants.{Cannot, TextTooLong, BadLine, Uneven}
 use Rattle.model.specs.Answers.{number}
 use Rattle.model.specs.Limits.{maxCells, maxTracks, maxCarts, maxCalls, maxText}
 use Rattle.model.specs.Job as model
@@ -137,7 +137,7 @@ module _ {s : List ℕ} {job : Job} {seen : List ℕ} {at line : ℕ} (k : ReadS
     ends-none z = simp (eq-eqb _ _ z) at ended
 
     module _ (some : job .cells ≡ 0 → ⊥) where
-      pub ends-few : job .carts < job .calls → refused TooFewCarts 0 ≡ readJob s
+      pub ends-few : job .carts < job .calls → refused Uneven 0 ≡ readJob s
       ends-few d = simp (ne-eqb _ _ some, lt-leb (length (jobOf job .calls)) (length (jobOf job .carts)) (omega (arith, so-far-counts k .carts, so-far-counts k .calls))) at ended
 
       pub ends-job : job .calls ≤ job .carts → accepted (jobOf job) ≡ readJob s

@@ -110,7 +110,7 @@ pub fn read(text: &[u8]) -> Reading
     let calls = counts.calls;
     if carts < calls {
         return refused(Verdict::Refused {
-            answer: Answer::TooFewCarts,
+            answer: Answer::Uneven,
             line: 0,
         });
     }
