@@ -75,7 +75,9 @@ module _ {j : Job} {targets : List ℕ} {calls : ℕ} {cartOn order : List ℕ} 
     node-known = (omega (arith, on-cell, g .kept .keeps .ready .fit .known-calls (callOf j (q i)) listed .0), omega (arith, last))
 
     served : HasCart j s (nodeOf j (callOf j (q i)))
-    served = plans.targets (stood-flow (g .kept .keeps .flow)) (nodeOf j (callOf j (q i))) (stood-ends (g .kept .keeps .flow) (nodeOf j (callOf j (q i))) (g .kept .keeps .full (callOf j (q i)) listed))
+    served =
+        let k = g .kept .keeps in
+        plans.targets (stood-flow (k .flow)) (nodeOf j (callOf j (q i))) (stood-ends (k .flow) (nodeOf j (callOf j (q i))) (k .full (callOf j (q i)) listed))
 
     -- Where it is met. The code has in locals where its node stands and the step.
     module _ {v d : ℕ} (here : v ≡ placeAt grid (point p (grid .top))) (step : d ≡ prevAt grid s v) where

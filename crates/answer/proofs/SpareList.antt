@@ -13,7 +13,7 @@ use Rattle.model.proofs.Lists.{pigeon}
 use Rattle.model.proofs.Listed.{below, length-below, in-below}
 use Rattle.model.proofs.Tabled.{put, put-at, put-off}
 use Rattle.job.specs.Held.{Some}
-use Rattle.answer.specs.Spares.{Taken, OwnCarts, SparesListed}
+use Rattle.answer.specs.Spares.{CartsTaken, OwnCarts, SparesListed}
 
 -- n different numbers below m are at most m; and if they are all of these, m is at most n.
 distinct-few : (f : ℕ → ℕ) (n m : ℕ) → ((i : ℕ) → i < n → f i < m) → ((i k : ℕ) → i < n → k < n → f i ≡ f k → i ≡ k) → n ≤ m
@@ -54,7 +54,7 @@ listing-none first n size = record {
   all = λ d l. absurd (omega arith);
 }
 
-module _ {first₀ first table : List ℕ} {n k c carts : ℕ} (own : OwnCarts first₀ n carts) (marks : Taken first₀ n table) (w : Listing first₀ first n k c) (more : c < carts) where
+module _ {first₀ first table : List ℕ} {n k c carts : ℕ} (own : OwnCarts first₀ n carts) (marks : CartsTaken first₀ n table) (w : Listing first₀ first n k c) (more : c < carts) where
   -- The cart c has a path.
   pub listing-skip : (getD table c 0 ≡ 0 → ⊥) → Listing first₀ first n k (c + 1)
   listing-skip h = record {

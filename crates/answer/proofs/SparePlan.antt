@@ -14,9 +14,8 @@ use Rattle.model.specs.Plan.{Path, Ride, rideOf, Before, Plan, SparesInOrder}
 use Rattle.model.specs.Contracts.{RightPlan}
 use Rattle.model.proofs.Basics.{nope}
 use Rattle.model.proofs.Decide.{dec-lt}
-use Rattle.model.proofs.Lists.{in-getD, in-place, place-of, rising-of}
+use Rattle.model.proofs.Lists.{in-getD, in-place, place-of, place-in, rising-of}
 use Rattle.model.proofs.Lex.{lex-on}
-use Rattle.model.proofs.Rides.{place-in}
 use Rattle.model.proofs.Sharing.{every}
 use Rattle.model.proofs.Written.{few-steps}
 use Rattle.job.specs.Held.{pathAt, pathsTo, rideAt, sparesFrom}
@@ -35,7 +34,7 @@ use Rattle.network.proofs.ChokeTargets.{edge-falls}
 use Rattle.network.proofs.Calm.{Meets, trades, passes, meets, stood-flow, stood-calm, stood-ends}
 use Rattle.answer.specs.Spares.{OwnCarts, SparesListed}
 use Rattle.answer.specs.Full.{PathsTraced, PathsWritten}
-use Rattle.answer.specs.Trail.{backFrom, HasCart, Unmet, Onward}
+use Rattle.answer.specs.Trail.{backFrom, HasCart, MeetsNone, WalkRow}
 use Rattle.answer.proofs.PathPlan.{row-long}
 use Rattle.answer.proofs.Rising.{rising-once, precedes-apart}
 
@@ -138,7 +137,7 @@ module _ {j : Job} {starts : List ℕ} {carts calls : ℕ} {order : List ℕ} {g
     listed : In (cartCell j a) (j .carts)
     listed = in-getD (j .carts) a 0 (omega (arith, g .listed .counted))
 
-    pub spare-unmet : Unmet j s (point (cartCell j a) 0)
+    pub spare-unmet : MeetsNone j s (point (cartCell j a) 0)
     spare-unmet = record { cart = λ f. nope (cc (ends-at (cartCell j a) listed)); free = free }
       where
         free : (q : Call) → In q (j .calls) → Ahead (backFrom j s) (nodeOf j q) (point (cartCell j a) 0) → ⊥
@@ -157,7 +156,8 @@ module _ {j : Job} {starts : List ℕ} {carts calls : ℕ} {order : List ℕ} {g
             spare t (omega (arith, g .counted)) (sym (ap (λ p. p .cart) z) ∙ cart)
 
   -- The next line. The code has its cart's cell, the row and the last step in locals.
-  module _ (k : ℕ) (more : k < carts) (from : calls ≤ k) (known : getD first k 0 < carts) {row : List ℕ} {last : ℕ} (on : Onward j s (cartCell j (getD first k 0)) (grid .top) row) (at-last : last ≡ horizon j) where
+  module _ (k : ℕ) (more : k < carts) (from : calls ≤ k) (known : getD first k 0 < carts)
+      {row : List ℕ} {last : ℕ} (on : WalkRow j s (cartCell j (getD first k 0)) (grid .top) row) (at-last : last ≡ horizon j) where
     few : last < maxSteps
     few = omega (arith, few-steps j (g .kept .keeps .ready .fit))
 
@@ -219,10 +219,10 @@ module _ {j : Job} {starts : List ℕ} {carts calls : ℕ} {order : List ℕ} {g
     on-cell : cell ≡ cartCell j a
     on-cell = told ∙ sym (g .listed .cells a known)
 
-    pub line-unmet : Unmet j s (point cell 0)
+    pub line-unmet : MeetsNone j s (point cell 0)
     line-unmet = rw on-cell (spare-unmet known (λ i m q. l .spare i k m from more (q ∙ here)))
 
-    pub line-more : {row : List ℕ} {last : ℕ} → Onward j s cell (grid .top) row → last ≡ grid .top - 1 → {lasts₁ rows₁ : List ℕ} → RidesTraced j order s first lasts₁ rows₁ calls k
+    pub line-more : {row : List ℕ} {last : ℕ} → WalkRow j s cell (grid .top) row → last ≡ grid .top - 1 → {lasts₁ rows₁ : List ℕ} → RidesTraced j order s first lasts₁ rows₁ calls k
         → length row ≡ length (take (k * maxSteps + maxSteps - k * maxSteps) (drop (k * maxSteps) rows₁))
         → RidesTraced j order s first (set lasts₁ k last) (withRow rows₁ k row) calls (k + 1)
     line-more on e w same = rides-more k more from (rw here at known) (rw (on-cell ∙ ap (cartCell j) here) at on) (e ∙ last-step) w same

@@ -15,14 +15,14 @@ use Rattle.network.specs.declared.planes.Grid.{Grid}
 use Rattle.network.specs.Graph.{top, Inside, nodeOf, MetFrom, Edge}
 use Rattle.network.specs.Store.{placeAt, usedAt, nextAt, prevAt, cameFrom}
 use Rattle.network.specs.Links.{backLink}
-use Rattle.network.specs.Keeping.{KeepsAll, Begins}
+use Rattle.network.specs.Keeping.{KeepsAll, BeginsAt}
 use Rattle.network.proofs.Points.{point-cell, point-eq}
 use Rattle.network.proofs.ChokeTargets.{target-top}
-use Rattle.answer.specs.Trail.{backFrom, Unmet, GoesTo}
+use Rattle.answer.specs.Trail.{backFrom, MeetsNone, GoesTo}
 use Rattle.answer.proofs.Nodes.{came-step, back-off, back-to, back-of}
 use Rattle.answer.proofs.PathLinks.{cart-known, stood, went, back-used}
 
-module _ {j : Job} {g : Grid} {s : List ℕ} (h : KeepsAll j g s) (x : Point) (u : Unmet j s x) (early : x .step + 1 < g .top) where
+module _ {j : Job} {g : Grid} {s : List ℕ} (h : KeepsAll j g s) (x : Point) (u : MeetsNone j s x) (early : x .step + 1 < g .top) where
   abbrev last : g .top ≡ top j
   last = ap (λ g. g .top) (h .grid)
 
@@ -53,7 +53,7 @@ module _ {j : Job} {g : Grid} {s : List ℕ} (h : KeepsAll j g s) (x : Point) (u
       led y e (inl m) = absurd (unmet y (h .flow .back y x e) m)
       led y e (inr d) = (y, h .flow .back y x e, d .falls, h .tells x y e (d .in-time))
 
-      starts : Begins j (λ z. ⊥) x → ⊥
+      starts : BeginsAt j (λ z. ⊥) x → ⊥
       starts (inl e) = omega (arith, target-top j x e, last)
       starts (inr (inl e)) = omega (arith, last)
       starts (inr (inr e)) = e
@@ -102,5 +102,5 @@ module _ {j : Job} {g : Grid} {s : List ℕ} (h : KeepsAll j g s) (x : Point) (u
             back-to j (h .grid) s beside (here-known .0, omega (arith, last)) (λ z. used (rw at z)) (λ z. omega arith) ∙ ap to (beside-came ∙ point-eq e refl) in
             stood (backLink j s) beside (point n (x .step)) back comes-from
 
-  pub unmet-next : (c : ℕ) → GoesTo j s x c → Unmet j s (point c (suc (x .step)))
+  pub unmet-next : (c : ℕ) → GoesTo j s x c → MeetsNone j s (point c (suc (x .step)))
   unmet-next c e = record { cart = λ f. nope (cc); free = λ q i (k, ch). u .free q i (suc k, chain-more (backFrom j s) k (nodeOf j q) (point c (suc (x .step))) x ch e) }

@@ -47,7 +47,7 @@ pub record AllKept (j : Job) (grid : Grid) (s : List ℕ) : Type 0 where
   pub all : (c : ℕ) → In c (j .carts) → Started j s c
 
 -- The table marks the carts of the first n lines, and no others.
-pub record Taken (first : List ℕ) (n : ℕ) (table : List ℕ) : Type 0 where
+pub record CartsTaken (first : List ℕ) (n : ℕ) (table : List ℕ) : Type 0 where
   pub size : length table ≡ maxCarts
   pub marked : (k : ℕ) → k < n → getD table (getD first k 0) 0 ≡ 1
   pub only : (c : ℕ) → (getD table c 0 ≡ 0) ⊎ Some n (λ k. getD first k 0 ≡ c)

@@ -32,7 +32,7 @@ pub record Trail (j : Job) (s : List ℕ) (x : Point) (row row′ : List ℕ) (c
   pub kept : (t : ℕ) → x .step < t → getD row′ t 0 ≡ getD row t 0
 
 -- A cart is on the node that meets no call.
-pub record Unmet (j : Job) (s : List ℕ) (x : Point) : Type 0 where
+pub record MeetsNone (j : Job) (s : List ℕ) (x : Point) : Type 0 where
   pub cart : HasCart j s x
   pub free : (q : Call) → In q (j .calls) → Ahead (backFrom j s) (nodeOf j q) x → ⊥
 
@@ -41,6 +41,6 @@ abbrev pub GoesTo : Job → List ℕ → Point → ℕ → Type 0
 GoesTo j s x c = backFrom j s (point c (suc (x .step))) ≡ to x
 
 -- The row has the cells of the cart that starts on c, at the steps before n.
-pub record Onward (j : Job) (s : List ℕ) (c n : ℕ) (row : List ℕ) : Type 0 where
+pub record WalkRow (j : Job) (s : List ℕ) (c n : ℕ) (row : List ℕ) : Type 0 where
   pub begins : getD row 0 0 ≡ c
   pub follows : (t : ℕ) → suc t < n → backFrom j s (point (getD row (suc t) 0) (suc t)) ≡ to (point (getD row t 0) t)

@@ -19,13 +19,13 @@ ghost use Rattle.job.specs.Held.{Room, pathsTo, sparesFrom};
 ghost use Rattle.network.specs.Store.{asPoint};
 ghost use Rattle.network.specs.Keeping.{KeepsAll};
 ghost use Rattle.answer.specs.Full.{PathsWritten};
-ghost use Rattle.answer.specs.Spares.{Taken, OwnCarts, SparesListed};
-ghost use Rattle.answer.specs.Trail.{Unmet, GoesTo, Onward};
+ghost use Rattle.answer.specs.Spares.{CartsTaken, OwnCarts, SparesListed};
+ghost use Rattle.answer.specs.Trail.{MeetsNone, GoesTo, WalkRow};
 
 // The cell that the cart on the node, at a step before the last, goes on to; most stand. Two that would trade places both stand instead.
 fn goes_to(store: &[u8], grid: Grid, node: Node) -> usize
-    requires { ⌜ ((j : model.Job) × KeepsAll j grid (now store) × Unmet j (now store) (asPoint node)) × (node .step + 1 < grid .top) ⌝ }
-    ensures { λ r. ⌜ ((j : model.Job) → KeepsAll j grid (now (store .entry)) → Unmet j (now (store .entry)) (asPoint node) → GoesTo j (now (store .entry)) (asPoint node) r) ⌝ }
+    requires { ⌜ ((j : model.Job) × KeepsAll j grid (now store) × MeetsNone j (now store) (asPoint node)) × (node .step + 1 < grid .top) ⌝ }
+    ensures { λ r. ⌜ ((j : model.Job) → KeepsAll j grid (now (store .entry)) → MeetsNone j (now (store .entry)) (asPoint node) → GoesTo j (now (store .entry)) (asPoint node) r) ⌝ }
 {
     let cell = node.cell;
     let step = node.step + 1;
@@ -45,8 +45,8 @@ fn goes_to(store: &[u8], grid: Grid, node: Node) -> usize
 
 // Follows the cart that starts on the cell. Its cells go into the row.
 fn go_on(store: &[u8], grid: Grid, row: &mut [u8], cell: usize)
-    requires { ⌜ ((j : model.Job) × KeepsAll j grid (now store) × Unmet j (now store) (point cell 0)) × (grid .top ≤ length (now row)) ⌝ }
-    ensures { λ _. ⌜ ((j : model.Job) → KeepsAll j grid (now (store .entry)) → Unmet j (now (store .entry)) (point cell 0) → Onward j (now (store .entry)) cell (grid .top) (now (row .exit))) ⌝ }
+    requires { ⌜ ((j : model.Job) × KeepsAll j grid (now store) × MeetsNone j (now store) (point cell 0)) × (grid .top ≤ length (now row)) ⌝ }
+    ensures { λ _. ⌜ ((j : model.Job) → KeepsAll j grid (now (store .entry)) → MeetsNone j (now (store .entry)) (point cell 0) → WalkRow j (now (store .entry)) cell (grid .top) (now (row .exit))) ⌝ }
 {
     row[0] = cell as u8;
     let mut at = cell;
@@ -61,7 +61,7 @@ fn go_on(store: &[u8], grid: Grid, row: &mut [u8], cell: usize)
 // Marks the carts of the first n lines in the table.
 fn mark_taken(first: &[u8], n: usize, table: &mut [u8; Limits::CARTS])
     requires { ⌜ (n ≤ length (now first)) × ((k : ℕ) → k < n → getD (now first) k 0 < maxCarts) × (length (now table) ≡ maxCarts) × ((c : ℕ) → getD (now table) c 0 ≡ 0) ⌝ }
-    ensures { λ _. ⌜ Taken (now (first .entry)) n (now (table .exit)) ⌝ }
+    ensures { λ _. ⌜ CartsTaken (now (first .entry)) n (now (table .exit)) ⌝ }
 {
     let mut k = 0;
     while k < n {

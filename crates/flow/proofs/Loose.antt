@@ -50,15 +50,15 @@ module _ {N : Type 0} (dec : Discrete N) {G : Graph N} {next prev : N → Link N
         go (inl (f, g)) = f
         go (inr f) = nope (cc)
 
-    data Prev (a : N) : Type 0 where
-      ends : a ≡ w → prev′ a ≡ end → Prev a
-      comes : a ≡ u → prev′ a ≡ to v → Prev a
-      stays : (a ≡ w → ⊥) → (a ≡ u → ⊥) → prev′ a ≡ prev a → Prev a
+    data PrevLed (a : N) : Type 0 where
+      ends : a ≡ w → prev′ a ≡ end → PrevLed a
+      comes : a ≡ u → prev′ a ≡ to v → PrevLed a
+      stays : (a ≡ w → ⊥) → (a ≡ u → ⊥) → prev′ a ≡ prev a → PrevLed a
 
-    look-prev : (a : N) → Prev a
+    look-prev : (a : N) → PrevLed a
     look-prev a = go (look dec (upd dec prev u (to v)) w end a) (look dec prev u (to v) a)
       where
-        go : Upd dec (upd dec prev u (to v)) w end a → Upd dec prev u (to v) a → Prev a
+        go : Upd dec (upd dec prev u (to v)) w end a → Upd dec prev u (to v) a → PrevLed a
         go (changed e f) q = ends e f
         go (kept n f) (changed e g) = comes e (f ∙ g)
         go (kept n f) (kept m g) = stays n m (f ∙ g)
@@ -66,7 +66,7 @@ module _ {N : Type 0} (dec : Discrete N) {G : Graph N} {next prev : N → Link N
     prev-stays : (a : N) → (a ≡ w → ⊥) → (a ≡ u → ⊥) → prev′ a ≡ prev a
     prev-stays a n m = go (look-prev a)
       where
-        go : Prev a → prev′ a ≡ prev a
+        go : PrevLed a → prev′ a ≡ prev a
         go (ends e f) = absurd (n e)
         go (comes e f) = absurd (m e)
         go (stays n m f) = f
@@ -74,7 +74,7 @@ module _ {N : Type 0} (dec : Discrete N) {G : Graph N} {next prev : N → Link N
     comes-to : prev′ u ≡ to v
     comes-to = go (look-prev u)
       where
-        go : Prev u → prev′ u ≡ to v
+        go : PrevLed u → prev′ u ≡ to v
         go (ends e f) = absurd (moved (sym e))
         go (comes e f) = f
         go (stays n m f) = absurd (m refl)
@@ -105,7 +105,7 @@ module _ {N : Type 0} (dec : Discrete N) {G : Graph N} {next prev : N → Link N
     new-back : (a b : N) → prev′ b ≡ to a → next′ a ≡ to b
     new-back a b e = go (look-prev b)
       where
-        go : Prev b → next′ a ≡ to b
+        go : PrevLed b → next′ a ≡ to b
         go (ends q f) = nope (cc)
         go (comes q f) = let r : a ≡ v = cc in rw q (next-new a r)
         go (stays n m f) =
@@ -122,7 +122,7 @@ module _ {N : Type 0} (dec : Discrete N) {G : Graph N} {next prev : N → Link N
     new-off-next : (a : N) → prev′ a ≡ off → next′ a ≡ off
     new-off-next a e = go (look-prev a)
       where
-        go : Prev a → next′ a ≡ off
+        go : PrevLed a → next′ a ≡ off
         go (ends q f) = nope (cc)
         go (comes q f) = nope (cc)
         go (stays n m f) =
@@ -156,7 +156,7 @@ module _ {N : Type 0} (dec : Discrete N) {G : Graph N} {next prev : N → Link N
       goals = λ a e. goals a e (look dec next v (to u) a);
     }
       where
-        starts : (a : N) → prev′ a ≡ end → Prev a → T a
+        starts : (a : N) → prev′ a ≡ end → PrevLed a → T a
         starts a e (ends q f) = rw q new
         starts a e (comes q f) = nope (cc)
         starts a e (stays n m f) = keep a (ok .starts a (sym f ∙ e)) m

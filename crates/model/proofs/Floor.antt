@@ -1,5 +1,5 @@
--- What stays on the floor: a walk from a known cell stands on known cells, so that a path of a plan and the walk of a spare cart have known numbers. A choke point passes the reader's test of known ones
--- exactly if it is one, and a path has as many cells as fit its call exactly if the call is met at its last step. Assumes nothing.
+-- What stays on the floor: a walk from a known cell stands on known cells, so that a path of a plan and the walk of a spare cart have known numbers. A choke point passes the reader's test of known
+-- ones exactly if it is one, and a path has as many cells as fit its call exactly if the call is met at its last step. Assumes nothing.
 use Prim.Native.Nat.{ℕ, zero, suc, _≤_, _<_}
 use mathlib.Core.Path.{_≡_, refl, ap, _∙_}
 use mathlib.Core.List.{List, [], _∷_}

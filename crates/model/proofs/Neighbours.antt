@@ -12,8 +12,8 @@ use Rattle.model.specs.Job.{Track, track}
 use Rattle.model.specs.Walk.{Arc}
 use Rattle.model.specs.GridMap.{isCell, cellAt, cellNumber, trackTo, tracksAt, tracksOf, floorJob, NextTo}
 use Rattle.model.proofs.Basics.{nope}
-use Rattle.model.proofs.Lists.{in-left, in-right}
-use Rattle.model.proofs.Numbering.{number-once, in-part, each-in, in-each}
+use Rattle.model.proofs.Lists.{in-left, in-right, in-part}
+use Rattle.model.proofs.Numbering.{number-once, each-in, in-each}
 
 -- The second place is right of the first, or below it.
 abbrev pub RightOrBelow : ℕ → ℕ → ℕ → ℕ → Type 0

@@ -12,7 +12,7 @@ use lib.Seq.{take-nil, take-take, take-length}
 use Rattle.model.specs.Lists.{In, Lex, eachBelow}
 use Rattle.model.specs.Job.{track}
 use Rattle.model.specs.GridMap.{isCell, cellAt, rowCells, mapCells, cellNumber, trackTo, tracksAt, tracksOf}
-use Rattle.model.proofs.Lists.{in-left, in-right}
+use Rattle.model.proofs.Lists.{in-left, in-right, in-part}
 use Rattle.model.proofs.Decide.{dec-lt}
 use Rattle.model.proofs.Lex.{dec-lex, lex-else}
 
@@ -114,14 +114,9 @@ number-some (l ∷ m) n h = go (dec-lt n (rowCells l)) (number-some m (n - rowCe
 
 -- Members of what f gives below n.
 module _ {A : Type 0} (a : A) where
-  pub in-part : (l k : List A) → In a (l ++ k) → In a l ⊎ In a k
-  in-part [] k h = inr h
-  in-part (b ∷ l) k (inl e) = inl (inl e)
-  in-part (b ∷ l) k (inr h) = ⊎-elim (λ i. inl (inr i)) inr (in-part l k h)
-
   pub each-in : (n : ℕ) (f : ℕ → List A) → In a (eachBelow n f) → (k : ℕ) × (k < n) × In a (f k)
   each-in zero f h = absurd h
-  each-in (suc n) f h = ⊎-elim (λ i. let (k, l, j) = each-in n f i in (k, omega arith, j)) (λ i. (n, omega arith, i)) (in-part (eachBelow n f) (f n) h)
+  each-in (suc n) f h = ⊎-elim (λ i. let (k, l, j) = each-in n f i in (k, omega arith, j)) (λ i. (n, omega arith, i)) (in-part a (eachBelow n f) (f n) h)
 
   pub in-each : (n : ℕ) (f : ℕ → List A) (k : ℕ) → k < n → In a (f k) → In a (eachBelow n f)
   in-each zero f k l h = absurd (omega arith)

@@ -127,7 +127,8 @@ module _ (j : Job) (ps : List Path) (ss : List Ride) (pl : Plan j ps ss) (t : �
   as-many =
       omega (
         arith,
-        count-having (λ r. r .cells) (map rideOf ps ++ ss) t (λ r. r .cart) (length (j .carts)) (rides-all j ps ss pl) (pl .apart .own-cart) (ride-known j ps ss pl) (dec-on-floor (map rideOf ps ++ ss) t)
+        count-having (λ r. r .cells) (map rideOf ps ++ ss) t (λ r. r .cart) (length (j .carts)) (rides-all j ps ss pl) (pl .apart .own-cart) (ride-known j ps ss pl)
+            (dec-on-floor (map rideOf ps ++ ss) t)
             (λ r. (λ h. (getD (r .cells) t 0, (h, refl)), λ h. h .1 .0)),
         count-rides t ps ss (λ s m. omega (arith, pl .stay s m .size)),
         count-having (λ p. p .cells) ps t (λ p. p .call) (length (j .calls)) (pl .served .size) (pl .served .own-call) (λ p m. pl .served .leads p m .known-call) (dec-awaited ps t)

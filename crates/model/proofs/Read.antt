@@ -18,7 +18,8 @@ use Rattle.model.specs.Text.{Lines, done, cut, more, onFirst, linesOf, o
 use Rattle.model.specs.Text.{andNumber, numbersOf, numeral, fields, line, opens, after, planWord, pathWord, spareWord, cannotWord, chokeWord, wholeWord}
 use Rattle.model.specs.SheetText.{linesText, pathNumbers, spareNumbers, chokeOpens, chokeNumbers, planText, cannotText}
 use Rattle.model.specs.FirstBad.{orBad, linesDue, noMore, restSays}
-use Rattle.model.specs.ReadSheet.{Sheet, bad, plan, cannot, knownPath, knownSpare, numbersAfter, pathOf, spareOf, pointOf, wholeOf, headSays, countSays, pathLine, spareLine, sparesSay, chokeLine, readSheet}
+use Rattle.model.specs.ReadSheet.{Sheet, bad, plan, cannot, knownPath, knownSpare, numbersAfter, pathOf, spareOf, pointOf, wholeOf, headSays}
+use Rattle.model.specs.ReadSheet.{countSays, pathLine, spareLine, sparesSay, chokeLine, readSheet}
 use Rattle.model.proofs.Decide.{decided, dec-imp, dec-list, dec-lt, dec-eq, all-below}
 use Rattle.model.proofs.Basics.{nope, and-left, and-right}
 use Rattle.model.proofs.Floor.{knownChoke}

@@ -3,11 +3,11 @@ use Prim.Native.Nat.{ℕ, suc, _+_, _<_}
 use mathlib.Core.Path.{_≡_, refl, sym, ap, subst, _∙_}
 use mathlib.Core.List.{List, [], _∷_, _++_, map}
 use mathlib.Core.Logic.{_⊎_, inl, inr}
-use lib.ListN.{length, getD, length-append}
+use lib.ListN.{length, length-append}
 use Rattle.model.specs.Lists.{In, NoDup}
 use Rattle.model.specs.Job.{Job}
 use Rattle.model.specs.Plan.{Path, Ride, rideOf, Apart, Plan}
-use Rattle.model.proofs.Lists.{in-map, in-unmap, in-left, in-part, place-of}
+use Rattle.model.proofs.Lists.{in-map, in-unmap, in-left, in-part}
 
 nodup-left : {A : Type 0} (f : A → ℕ) (l m : List A) → NoDup (map f (l ++ m)) → NoDup (map f l)
 nodup-left f [] m nd = tt
@@ -38,14 +38,6 @@ nodup-both {A} f (a ∷ l) m h k apart = (λ i. let (b, n, e) = in-unmap f (f a)
     go : (b : A) → f b ≡ f a → In b l ⊎ In b m → ⊥
     go b e (inl i) = h .0 (rw e at (in-map f b l i))
     go b e (inr i) = apart a b (inl refl) i (sym e)
-
--- what is different in a list stands at different places
-map-id : (l : List ℕ) → map (λ a. a) l ≡ l
-map-id [] = refl
-map-id (a ∷ l) = ap (λ m. a ∷ m) (map-id l)
-
-pub place-in : (l : List ℕ) → NoDup l → (i k : ℕ) → i < length l → k < length l → getD l i 0 ≡ getD l k 0 → i ≡ k
-place-in l nd i k h h′ e = place-of (λ a. a) l (rw (map-id l) nd) i k 0 h h′ e
 
 length-rides : (ps : List Path) → length (map rideOf ps) ≡ length ps
 length-rides [] = refl

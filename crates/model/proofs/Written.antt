@@ -20,7 +20,8 @@ use Rattle.model.specs.Text.{more, withByte, linesOf, onField, fieldsOf,
 use Rattle.model.specs.Text.{Lines, planWord, pathWord, spareWord, cannotWord, chokeWord, wholeWord, after}
 use Rattle.model.specs.SheetText.{linesText, pathNumbers, spareNumbers, chokeOpens, chokeNumbers, planText, cannotText}
 use Rattle.model.specs.FirstBad.{orBad, linesDue, noMore, restSays}
-use Rattle.model.specs.ReadSheet.{Sheet, bad, plan, cannot, allBelow, sizeFits, knownPath, knownSpare, numbersAfter, pathOf, spareOf, pointOf, wholeOf, headSays, countSays, pathLine, spareLine, sparesSay, chokeLine, readSheet}
+use Rattle.model.specs.ReadSheet.{Sheet, bad, plan, cannot, allBelow, sizeFits, knownPath, knownSpare, numbersAfter, pathOf, spareOf, pointOf, wholeOf, headSays}
+use Rattle.model.specs.ReadSheet.{countSays, pathLine, spareLine, sparesSay, chokeLine, readSheet}
 use Rattle.model.proofs.Basics.{and-left, and-right, and-both}
 use Rattle.model.proofs.Floor.{knownChoke, test-choke}
 use Rattle.model.proofs.Decide.{decided, dec-by, dec-and, dec-eq, all-below}

@@ -23,11 +23,12 @@ use Rattle.network.specs.Graph.{top, Inside, nodeOf, graphFrom}
 use Rattle.network.specs.Store.{gridOf, idx, placeAt, usedAt, nextAt, leadsTo, cameFrom, meets, withUsed, isUsed, Spacious, Within}
 use Rattle.network.specs.Links.{backLink, onLink}
 use Rattle.network.specs.Holds.{Holds}
-use Rattle.network.specs.Keeping.{Begins, Keeps, KeepsAll, LooseAt, SameStarts}
+use Rattle.network.specs.Keeping.{BeginsAt, Keeps, KeepsAll, LooseAt, SameStarts}
 use Rattle.network.proofs.Points.{point-cell, point-step, to-eq, dec-point}
 use Rattle.network.proofs.StoreBytes.{idx-below, idx-one}
 use Rattle.network.proofs.NodeBytes.{link-off, link-end, link-of, link-same, used, unused, used-same, used-known}
-use Rattle.network.proofs.PlaneLaws.{set-here, kept-plane}
+use Rattle.network.proofs.PlaneLaws as planes
+use Rattle.network.proofs.PlaneLaws.{set-here}
 use Rattle.network.proofs.ChokeTargets.{edge-inside-before}
 use Rattle.network.proofs.StandsFlow.{can-stand}
 use Rattle.network.proofs.StandBytes.{Stood, back-stood}
@@ -81,7 +82,7 @@ module _ {j : Job} {g : Grid} {s : List ℕ} {c t : ℕ} (h : LooseAt j g s (poi
       abbrev on′ : Point → Link Point
       on′ = prevLed dec-point u v w (k .on)
 
-      step : LedOn (graphFrom j (Begins j (λ x. x ≡ u))) (backLink j s) (k .on) u v w
+      step : LedOn (graphFrom j (BeginsAt j (λ x. x ≡ u))) (backLink j s) (k .on) u v w
       step = record {
         loose = h .loose;
         edge = can-stand (k .ready .fit) (k .flow) (k .full) (h .loose) early (loose-known .0);
@@ -89,10 +90,10 @@ module _ {j : Job} {g : Grid} {s : List ℕ} {c t : ℕ} (h : LooseAt j g s (poi
         leaves = leaves;
       }
 
-      flow : Flow (graphFrom j (Begins j (λ x. x ≡ w))) (backLink j s′) on′
+      flow : Flow (graphFrom j (BeginsAt j (λ x. x ≡ w))) (backLink j s′) on′
       flow = flow-same (back-stood j (loose-known .0) early filled bytes) (λ x. refl) (led-on dec-point (k .flow) step still (inr (inr refl)))
         where
-          still : (a : Point) → Begins j (λ x. x ≡ u) a → (a ≡ u → ⊥) → Begins j (λ x. x ≡ w) a
+          still : (a : Point) → BeginsAt j (λ x. x ≡ u) a → (a ≡ u → ⊥) → BeginsAt j (λ x. x ≡ w) a
           still a (inl e) n = inl e
           still a (inr (inl e)) n = inr (inl e)
           still a (inr (inr e)) n = absurd (n e)
@@ -150,7 +151,7 @@ pub loose-last : {j : Job} {g : Grid} {s : List ℕ} {u : Point} → LooseAt j g
 loose-last {j} {u = u} h e = let k = h .keeps in
     record { ready = k .ready; grid = k .grid; room = k .room; on = k .on; flow = restarted (k .flow) (λ v f. starts v (k .flow .starts v f)); full = k .full; tells = k .tells }
   where
-    starts : (v : Point) → Begins j (λ x. x ≡ u) v → Begins j (λ x. ⊥) v
+    starts : (v : Point) → BeginsAt j (λ x. x ≡ u) v → BeginsAt j (λ x. ⊥) v
     starts v (inl f) = inl f
     starts v (inr (inl f)) = inr (inl f)
     starts v (inr (inr f)) = inr (inl (point-step f ∙ e))
@@ -183,7 +184,7 @@ module _ {j : Job} {g : Grid} {s : List ℕ} (k : KeepsAll j g s) (c : ℕ) (car
           let apart : Inside j y → idx j y ≡ idx j z → ⊥ = λ i e. n (idx-one j i start-known e) in
           let e : isUsed j s₁ y ≡ isUsed j s y = used-same j s s₁ y (λ i. ap (λ x. eqb x 0) (set-here (gridOf j) s 0 (idx j z) 1 below room (omega arith) .else (idx j y) (idx-below j i) (apart i))) in
           link-same (isUsed j s₁ y) (isUsed j s y) (eqb (y .step) 0) (cameFrom (gridOf j) s₁ y) (cameFrom (gridOf j) s y) e
-          (λ u. let i = used-known j s₁ y u in rw (kept-plane (gridOf j) s 0 (idx j z) 1 below 3 (λ e. omega arith) (idx j y) (idx-below j i)) refl)
+          (λ u. let i = used-known j s₁ y u in rw (planes.kept (gridOf j) s 0 (idx j z) 1 below 3 (λ e. omega arith) (idx j y) (idx-below j i)) refl)
 
       go : Upd dec-point (backLink j s) z end y → backLink j s₁ y ≡ upd dec-point (backLink j s) z end y
       go (changed e f) = ap (backLink j s₁) e ∙ here ∙ sym f
@@ -212,7 +213,7 @@ module _ {j : Job} {g : Grid} {s : List ℕ} (k : KeepsAll j g s) (c : ℕ) (car
       long : length s₁ ≡ length s
       long = simp length-set
 
-      still : (a : Point) → Begins j (λ x. ⊥) a → Begins j (λ x. x ≡ z) a
+      still : (a : Point) → BeginsAt j (λ x. ⊥) a → BeginsAt j (λ x. x ≡ z) a
       still a (inl e) = inl e
       still a (inr (inl e)) = inr (inl e)
       still a (inr (inr e)) = absurd e
@@ -230,7 +231,7 @@ module _ {j : Job} {g : Grid} {s : List ℕ} (k : KeepsAll j g s) (c : ℕ) (car
       tells x y e l (kept n f) =
           let o : k .on x ≡ to y = sym f ∙ e in
           let i : Inside j x = edge-inside-before (k .ready .fit) (k .flow .edge y x (k .flow .back y x o)) in
-          kept-plane (gridOf j) s 0 (idx j z) 1 below 2 (λ e. omega arith) (idx j x) (idx-below j i) ∙ (rw (k .grid) at (k .tells x y o l))
+          planes.kept (gridOf j) s 0 (idx j z) 1 below 2 (λ e. omega arith) (idx j x) (idx-below j i) ∙ (rw (k .grid) at (k .tells x y o l))
 
   -- The code writes by its own grid.
   module _ {s′ : List ℕ} (written : s′ ≡ withUsed g s (placeAt g (point c 0)) 1) where

@@ -62,8 +62,8 @@ module _ (g : Grid) (s : List ℕ) (q v b : ℕ) (l : v < g .nodes) where
   pub set-here : 9 * g .nodes ≤ length s → q ≤ 8 → SetAt (g .nodes) v b (at g s q) (at g (set s (spot g q v) b) q)
   set-here h few = record { here = at-same g s q v b (omega (arith, row-below (g .nodes) q 8 v l few)); else = λ w m n. at-other g s q v b q w l m (λ _ e. n e) }
 
-  pub kept-plane : (p : ℕ) → (p ≡ q → ⊥) → Same (g .nodes) (at g s p) (at g (set s (spot g q v) b) p)
-  kept-plane p n w m = at-other g s q v b p w l m (λ e _. n e)
+  pub kept : (p : ℕ) → (p ≡ q → ⊥) → Same (g .nodes) (at g s p) (at g (set s (spot g q v) b) p)
+  kept p n w m = at-other g s q v b p w l m (λ e _. n e)
 
 two-bytes : (t : ℕ) → t % 256 + 256 * (t / 256) ≡ t
 two-bytes t = omega arith
@@ -91,34 +91,34 @@ module _ (g : Grid) (s : List ℕ) (h : Spacious g s) where
 
     -- What is written behind a plane leaves it, and so does what is written before.
     past₅ : (p : ℕ) → p < 8 → Same (g .nodes) (at g m₅ p) (at g m₆ p)
-    past₅ p l = kept-plane g m₅ 8 d (via .step) hd p (λ e. omega arith)
+    past₅ p l = kept g m₅ 8 d (via .step) hd p (λ e. omega arith)
 
     past₄ : (p : ℕ) → p < 7 → Same (g .nodes) (at g m₄ p) (at g m₆ p)
-    past₄ p l w m = past₅ p (omega arith) w m ∙ kept-plane g m₄ 7 d (via .cell) hd p (λ e. omega arith) w m
+    past₄ p l w m = past₅ p (omega arith) w m ∙ kept g m₄ 7 d (via .cell) hd p (λ e. omega arith) w m
 
     past₃ : (p : ℕ) → p < 6 → Same (g .nodes) (at g m₃ p) (at g m₆ p)
-    past₃ p l w m = past₄ p (omega arith) w m ∙ kept-plane g m₃ 6 d (x .step / 256) hd p (λ e. omega arith) w m
+    past₃ p l w m = past₄ p (omega arith) w m ∙ kept g m₃ 6 d (x .step / 256) hd p (λ e. omega arith) w m
 
     past₂ : (p : ℕ) → p < 5 → Same (g .nodes) (at g m₂ p) (at g m₆ p)
-    past₂ p l w m = past₃ p (omega arith) w m ∙ kept-plane g m₂ 5 d (x .step % 256) hd p (λ e. omega arith) w m
+    past₂ p l w m = past₃ p (omega arith) w m ∙ kept g m₂ 5 d (x .step % 256) hd p (λ e. omega arith) w m
 
     past₁ : (p : ℕ) → p < 4 → Same (g .nodes) (at g m₁ p) (at g m₆ p)
-    past₁ p l w m = past₂ p (omega arith) w m ∙ kept-plane g m₁ 4 d (x .cell) hd p (λ e. omega arith) w m
+    past₁ p l w m = past₂ p (omega arith) w m ∙ kept g m₁ 4 d (x .cell) hd p (λ e. omega arith) w m
 
     till₁ : (p : ℕ) → (p ≡ 1 → ⊥) → Same (g .nodes) (at g s p) (at g m₁ p)
-    till₁ p n = kept-plane g s 1 v stamp hv p n
+    till₁ p n = kept g s 1 v stamp hv p n
 
     till₂ : (p : ℕ) → 4 < p → Same (g .nodes) (at g s p) (at g m₂ p)
-    till₂ p l w m = kept-plane g m₁ 4 d (x .cell) hd p (λ e. omega arith) w m ∙ till₁ p (λ e. omega arith) w m
+    till₂ p l w m = kept g m₁ 4 d (x .cell) hd p (λ e. omega arith) w m ∙ till₁ p (λ e. omega arith) w m
 
     till₃ : (p : ℕ) → 5 < p → Same (g .nodes) (at g s p) (at g m₃ p)
-    till₃ p l w m = kept-plane g m₂ 5 d (x .step % 256) hd p (λ e. omega arith) w m ∙ till₂ p (omega arith) w m
+    till₃ p l w m = kept g m₂ 5 d (x .step % 256) hd p (λ e. omega arith) w m ∙ till₂ p (omega arith) w m
 
     till₄ : (p : ℕ) → 6 < p → Same (g .nodes) (at g s p) (at g m₄ p)
-    till₄ p l w m = kept-plane g m₃ 6 d (x .step / 256) hd p (λ e. omega arith) w m ∙ till₃ p (omega arith) w m
+    till₄ p l w m = kept g m₃ 6 d (x .step / 256) hd p (λ e. omega arith) w m ∙ till₃ p (omega arith) w m
 
     till₅ : (p : ℕ) → 7 < p → Same (g .nodes) (at g s p) (at g m₅ p)
-    till₅ p l w m = kept-plane g m₄ 7 d (via .cell) hd p (λ e. omega arith) w m ∙ till₄ p (omega arith) w m
+    till₅ p l w m = kept g m₄ 7 d (via .cell) hd p (λ e. omega arith) w m ∙ till₄ p (omega arith) w m
 
     flow : (p : ℕ) → p < 4 → (p ≡ 1 → ⊥) → Same (g .nodes) (at g s p) (at g m₆ p)
     flow p l n w m = past₁ p l w m ∙ till₁ p n w m
@@ -156,19 +156,19 @@ module _ (g : Grid) (s : List ℕ) (h : Spacious g s) where
 
     stack : (p : ℕ) → 4 ≤ p → Same (g .nodes) (at g s p) (at g (withMark g s₃ w m) p)
     stack p l y n =
-        kept-plane g s₃ 1 w m hw p (λ e. omega arith) y n ∙ kept-plane g s₂ 0 u b hu p (λ e. omega arith) y n ∙ kept-plane g s₁ 3 v x hv p (λ e. omega arith) y n ∙ kept-plane g s 2 u c hu p (λ e. omega arith) y n
+        kept g s₃ 1 w m hw p (λ e. omega arith) y n ∙ kept g s₂ 0 u b hu p (λ e. omega arith) y n ∙ kept g s₁ 3 v x hv p (λ e. omega arith) y n ∙ kept g s 2 u c hu p (λ e. omega arith) y n
 
     pub joins : Joined g s (withMark g (withUsed g (withPrev g (withNext g s u c) v x) u b) w m) u c v x b w m
     joins = record {
       long = simp length-set;
-      used = set-same hu (same-set (λ y n. kept-plane g s₁ 3 v x hv 0 (λ e. omega arith) y n ∙ kept-plane g s 2 u c hu 0 (λ e. omega arith) y n) (set-here g s₂ 0 u b hu (simp length-set h) (omega arith)))
-          (kept-plane g s₃ 1 w m hw 0 (λ e. omega arith));
-      mark = same-set (λ y n. kept-plane g s₂ 0 u b hu 1 (λ e. omega arith) y n ∙ kept-plane g s₁ 3 v x hv 1 (λ e. omega arith) y n ∙ kept-plane g s 2 u c hu 1 (λ e. omega arith) y n)
+      used = set-same hu (same-set (λ y n. kept g s₁ 3 v x hv 0 (λ e. omega arith) y n ∙ kept g s 2 u c hu 0 (λ e. omega arith) y n) (set-here g s₂ 0 u b hu (simp length-set h) (omega arith)))
+          (kept g s₃ 1 w m hw 0 (λ e. omega arith));
+      mark = same-set (λ y n. kept g s₂ 0 u b hu 1 (λ e. omega arith) y n ∙ kept g s₁ 3 v x hv 1 (λ e. omega arith) y n ∙ kept g s 2 u c hu 1 (λ e. omega arith) y n)
           (set-here g s₃ 1 w m hw (simp length-set h) (omega arith));
       next = set-same hu (set-here g s 2 u c hu h (omega arith))
-          (λ y n. kept-plane g s₃ 1 w m hw 2 (λ e. omega arith) y n ∙ kept-plane g s₂ 0 u b hu 2 (λ e. omega arith) y n ∙ kept-plane g s₁ 3 v x hv 2 (λ e. omega arith) y n);
-      prev = set-same hv (same-set (kept-plane g s 2 u c hu 3 (λ e. omega arith)) (set-here g s₁ 3 v x hv (simp length-set h) (omega arith)))
-          (λ y n. kept-plane g s₃ 1 w m hw 3 (λ e. omega arith) y n ∙ kept-plane g s₂ 0 u b hu 3 (λ e. omega arith) y n);
+          (λ y n. kept g s₃ 1 w m hw 2 (λ e. omega arith) y n ∙ kept g s₂ 0 u b hu 2 (λ e. omega arith) y n ∙ kept g s₁ 3 v x hv 2 (λ e. omega arith) y n);
+      prev = set-same hv (same-set (kept g s 2 u c hu 3 (λ e. omega arith)) (set-here g s₁ 3 v x hv (simp length-set h) (omega arith)))
+          (λ y n. kept g s₃ 1 w m hw 3 (λ e. omega arith) y n ∙ kept g s₂ 0 u b hu 3 (λ e. omega arith) y n);
       stack = record {
         cell = stack 4 (omega arith);
         step = λ y n i. stack 5 (omega arith) y n i + 256 * stack 6 (omega arith) y n i;
@@ -180,8 +180,8 @@ module _ (g : Grid) (s : List ℕ) (h : Spacious g s) where
     pub opens : Opened g s (withMark g (withUsed g s v b) v m) v b m
     opens = record {
       long = simp length-set;
-      used = set-same hv (set-here g s 0 v b hv h (omega arith)) (kept-plane g (withUsed g s v b) 1 v m hv 0 (λ e. omega arith));
-      mark = same-set (kept-plane g s 0 v b hv 1 (λ e. omega arith)) (set-here g (withUsed g s v b) 1 v m hv (simp length-set h) (omega arith));
-      next = λ w l. kept-plane g (withUsed g s v b) 1 v m hv 2 (λ e. omega arith) w l ∙ kept-plane g s 0 v b hv 2 (λ e. omega arith) w l;
-      prev = λ w l. kept-plane g (withUsed g s v b) 1 v m hv 3 (λ e. omega arith) w l ∙ kept-plane g s 0 v b hv 3 (λ e. omega arith) w l;
+      used = set-same hv (set-here g s 0 v b hv h (omega arith)) (kept g (withUsed g s v b) 1 v m hv 0 (λ e. omega arith));
+      mark = same-set (kept g s 0 v b hv 1 (λ e. omega arith)) (set-here g (withUsed g s v b) 1 v m hv (simp length-set h) (omega arith));
+      next = λ w l. kept g (withUsed g s v b) 1 v m hv 2 (λ e. omega arith) w l ∙ kept g s 0 v b hv 2 (λ e. omega arith) w l;
+      prev = λ w l. kept g (withUsed g s v b) 1 v m hv 3 (λ e. omega arith) w l ∙ kept g s 0 v b hv 3 (λ e. omega arith) w l;
     }

@@ -14,8 +14,8 @@ use Rattle.model.specs.Choke.{Point, point}
 use Rattle.model.specs.Ready.{Fit, Ready}
 use Rattle.model.proofs.Basics.{nope}
 use Rattle.model.proofs.Floor.{time-due}
-use Rattle.model.proofs.Lists.{in-getD, in-map, in-unmap, in-part, place-of}
-use Rattle.model.proofs.Rides.{nodup-both, path-rides, place-in}
+use Rattle.model.proofs.Lists.{in-getD, in-map, in-unmap, in-part, place-of, place-in}
+use Rattle.model.proofs.Rides.{nodup-both, path-rides}
 use Rattle.flow.specs.Flow.{Link, off, end, to, Flow}
 use Rattle.flow.specs.Line.{Chain, Ahead}
 use Rattle.flow.proofs.Line.{chain-more, one-line}

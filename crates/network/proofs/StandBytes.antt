@@ -19,7 +19,8 @@ use Rattle.network.specs.Links.{backLink}
 use Rattle.network.proofs.Points.{point-eq, dec-point}
 use Rattle.network.proofs.StoreBytes.{idx-below, idx-one}
 use Rattle.network.proofs.NodeBytes.{link-to, link-same, used, used-same, used-known}
-use Rattle.network.proofs.PlaneLaws.{Same, SetAt, set-here, kept-plane}
+use Rattle.network.proofs.PlaneLaws as planes
+use Rattle.network.proofs.PlaneLaws.{Same, SetAt, set-here}
 
 -- The node at u goes on to the cell c, that at v came from it and is used.
 pub record Stood (g : Grid) (s s′ : List ℕ) (u v c b : ℕ) : Type 0 where
@@ -38,14 +39,14 @@ module _ (g : Grid) (s : List ℕ) (h : Spacious g s) (u v c : ℕ) (hu : u < g 
   -- v was used
   pub stood-used : Stood g s (withPrev g (withNext g s u c) v c) u v c (usedAt g s v)
   stood-used =
-      let same : Same (g .nodes) (usedAt g s) (usedAt g s₂) = λ w l. kept-plane g s₁ 3 v c hv 0 (λ e. omega arith) w l ∙ kept-plane g s 2 u c hu 0 (λ e. omega arith) w l in
+      let same : Same (g .nodes) (usedAt g s) (usedAt g s₂) = λ w l. planes.kept g s₁ 3 v c hv 0 (λ e. omega arith) w l ∙ planes.kept g s 2 u c hu 0 (λ e. omega arith) w l in
       record {
         long = simp length-set;
         used = record { here = same v hv; else = λ w l n. same w l };
         next = let a = set-here g s 2 u c hu h (omega arith) in
-            record { here = kept-plane g s₁ 3 v c hv 2 (λ e. omega arith) u hu ∙ a .here; else = λ w l n. kept-plane g s₁ 3 v c hv 2 (λ e. omega arith) w l ∙ a .else w l n };
+            record { here = planes.kept g s₁ 3 v c hv 2 (λ e. omega arith) u hu ∙ a .here; else = λ w l n. planes.kept g s₁ 3 v c hv 2 (λ e. omega arith) w l ∙ a .else w l n };
         prev = let a = set-here g s₁ 3 v c hv (simp length-set h) (omega arith) in
-            record { here = a .here; else = λ w l n. a .else w l n ∙ kept-plane g s 2 u c hu 3 (λ e. omega arith) w l };
+            record { here = a .here; else = λ w l n. a .else w l n ∙ planes.kept g s 2 u c hu 3 (λ e. omega arith) w l };
       }
 
   -- and was not
@@ -56,8 +57,8 @@ module _ (g : Grid) (s : List ℕ) (h : Spacious g s) (u v c : ℕ) (hu : u < g 
       record {
         long = simp length-set;
         used = record { here = a .here; else = λ w l n. a .else w l n ∙ o .used .else w l n };
-        next = record { here = kept-plane g s₂ 0 v b hv 2 (λ e. omega arith) u hu ∙ o .next .here; else = λ w l n. kept-plane g s₂ 0 v b hv 2 (λ e. omega arith) w l ∙ o .next .else w l n };
-        prev = record { here = kept-plane g s₂ 0 v b hv 3 (λ e. omega arith) v hv ∙ o .prev .here; else = λ w l n. kept-plane g s₂ 0 v b hv 3 (λ e. omega arith) w l ∙ o .prev .else w l n };
+        next = record { here = planes.kept g s₂ 0 v b hv 2 (λ e. omega arith) u hu ∙ o .next .here; else = λ w l n. planes.kept g s₂ 0 v b hv 2 (λ e. omega arith) w l ∙ o .next .else w l n };
+        prev = record { here = planes.kept g s₂ 0 v b hv 3 (λ e. omega arith) v hv ∙ o .prev .here; else = λ w l n. planes.kept g s₂ 0 v b hv 3 (λ e. omega arith) w l ∙ o .prev .else w l n };
       }
 
 module _ (j : Job) {s s′ : List ℕ} {c t b : ℕ} (known : c < j .cells) (early : suc t ≤ horizon j) (filled : b ≡ 0 → ⊥)

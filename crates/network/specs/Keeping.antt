@@ -15,8 +15,8 @@ use Rattle.network.specs.Store.{gridOf, Spacious, placeAt, nextAt}
 use Rattle.network.specs.Links.{backLink}
 
 -- Lines begin at the calls and at the last step, and where S says.
-abbrev pub Begins : Job → (Point → Type 0) → Point → Type 0
-Begins j S x = (isTarget j x ≡ true) ⊎ ((x .step ≡ horizon j) ⊎ S x)
+abbrev pub BeginsAt : Job → (Point → Type 0) → Point → Type 0
+BeginsAt j S x = (isTarget j x ≡ true) ⊎ ((x .step ≡ horizon j) ⊎ S x)
 
 -- Every call is served. Where a line goes on from a node to one of a step, the byte of the node tells its cell.
 pub record Keeps (j : Job) (g : Grid) (s : List ℕ) (S : Point → Type 0) : Type 0 where
@@ -24,7 +24,7 @@ pub record Keeps (j : Job) (g : Grid) (s : List ℕ) (S : Point → Type 0) : Ty
   pub grid : g ≡ gridOf j
   pub room : Spacious g s
   pub on : Point → Link Point
-  pub flow : Flow (graphFrom j (Begins j S)) (backLink j s) on
+  pub flow : Flow (graphFrom j (BeginsAt j S)) (backLink j s) on
   pub full : (q : Call) → In q (j .calls) → on (nodeOf j q) ≡ end
   pub tells : (x y : Point) → on x ≡ to y → y .step ≤ horizon j → nextAt g s (placeAt g x) ≡ y .cell
 

@@ -8,9 +8,9 @@ use denote.Ref.{now}
 use Rattle.model.specs.Job.{Job}
 use Rattle.model.specs.Choke.{point}
 use Rattle.network.specs.Keeping.{KeepsAll}
-use Rattle.answer.specs.Trail.{Unmet}
+use Rattle.answer.specs.Trail.{MeetsNone}
 use Rattle.answer.proofs.SpareKeep.{top-few}
-use Rattle.answer.proofs.StayRows.{Going, going-first, going-more, going-last, unmet-cell}
+use Rattle.answer.proofs.StayRows.{WalkedTo, going-first, going-more, going-last, unmet-cell}
 use Rattle.answer.proofs.staying.go_on.Statement.{statement}
 use Rattle.answer.proofs.staying.go_on.Tie as tie
 mod Places
@@ -18,7 +18,7 @@ use Places.*
 
 abbrev Inv-loop : tie.InvT-loop
 Inv-loop store grid row₀ cell at₀ t₀ row at t =
-    (length row ≡ length row₀) × (t < grid .top) × ((j : Job) → KeepsAll j grid store → Unmet j store (point cell 0) → Going j store cell row at t)
+    (length row ≡ length row₀) × (t < grid .top) × ((j : Job) → KeepsAll j grid store → MeetsNone j store (point cell 0) → WalkedTo j store cell row at t)
 
 abbrev μ-loop : tie.MeasureT-loop
 μ-loop store grid row₀ cell at₀ t₀ row at t = grid .top - t
@@ -44,8 +44,8 @@ fits c = let long : length (c .before .before .before .loop .row) ≡ length (no
     omega (arith, goes-to→start c .pre .1, goes-to→then1 c .if1 .taken)
 
 goes : (c : tie.After-goes-to Inv-loop μ-loop) (j : Job) → KeepsAll j (goes-to→start c .args .grid) (now (goes-to→start c .args .store))
-    → Unmet j (now (goes-to→start c .args .store)) (point (goes-to→start c .args .cell) 0)
-    → Going j (now (goes-to→start c .args .store)) (goes-to→start c .args .cell) (set (goes-to→loop c .loop .row) (goes-to→loop c .loop .t + 1) (c .goes-to .result)) (c .goes-to .result)
+    → MeetsNone j (now (goes-to→start c .args .store)) (point (goes-to→start c .args .cell) 0)
+    → WalkedTo j (now (goes-to→start c .args .store)) (goes-to→start c .args .cell) (set (goes-to→loop c .loop .row) (goes-to→loop c .loop .t + 1) (c .goes-to .result)) (c .goes-to .result)
     (goes-to→loop c .loop .t + 1)
 goes c j h u = let w = goes-to→loop c .loop .inv .2 j h u in going-more h w (goes-to→then1 c .if1 .taken) (fits c) (c .goes-to .result) (c .goes-to .ensures j h (w .unmet))
 

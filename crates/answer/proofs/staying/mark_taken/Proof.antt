@@ -2,7 +2,7 @@
 use Prim.Native.Nat.{_-_, _≤_}
 use native.Mathlib.Omega.{arith}
 use borrow.Author.Needs.{needs}
-use Rattle.answer.specs.Spares.{Taken}
+use Rattle.answer.specs.Spares.{CartsTaken}
 use Rattle.answer.proofs.StayRows.{taken-none, taken-more, taken-all}
 use Rattle.answer.proofs.staying.mark_taken.Statement.{statement}
 use Rattle.answer.proofs.staying.mark_taken.Tie as tie
@@ -10,7 +10,7 @@ mod Places
 use Places.*
 
 abbrev Inv-loop : tie.InvT-loop
-Inv-loop first n table₀ k₀ table k = (k ≤ n) × Taken first k table
+Inv-loop first n table₀ k₀ table k = (k ≤ n) × CartsTaken first k table
 
 abbrev μ-loop : tie.MeasureT-loop
 μ-loop first n table₀ k₀ table k = n - k

@@ -67,13 +67,15 @@ put-plan-requires c κs =
 packed-requires : tie.Need-packed-requires
 packed-requires c κs =
     let right = solved (slice-known4→solve c) Plan (slice-known4→enum-told c .enum-told .given .1) in
-    omega (arith, slice-known4→put-plan c .put-plan .ensures .next, plan-short (job (slice-known4→solve c)) (slice-known4→start c .pre .0 .fit) (paths (slice-known4→solve c)) (spares (slice-known4→solve c)) (right .0))
+    let m = slice-known4→solve c in
+    omega (arith, slice-known4→put-plan c .put-plan .ensures .next, plan-short (job m) (slice-known4→start c .pre .0 .fit) (paths m) (spares m) (right .0))
 
 returns : tie.Need-returns
 returns c =
-    let right = solved (packed→solve c) Plan (packed→enum-told c .enum-told .given .1) in (
-      packed→solve c .solve .ensures .0,
-      plan-written (job (packed→solve c)) (now (packed→start c .args .sheet)) _ _ _ (c .packed .ensures) (paths (packed→solve c)) (spares (packed→solve c)) right (packed→put-plan c .put-plan .ensures),
+    let m = packed→solve c in
+    let right = solved m Plan (packed→enum-told c .enum-told .given .1) in (
+      m .solve .ensures .0,
+      plan-written (job m) (now (packed→start c .args .sheet)) _ _ _ (c .packed .ensures) (paths m) (spares m) right (packed→put-plan c .put-plan .ensures),
     )
 
 put-cannot-requires : tie.Need-put-cannot-requires

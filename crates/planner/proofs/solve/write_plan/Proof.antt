@@ -1,8 +1,4 @@
 -- `write_plan` meets its contract: once every cart has a line the paths are traced, and once those are written the walks of the others, which makes the plan. Assumes nothing.
-use Prim.Native.Nat.{ℕ}
-use mathlib.Core.List.{List}
-use mathlib.Core.Path.{_∙_}
-use Rattle.answer.specs.Full.{FullFlow, PathsWritten}
 use Rattle.answer.specs.Spares.{AllKept}
 use Rattle.job.specs.Arrays.{jobOf}
 use denote.Ref.{now}
