@@ -2,9 +2,11 @@
 
 mod map;
 mod planner;
+mod told;
 
 pub use map::{answer_to_map, library_on_map, map};
 pub use planner::{plan, planned};
+pub use told::assert_found;
 
 use crate::examples::{tabs, BUFFER};
 use crate::ffi::{self, Checker, Library};

@@ -1,29 +1,10 @@
 //! The faults about early lifts and whole calls that are put into the second check, each on one sheet told by hand: the
 //! right answer, and the wrong one that the fault gives. Tabs are shown as spaces.
 
-use harness::compare;
-use harness::examples::{tabs, BAY, BUFFER, D, E, EARLY, EARLY_BY_DEADLINES, WHOLE};
-use harness::faulty::{Fault, Faulty};
-use harness::ffi;
-use harness::gen::cases::Case;
-use harness::gen::Rng;
+use harness::compare::assert_found;
+use harness::examples::{BAY, D, E, EARLY, EARLY_BY_DEADLINES, WHOLE};
+use harness::faulty::Fault;
 use harness::model::answer::*;
-use harness::model::check::check;
-
-/// Answer and line.
-type Answer = (u8, usize);
-
-fn assert_found(fault: Fault, job: &str, sheet: &str, right: Answer, wrong: Answer) {
-    let mut rng = Rng::new(1);
-    let case = Case { job: tabs(job), store_len: BUFFER, sheet: tabs(sheet) };
-    let mut given = |fault| {
-        let checked = ffi::check(&Faulty(fault), &case.job, BUFFER, &case.sheet, &mut rng);
-        unpack(checked.expect("no byte changed").packed)
-    };
-    assert_eq!((given(Fault::None), given(fault)), (right, wrong));
-    assert_eq!(check(&case.job, BUFFER, &case.sheet), right);
-    assert!(compare::check(&Faulty(fault), &case, &mut rng).is_err());
-}
 
 /// Both ways lead over cell 1, where one of the carts is to be lifted.
 const CROSSED: &str = "FLOOR 4\nTRACK 0 1\nTRACK 1 2\nTRACK 1 3\nCART 0\nCART 3\nCALL 1 5\nCALL 2 5\n";

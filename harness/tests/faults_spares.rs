@@ -1,30 +1,12 @@
 //! The faults about spare carts that are put into the second check: each on one sheet told by hand, the right answer and
 //! the wrong one that the fault gives, and each on small jobs by chance. Tabs are shown as spaces.
 
-use harness::compare;
-use harness::examples::{tabs, BUFFER};
+use harness::compare::{self, assert_found};
 use harness::faulty::{Fault, Faulty, FAULTS};
-use harness::ffi;
 use harness::gen::cases::{Case, Known, KINDS};
 use harness::gen::spares::small_with_spares;
 use harness::gen::Rng;
 use harness::model::answer::*;
-use harness::model::check::check;
-
-/// Answer and line.
-type Answer = (u8, usize);
-
-fn assert_found(fault: Fault, job: &str, sheet: &str, right: Answer, wrong: Answer) {
-    let mut rng = Rng::new(1);
-    let case = Case { job: tabs(job), store_len: BUFFER, sheet: tabs(sheet) };
-    let mut given = |fault| {
-        let checked = ffi::check(&Faulty(fault), &case.job, BUFFER, &case.sheet, &mut rng);
-        unpack(checked.expect("no byte changed").packed)
-    };
-    assert_eq!((given(Fault::None), given(fault)), (right, wrong));
-    assert_eq!(check(&case.job, BUFFER, &case.sheet), right);
-    assert!(compare::check(&Faulty(fault), &case, &mut rng).is_err());
-}
 
 /// Three cells in a row, carts on all of them, and the middle one is to be lifted at once.
 const ROW: &str = "FLOOR 3\nTRACK 0 1\nTRACK 1 2\nCART 0\nCART 1\nCART 2\nCALL 1 1\n";
