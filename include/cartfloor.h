@@ -211,7 +211,7 @@ enum {
     /* PLAN: the sheet has a plan. To do: run it. */
     CARTFLOOR_PLAN = 0,
     /* CANNOT: there is no plan, and the sheet has the choke points that show it. To do: let calls and bays be later, first those
-     * that are no choke point themselves, then other bays, or drop some, each with a cart. */
+     * that are no choke point themselves, then other bays, or drop some. */
     CARTFLOOR_CANNOT = 1,
     /* the text is over 16,384 bytes. To do: send less: no job within the limits needs more. */
     CARTFLOOR_TEXT_TOO_LONG = 2,
@@ -229,7 +229,7 @@ enum {
     /* a track joins a cell to itself or a pair joined already, or there is a second cart, or a second call or bay, on a cell. To
      * do: strike that line. */
     CARTFLOOR_DOUBLED = 7,
-    /* there are not as many carts as calls and bays together. To do: give each cart a call or bay, or leave it out. */
+    /* there are fewer carts than calls and bays together. To do: add carts, or drop calls or bays. */
     CARTFLOOR_UNEVEN = 8,
     /* the store is too short. To do: lend twice as much and call again. */
     CARTFLOOR_STORE_TOO_SHORT = 9,

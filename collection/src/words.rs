@@ -27,7 +27,7 @@ pub const NUMBERS: [Words; 15] = [
         name: "CANNOT",
         says: "CANNOT: there is no plan, and the sheet has the choke points that show it",
         advice: "let calls and bays be later, first those that are no choke point themselves, \
-                 then other bays, or drop some, each with a cart",
+                 then other bays, or drop some",
         of_lines: &[],
     },
     Words {
@@ -93,8 +93,8 @@ pub const NUMBERS: [Words; 15] = [
     Words {
         number: 8,
         name: "UNEVEN",
-        says: "there are not as many carts as calls and bays together",
-        advice: "give each cart a call or bay, or leave it out",
+        says: "there are fewer carts than calls and bays together",
+        advice: "add carts, or drop calls or bays",
         of_lines: &[],
     },
     Words {
