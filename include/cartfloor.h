@@ -1,9 +1,10 @@
 /* cartfloor: plans for cart floors, a check of their sheets, and floors from grid maps. This header is the manual.
  *
- * A job text says a floor, its carts, calls and bays; a sheet answers it: PLAN with a path for each call and bay, or CANNOT with
- * choke points that show why there is no plan. A map is a drawing of a floor, of which a call writes the first lines of a job.
- * Planner and check take three buffers, the map call takes two; each gives one 64-bit number back. None allocates, and none keeps
- * anything between calls, so different threads may call them at the same time on buffers of their own. To plan, in C:
+ * A job text says a floor, its carts, calls and bays; a sheet answers it: PLAN with a path for each call and bay and a walk for
+ * each cart that is left, or CANNOT with choke points that show why there is no plan. A map is a drawing of a floor, of which a
+ * call writes the first lines of a job. Planner and check take three buffers, the map call takes two; each gives one 64-bit
+ * number back. None allocates, and none keeps anything between calls, so different threads may call them at the same time on
+ * buffers of their own. To plan, in C:
  *
  *     static uint8_t job[CARTFLOOR_TEXT_MAX + 1];
  *     size_t job_len = fread(job, 1, sizeof job, stdin);
@@ -51,12 +52,12 @@
  *     CALL cell deadline    a lift cell, and a step from 0 to CARTFLOOR_DEADLINE_MAX
  *     BAY cell step         a cell to park on, and a step in the same range, which is its deadline
  *
- * CALL and BAY lines stand in any order, up to CARTFLOOR_CALLS_MAX together, as many as carts. A number has 1 to 3 decimal digits
- * and no leading zero; 0 is one. In a job an exponent may stand behind it, e or E, an optional + and one digit: its value is then
- * the number times ten to that power, as 250 for 25e1 or 25E+1, and all that is said of a number goes by its value. A cell is a
- * number below the number of cells. Tracks and carts are numbered from 0 in the order of their lines, and so are calls and bays
- * together. No track joins a cell to itself, and no two join the same cells, either way round. No two carts stand on one cell,
- * and a cell has one call or bay at most. A text has at most CARTFLOOR_TEXT_MAX bytes.
+ * CALL and BAY lines stand in any order, up to CARTFLOOR_CALLS_MAX together, and no more than carts. A number has 1 to 3 decimal
+ * digits and no leading zero; 0 is one. In a job an exponent may stand behind it, e or E, an optional + and one digit: its value
+ * is then the number times ten to that power, as 250 for 25e1 or 25E+1, and all that is said of a number goes by its value. A
+ * cell is a number below the number of cells. Tracks and carts are numbered from 0 in the order of their lines, and so are calls
+ * and bays together. No track joins a cell to itself, and no two join the same cells, either way round. No two carts stand on one
+ * cell, and a cell has one call or bay at most. A text has at most CARTFLOOR_TEXT_MAX bytes.
  *
  *     FLOOR 5               five cells, 0 to 4
  *     TRACK 0 1
@@ -71,16 +72,19 @@
  * A walk starts on a cart's cell at step 0, at each step stands or goes along one track, and stands on no bay's cell after that
  * bay's step: the cell is closed then. A plan gives each call and bay a cart of its own, and that cart a walk which ends on its
  * cell: at a lift at any step up to the deadline, in a bay at its step and no other. The cart is on the floor up to that step,
- * and off it from the next, lifted or parked; to cross a lift cell or a bay on the way does neither. No two carts on the floor
- * are on one cell at one step, and no two trade the ends of a track from one step to the next. To follow a cart into the cell
- * that it leaves is allowed, and so is a ring of three or more that turns.
+ * and off it from the next, lifted or parked; to cross a lift cell or a bay on the way does neither. A cart that no call or bay
+ * gets is a spare cart, and stays on the floor: the plan gives it a walk to step H, which may end on any cell. H is the largest
+ * deadline, 0 if there are no calls and no bays. No two carts on the floor, spare ones too, are on one cell at one step, and no
+ * two trade the ends of a track from one step to the next. To follow a cart into the cell that it leaves is allowed, and so is a
+ * ring of three or more that turns.
  *
  * ITS SHEET
  *
  * Lines, tabs and numbers are as in a job, but without exponents. A plan is a line PLAN with the number of calls and bays, and
  * one PATH for each: its cart, the call or bay, and the cart's cells from step 0 to the one at which it is lifted or parks: 1 to
  * deadline + 1 of them to a call, deadline + 1 to a bay. PATH lines go by deadline, whenever the cart is lifted, equal deadlines
- * by the number of the lift or bay cell.
+ * by the number of the lift or bay cell. Behind them comes one SPARE for each spare cart, by its number: the cart, and its cells
+ * from step 0 to H, H + 1 of them.
  *
  *     PLAN 2                a plan for a bay and a call
  *     PATH 1 0 4 3 1        cart 1 parks in bay 0: on cell 4 at step 0, on cell 3 at step 1, on cell 1 at step 2
@@ -92,10 +96,16 @@
  *     PATH 0 1 0 1          call 1, on cell 1, comes first
  *     PATH 1 0 1 2          call 0, on cell 2, behind it
  *
+ * With two cells, TRACK 0 1, CART 0, CART 1 and BAY 0 1, where one cart is spare, and neither can pass the other:
+ *
+ *     PLAN 1                a plan for one bay
+ *     PATH 0 0 0 0          cart 0 parks in bay 0: on cell 0 at step 0 and at step 1
+ *     SPARE 1 1 1           cart 1 is spare: it stays on cell 1 up to step 1
+ *
  * Where there is no plan, CANNOT has the number of choke points, fewer than calls and bays, and then follows one CHOKE for each:
  * cell and step, or the word CALL and the number of a call that is no bay. Those of cells go by step, then cell, none twice;
- * behind them come those of calls by number. On the same floor with the same carts, with BAY 1 0 and CALL 2 2, where cart 1 parks
- * on cell 1 at step 0 and cart 0 cannot pass:
+ * behind them come those of calls by number. With the cells 0, 1 and 2 in a row, CART 0, CART 1, BAY 1 0 and CALL 2 2, where cart
+ * 1 parks on cell 1 at step 0 and cart 0 cannot pass:
  *
  *     CANNOT 1              no plan; one choke point for a bay and a call
  *     CHOKE 1 0             every walk from any cart to the bay or the call stands on cell 1 at step 0
@@ -106,11 +116,11 @@
  *     CANNOT 1
  *     CHOKE CALL 0          every walk from any cart to a call or bay ends at call 0
  *
- * A choke point is a cell at a step from 0 to the largest deadline, 0 if there are no calls and no bays, where it stops nothing
- * if the cell is closed then; or a whole call, which every walk that ends at that call stands on, and no other. A true choke list
- * has fewer choke points than the job has calls and bays, and every walk from any cart's cell that ends at any call or bay stands
- * on one of them. Each cart of a plan would need a choke point of its own: so where there is a true choke list, there is no plan.
- * Where there is no plan, there is such a list.
+ * A choke point is a cell at a step from 0 to H, where it stops nothing if the cell is closed then; or a whole call, which every
+ * walk that ends at that call stands on, and no other. A true choke list has fewer choke points than the job has calls and bays,
+ * and every walk from any cart's cell that ends at any call or bay stands on one of them. Each cart that serves a call or bay
+ * would need a choke point of its own: so where there is a true choke list, there is no plan. Where there is no plan, there is
+ * such a list. A spare cart is never the reason for it: where the calls and bays can be served, the spare carts can stay too.
  *
  * A MAP
  *
@@ -162,10 +172,12 @@ extern "C" {
  * 1.2 equal deadlines go by cell: sheets of 1.1 and before are out of order (12) where they have them in another order. Since 1.3
  * there is cartfloor_map. Since 1.4 a lift takes a cart at any step up to the deadline: plans of 1.3 are still plans, but a choke
  * list of 1.3 and before may let a walk through that is lifted early, and is turned back then (12). Since 1.5 the numbers of a
- * job may have exponents: what was a job is the same job, and only texts that got 4 may be answered otherwise. */
+ * job may have exponents: what was a job is the same job, and only texts that got 4 may be answered otherwise. Since 1.6 a job
+ * may have more carts than calls and bays, where it got 8 before, and its plans have SPARE lines: sheets of all other jobs are
+ * right or wrong as before. */
 #define CARTFLOOR_VERSION_MAJOR 1
-#define CARTFLOOR_VERSION_MINOR 5
-#define CARTFLOOR_VERSION "1.5"
+#define CARTFLOOR_VERSION_MINOR 6
+#define CARTFLOOR_VERSION "1.6"
 
 /* C++ compilers can be asked to warn of C's casts. */
 #ifdef __cplusplus
@@ -203,10 +215,11 @@ extern "C" {
  *
  * A sheet is not in the form where its words, numbers or counts of fields are wrong, where its last LF is missing, where it has
  * unknown carts, calls, bays, cells or steps, where a PATH has no cell, or more than deadline + 1, or to a bay not exactly these,
- * where a CHOKE CALL names a bay, where a PLAN has not the number of calls and bays, or a CANNOT not fewer choke points than
- * that. A map is not in the form where a line differs from what A MAP says by any byte, a CR or a space at its end included,
- * where a number is out of range, where a row has not as many letters as the width or another letter, and where the rows are not
- * as many as the height. A refusal changes no lent byte. */
+ * where a SPARE has not H + 1 cells, where a SPARE is missing or there is one too many, where a CHOKE CALL names a bay, where a
+ * PLAN has not the number of calls and bays, or a CANNOT not fewer choke points than that. SPARE lines in another order, and two
+ * lines of one cart, are in the form, yet wrong (12). A map is not in the form where a line differs from what A MAP says by any
+ * byte, a CR or a space at its end included, where a number is out of range, where a row has not as many letters as the width or
+ * another letter, and where the rows are not as many as the height. A refusal changes no lent byte. */
 enum {
     /* PLAN: the sheet has a plan. To do: run it. */
     CARTFLOOR_PLAN = 0,
@@ -248,7 +261,7 @@ enum {
     CARTFLOOR_NO_FLOOR = 14
 };
 
-/* Limits of a job; CARTFLOOR_CALLS_MAX is for calls and bays together. */
+/* Limits of a job; CARTFLOOR_CALLS_MAX is for calls and bays together, of which there are no more than carts. */
 #define CARTFLOOR_CELLS_MAX 256
 #define CARTFLOOR_TRACKS_MAX 512
 #define CARTFLOOR_CARTS_MAX 64

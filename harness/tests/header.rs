@@ -3,6 +3,7 @@
 use std::collections::BTreeSet;
 use std::fs;
 
+use harness::examples::spares::FULL;
 use harness::examples::{A, BAY, CLOSED, WHOLE};
 use harness::header::{assert_rows, is_ours, names, row, shown, words};
 
@@ -11,7 +12,7 @@ const SPECS: &str = concat!(env!("CARGO_MANIFEST_DIR"), "/../crates/model/specs"
 /// What the header has for a C program to write down, and its number.
 const NUMBERS: &[(&str, u64)] = &[
     ("CARTFLOOR_VERSION_MAJOR", 1),
-    ("CARTFLOOR_VERSION_MINOR", 5),
+    ("CARTFLOOR_VERSION_MINOR", 6),
     ("CARTFLOOR_PLAN", 0),
     ("CARTFLOOR_CANNOT", 1),
     ("CARTFLOOR_TEXT_TOO_LONG", 2),
@@ -81,7 +82,7 @@ const NUMBERS: &[(&str, u64)] = &[
 ];
 
 /// What it has that is no number.
-const TEXTS: &[(&str, &str)] = &[("CARTFLOOR_VERSION", "1.5")];
+const TEXTS: &[(&str, &str)] = &[("CARTFLOOR_VERSION", "1.6")];
 
 /// The guard of the header, and the calls, which `header_calls.rs` and `header_map.rs` hold.
 const NO_NUMBERS: &[&str] = &["CARTFLOOR_H", "cartfloor_plan", "cartfloor_check", "cartfloor_map"];
@@ -172,17 +173,18 @@ const FIELDS_SAY: &str = "fieldsSay number j k fs = \
 const NUMBERS_SAY: &str = "cond (inRange j k a b) \
     (cond (hasRoom j k) (cond (isNew j k a b) (right (add j k a b)) (wrong Doubled)) (wrong TooMany)) (wrong OutOfRange)";
 const WHOLE_JOB: &str = "wholeJob j n = cond (eqb (j .cells) 0) (refused BadLine n) \
-    (cond (eqb (length (j .carts)) (length (j .calls))) (accepted j) (refused Uneven 0))";
+    (cond (leb (length (j .calls)) (length (j .carts))) (accepted j) (refused Uneven 0))";
 const WITH_STORE: &str = "withStore n (accepted j) = \
     cond (ltb n (storeLeast j)) (refused answer.StoreTooShort 0) (accepted j)";
 const WITH_ROOM: &str = "withRoom n (accepted j) = \
     cond (ltb n (sheetLeast j)) (refused answer.SheetTooShort 0) (accepted j)";
-const WRITTEN_PLAN: &str = "((ps : List Path) × RightPlan j ps × (b ≡ planText ps) × \
+const WRITTEN_PLAN: &str = "((ps : List Path) × (ss : List Ride) × RightPlan j ps ss × (b ≡ planText ps ss) × \
     (r ≡ number answer.Plan + 256 * length b))";
 const WRITTEN_CANNOT: &str = "⊎ ((xs : List Choke) × RightChokes j xs × (b ≡ cannotText xs) × \
-    (r ≡ number answer.Cannot + 256 * length b) × ((ps : List Path) → Plan j ps → ⊥))";
-const JUDGED_PLAN: &str = "Judged j (plan ps) r = (RightPlan j ps × (r ≡ number answer.Plan)) \
-    ⊎ ((RightPlan j ps → ⊥) × (r ≡ number answer.WrongSheet))";
+    (r ≡ number answer.Cannot + 256 * length b) × \
+    ((ps : List Path) (ss : List Ride) → Plan j ps ss → ⊥))";
+const JUDGED_PLAN: &str = "Judged j (plan ps ss) r = (RightPlan j ps ss × (r ≡ number answer.Plan)) \
+    ⊎ ((RightPlan j ps ss → ⊥) × (r ≡ number answer.WrongSheet))";
 const JUDGED_CANNOT: &str = "Judged j (cannot xs) r = (RightChokes j xs × (r ≡ number answer.Cannot)) \
     ⊎ ((RightChokes j xs → ⊥) × (r ≡ number answer.WrongSheet))";
 
@@ -198,5 +200,5 @@ fn the_definitions_have_these_numbers() {
 /// The job and the sheets that its manual shows are filed ones. `header_map.rs` holds the map and its text, which are last.
 #[test]
 fn the_examples_it_shows() {
-    assert_eq!(shown()[..5], [BAY.job, BAY.sheet, A.sheet, CLOSED.sheet, WHOLE.sheet]);
+    assert_eq!(shown()[..6], [BAY.job, BAY.sheet, A.sheet, FULL.sheet, CLOSED.sheet, WHOLE.sheet]);
 }

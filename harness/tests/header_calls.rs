@@ -1,7 +1,7 @@
 //! The library called by the names of the C header: its limits, lengths and answers, each at its edge, and the parameters
 //! of planner and check in the order of their prototypes. `header_map.rs` has the map call. Tabs are shown as spaces.
 
-use harness::examples::spares::D_WITHOUT_CALL;
+use harness::examples::spares::{D_WITHOUT_CALL, FULL};
 use harness::examples::{A, B, BAY, CLOSED, D, F, F_TRADED, G, WHOLE};
 use harness::header::{answers, assert_rows, parameters, row, Row};
 
@@ -135,6 +135,13 @@ fn every_answer_by_its_name() {
         planned(D_WITHOUT_CALL.job, "4128", "84", D_WITHOUT_CALL.sheet, "the sheet, 4128 wiped, PLAN 17"),
         checked(D_WITHOUT_CALL.job, "4128", D_WITHOUT_CALL.sheet, "PLAN 0"),
         checked(D_WITHOUT_CALL.job, "4128", "PLAN 0\n", "BAD_SHEET 2"),
+        planned(FULL.job, "4352", "112", FULL.sheet, "the sheet, 4352 wiped, PLAN 32"),
+        planned(FULL.job, "4351", "112", "", "the sheet, 0 wiped, STORE_TOO_SHORT 0"),
+        planned(FULL.job, "4352", "111", "", "the sheet, 0 wiped, SHEET_TOO_SHORT 0"),
+        checked(FULL.job, "4352", FULL.sheet, "PLAN 0"),
+        checked(FULL.job, "4351", FULL.sheet, "STORE_TOO_SHORT 0"),
+        checked(FULL.job, "4352", "PLAN 1\nPATH 0 0 0 0\nSPARE 1 1\n", "BAD_SHEET 3"),
+        checked(FULL.job, "4352", "PLAN 1\nPATH 0 0 0 0\nSPARE 1 1 0\n", "WRONG_SHEET 0"),
     ];
     let long = "x".repeat(16_385);
     let refused: &[(&str, &str)] = &[
