@@ -44,8 +44,8 @@ fn lines(shown: &[String]) -> Vec<u8> {
     shown.iter().map(line).collect::<String>().into_bytes()
 }
 
-/// The job and its plan, that of a job whose calls are in another order than their cells, a job that has none, one that needs an
-/// early lift and one that needs a whole call.
+/// The job and its plan, that of a job whose calls are in another order than their cells, those of two jobs with a spare cart, a
+/// job that has none, one that needs an early lift and one that needs a whole call.
 #[test]
 fn the_examples() {
     let example = |name: &str| fs::read(format!("{ROOT}/examples/{name}.job")).expect("an example");
@@ -53,10 +53,20 @@ fn the_examples() {
     let job = lines(&shown_behind("## A job"));
     assert_eq!(job, example("bay"));
     let named = |name: &str| (example(name), sheet(&format!("In `examples/{name}.job`")));
-    let shown = [(job, sheet("## Its sheet")), named("a"), named("closed"), named("early"), named("whole")];
-    for (job, sheet) in shown {
+    let others = ["a", "spare", "aside", "closed", "early", "whole"].map(named);
+    for (job, sheet) in [(job, sheet("## Its sheet"))].into_iter().chain(others) {
         Folder::new().floors_with(&["plan", "-"], &job).expect(0, std::str::from_utf8(&sheet).expect("text"), "");
     }
+}
+
+/// A plan that the planner does not write, with a spare cart that makes way.
+#[test]
+fn the_sheet_from_another_hand() {
+    let folder = Folder::new();
+    folder.put("aside.job", example("aside.job"));
+    folder.put("aside.sheet", lines(&shown_behind("This sheet, from another hand")));
+    let summary = "1 job: 1 plan, 0 cannot, 0 refused; sheets: 1 right, 0 missing, 0 wrong\n";
+    folder.floors(&["status"]).expect(0, &format!("aside.sheet: right PLAN\n{summary}"), "");
 }
 
 /// The commands are those of `floors --help`.
