@@ -216,10 +216,10 @@ extern "C" {
  * A sheet is not in the form where its words, numbers or counts of fields are wrong, where its last LF is missing, where it has
  * unknown carts, calls, bays, cells or steps, where a PATH has no cell, or more than deadline + 1, or to a bay not exactly these,
  * where a SPARE has not H + 1 cells, where a SPARE is missing or there is one too many, where a CHOKE CALL names a bay, where a
- * PLAN has not the number of calls and bays, or a CANNOT not fewer choke points than that. SPARE lines in another order, and two
- * lines of one cart, are in the form, yet wrong (12). A map is not in the form where a line differs from what A MAP says by any
- * byte, a CR or a space at its end included, where a number is out of range, where a row has not as many letters as the width or
- * another letter, and where the rows are not as many as the height. A refusal changes no lent byte. */
+ * PLAN has not the number of calls and bays, or a CANNOT not fewer choke points than that. SPARE lines in another order, and a
+ * second line of a cart, are in the form, yet wrong (12). A map is not in the form where a line differs from what A MAP says by
+ * any byte, a CR or a space at its end included, where a number is out of range, where a row has not as many letters as the width
+ * or another letter, and where the rows are not as many as the height. A refusal changes no lent byte. */
 enum {
     /* PLAN: the sheet has a plan. To do: run it. */
     CARTFLOOR_PLAN = 0,
