@@ -6,6 +6,7 @@ use std::fs;
 use std::os::unix::fs::MetadataExt;
 
 use collection::words::{Words, NUMBERS};
+use harness::examples::spares::{D_WITHOUT_CALL, FULL, GATE};
 use harness::examples::{e_in_bay, A, A_BY_CALL, B, C, D, F, G, PLANNED, WHOLE};
 use kit::mixed::mixed;
 use kit::{is_right, tabs, Folder};
@@ -215,6 +216,27 @@ fn bays() {
     folder.floors(&["check", "-q"]).expect(1, wrong, "");
     folder.put("closed.job", tabs(&closed.replace("BAY", "CALL")));
     folder.floors(&["check", "-q"]).expect(0, "", "");
+}
+
+/// Jobs with more carts than calls are planned, and their sheets need the lines of the spare carts.
+#[test]
+fn spare_carts() {
+    let folder = Folder::new();
+    for (name, example) in [("d.job", D_WITHOUT_CALL), ("full.job", FULL), ("gate.job", GATE)] {
+        folder.put(name, tabs(example.job));
+    }
+    let summary = "3 jobs: 2 plan, 1 cannot, 0 refused; sheets: 3 right, 0 missing, 0 wrong; 3 filed\n";
+    let filed = format!("d.sheet: filed PLAN\nfull.sheet: filed PLAN\ngate.sheet: filed CANNOT\n{summary}");
+    folder.floors(&["plan"]).expect(0, &filed, "");
+    for (name, example) in [("d.sheet", D_WITHOUT_CALL), ("full.sheet", FULL), ("gate.sheet", GATE)] {
+        assert_eq!(folder.get(name), tabs(example.sheet), "{name}");
+    }
+    // Without its SPARE line, and with a spare cart that comes into the bay.
+    folder.put("d.sheet", tabs("PLAN 0\n"));
+    folder.put("full.sheet", tabs("PLAN 1\nPATH 0 0 0 0\nSPARE 1 1 0\n"));
+    let [bad, wrong] = [11, 12].map(|number| NUMBERS[number].says);
+    let told = format!("d.sheet:2: error[11]: {bad}\nfull.sheet: error[12]: {wrong}\n");
+    folder.floors(&["check", "-q"]).expect(1, &told, "");
 }
 
 /// What is refused about a bay, told with the line's word.
