@@ -1,6 +1,6 @@
 //! The filed examples: jobs with the answers that whoever asked for the planner, and later for bays, for early lifts, for
 //! exponents and for spare carts, wrote down. Tabs are shown as spaces. Each job is in `examples/` too, with its sheet, under
-//! its name in small letters; those of `spares` are here alone.
+//! its name in small letters; those of `spares` but for one are here alone.
 
 pub mod exponents;
 pub mod spares;
@@ -23,7 +23,7 @@ pub struct Example {
     pub answer: u8,
 }
 
-pub const EXAMPLES: &[Example] = &[A, B, C, D, G, BAY, CLOSED, WHOLE, OFFICE];
+pub const EXAMPLES: &[Example] = &[A, B, C, D, G, BAY, CLOSED, WHOLE, OFFICE, spares::FULL];
 
 /// A job that has plans. Which of them is written is left open.
 pub struct Planned {
@@ -31,7 +31,7 @@ pub struct Planned {
     pub job: &'static str,
 }
 
-pub const PLANNED: &[Planned] = &[E, F, EARLY];
+pub const PLANNED: &[Planned] = &[E, F, EARLY, ASIDE];
 
 pub const A: Example = Example {
     name: "A",
@@ -130,6 +130,12 @@ pub const EARLY_PLAN: &str = "PLAN 4\nPATH 3 1 0\nPATH 1 3 1 4\nPATH 0 0 5 0 2\n
 
 /// What stops its walks that end at the deadlines, and no others: true as long as calls were met at their deadlines only.
 pub const EARLY_BY_DEADLINES: &str = "CANNOT 3\nCHOKE 0 1\nCHOKE 2 1\nCHOKE 4 1\n";
+
+/// One of the two carts is spare. If that on cell 0 is lifted, the other one has to make way for it.
+pub const ASIDE: Planned = Planned {
+    name: "aside",
+    job: "FLOOR 4\nTRACK 0 1\nTRACK 1 2\nTRACK 1 3\nCART 0\nCART 1\nCALL 2 2\n",
+};
 
 /// Jobs that are turned back: text, number, line.
 pub const REFUSED: &[(&str, u8, usize)] = &[

@@ -22,7 +22,7 @@ pub const NO_CALLS: Example = Example {
 
 /// A cart on each of two cells. If cart 1 went into the bay, cart 0 could only share its cell or trade with it.
 pub const FULL: Example = Example {
-    name: "full",
+    name: "spare",
     job: "FLOOR 2\nTRACK 0 1\nCART 0\nCART 1\nBAY 0 1\n",
     sheet: "PLAN 1\nPATH 0 0 0 0\nSPARE 1 1 1\n",
     answer: PLAN,
