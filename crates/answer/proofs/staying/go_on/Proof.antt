@@ -53,7 +53,7 @@ add-t : tie.Need-add-t Inv-loop μ-loop
 add-t c = omega (arith, top-few (goes-to→start c .pre .0 .1), goes-to→loop c .loop .inv .1)
 
 cast-row-2 : tie.Need-cast-row-2 Inv-loop μ-loop
-cast-row-2 c = let (j, h, u) = goes-to→start c .pre .0 in omega (arith, unmet-cell h (goes c j h u .unmet))
+cast-row-2 c = let (j, h, u) = goes-to→start c .pre .0 in omega (arith, unmet-cell h u, unmet-cell h (goes c j h u .unmet))
 
 slice-write-row-2 : tie.Need-slice-write-row-2 Inv-loop μ-loop
 slice-write-row-2 c = fits c
