@@ -25,7 +25,6 @@ use Rattle.network.proofs.KeepLaws.{keeps-within, keeps-first, loose-last, star
 use Rattle.answer.specs.Spares.{Started, StartsMore, Unkept, AllKept}
 use Rattle.network.proofs.NodeBytes.{link-end}
 use Rattle.network.proofs.NodeBytes as bytes
-use Rattle.answer.proofs.Nodes.{back-off}
 
 pub top-few : {j : Job} {g : Grid} {s : List ℕ} → KeepsAll j g s → (0 < g .top) × (g .top ≤ maxSteps)
 top-few {j} k = (omega (arith, ap (λ g. g .top) (k .grid)), omega (arith, ap (λ g. g .top) (k .grid), few-steps j (k .ready .fit)))
@@ -51,10 +50,6 @@ module _ {j : Job} {g : Grid} {s : List ℕ} (k : KeepsAll j g s) (c : ℕ) (car
           go : Dec (point d 0 ≡ point c 0) → ⊥
           go (yes q) = nope (cc (start-used k c cart free e, ap (backLink j s′) q))
           go (no n) = h (sym (start-others k c cart free e (point d 0) n) ∙ f)
-
-  -- A cart without a line.
-  pub unstarted : usedAt g s (placeIn g c 0) ≡ 0 → Started j s c → ⊥
-  unstarted e h = h (back-off j (k .grid) s (point c 0) e)
 
 module _ {j : Job} {g : Grid} {s₀ s s′ : List ℕ} {c : ℕ} where
   pub kept-more : {x y : Point} → KeptTo j g s₀ s c x → LooseAt j g s′ y × SameStarts j s s′ → KeptTo j g s₀ s′ c y
