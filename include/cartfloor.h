@@ -38,7 +38,7 @@
  * that to lend more than the job needs costs time.
  *
  * Pointers. None may be null, also where its length is 0. The buffers of a call do not overlap. They may stand at any address.
- * Stack. Measured at the limits, planning takes 52 KB, checking 41 KB and the map call 6 KB (harness/tests/stack.rs); all three
+ * Stack. Measured at the limits, planning takes 52 KB, checking 35 KB and the map call 6 KB (harness/tests/stack.rs); all three
  * are held under 256 KiB.
  *
  * A JOB
@@ -47,18 +47,16 @@
  * field; tabs are shown here as spaces. The words, in the order of their lines:
  *
  *     FLOOR cells           one, the first line: the number of cells, 1 to CARTFLOOR_CELLS_MAX
- *     TRACK cell cell       joins two cells, both ways
- *     ONEWAY cell cell      joins two cells, and carries carts from the first to the second only
+ *     TRACK cell cell       up to CARTFLOOR_TRACKS_MAX: joins two cells, both ways
  *     CART cell             up to CARTFLOOR_CARTS_MAX: where it stands at step 0
  *     CALL cell deadline    a lift cell, and a step from 0 to CARTFLOOR_DEADLINE_MAX
  *     BAY cell step         a cell to park on, and a step in the same range, which is its deadline
  *
- * TRACK and ONEWAY lines stand in any order, up to CARTFLOOR_TRACKS_MAX together, and so do CALL and BAY lines, up to
- * CARTFLOOR_CALLS_MAX together, and no more than carts. A number has 1 to 3 decimal digits and no leading zero; 0 is one. In a
- * job an exponent may stand behind it, e or E, an optional + and one digit: its value is then the number times ten to that power,
- * as 250 for 25e1 or 25E+1, and all that is said of a number goes by its value. A cell is a number below the number of cells.
- * Tracks of both words are numbered from 0 in the order of their lines, and so are carts, and calls and bays together. No track
- * joins a cell to itself, and no two join the same cells, whatever their words and either way round. No two carts stand on one
+ * CALL and BAY lines stand in any order, up to CARTFLOOR_CALLS_MAX together, and no more than carts. A number has 1 to 3 decimal
+ * digits and no leading zero; 0 is one. In a job an exponent may stand behind it, e or E, an optional + and one digit: its value
+ * is then the number times ten to that power, as 250 for 25e1 or 25E+1, and all that is said of a number goes by its value. A
+ * cell is a number below the number of cells. Tracks and carts are numbered from 0 in the order of their lines, and so are calls
+ * and bays together. No track joins a cell to itself, and no two join the same cells, either way round. No two carts stand on one
  * cell, and a cell has one call or bay at most. A text has at most CARTFLOOR_TEXT_MAX bytes.
  *
  *     FLOOR 5               five cells, 0 to 4
@@ -71,14 +69,14 @@
  *     BAY 1 2               bay 0: a cart is to stand on cell 1 at step 2; it parks there; the cell is closed from step 3 on
  *     CALL 2 2              call 1: a cart is to stand on cell 2 at a step up to 2; it is lifted off the floor there
  *
- * A walk starts on a cart's cell at step 0, at each step stands or goes along one track, a one-way track from its first cell to
- * its second only, and stands on no bay's cell after that bay's step: the cell is closed then. A plan gives each call and bay a
- * cart of its own, and that cart a walk which ends on its cell: at a lift at any step up to the deadline, in a bay at its step
- * and no other. The cart is on the floor up to that step, and off it from the next, lifted or parked; to cross a lift cell or a
- * bay on the way does neither. A cart that no call or bay gets is a spare cart, and stays on the floor: the plan gives it a walk
- * to step H, which may end on any cell. H is the largest deadline, 0 if there are no calls and no bays. No two carts on the
- * floor, spare ones too, are on one cell at one step, and no two trade the ends of a track from one step to the next. To follow a
- * cart into the cell that it leaves is allowed, and so is a ring of three or more that turns.
+ * A walk starts on a cart's cell at step 0, at each step stands or goes along one track, and stands on no bay's cell after that
+ * bay's step: the cell is closed then. A plan gives each call and bay a cart of its own, and that cart a walk which ends on its
+ * cell: at a lift at any step up to the deadline, in a bay at its step and no other. The cart is on the floor up to that step,
+ * and off it from the next, lifted or parked; to cross a lift cell or a bay on the way does neither. A cart that no call or bay
+ * gets is a spare cart, and stays on the floor: the plan gives it a walk to step H, which may end on any cell. H is the largest
+ * deadline, 0 if there are no calls and no bays. No two carts on the floor, spare ones too, are on one cell at one step, and no
+ * two trade the ends of a track from one step to the next. To follow a cart into the cell that it leaves is allowed, and so is a
+ * ring of three or more that turns.
  *
  * ITS SHEET
  *
@@ -111,12 +109,6 @@
  *
  *     CANNOT 1              no plan; one choke point for a bay and a call
  *     CHOKE 1 0             every walk from any cart to the bay or the call stands on cell 1 at step 0
- *
- * With three cells, ONEWAY 1 0, TRACK 1 2, CART 0, CART 1, CALL 2 1 and CALL 1 1, where cart 0 cannot leave its cell (with ONEWAY
- * 0 1 it could, and there would be a plan):
- *
- *     CANNOT 1
- *     CHOKE 1 0             every walk from any cart to a call begins on cell 1, with cart 1
  *
  * With four cells, TRACK 1 0, TRACK 2 0, CART 1, CART 2, CALL 0 2 and CALL 3 2, where no track reaches cell 3, and where each
  * cart may wait before it goes to cell 0, so that no one cell at one step stops them all:
@@ -153,8 +145,7 @@
  *     TRACK 3 4             cell 2 has none at all
  *
  * TRACK lines go by their first cell. Each cell in turn is joined to the one on its right and then to the one below, with its own
- * number first. With CART, CALL and BAY lines behind it the text is a job. All its tracks run both ways; where one does not,
- * write ONEWAY for TRACK in its line, with the cell that it leads from first. In C:
+ * number first. With CART, CALL and BAY lines behind it the text is a job. In C:
  *
  *     static uint8_t map[CARTFLOOR_MAP_MOST + 1], text[CARTFLOOR_FLOOR_MOST];
  *     size_t map_len = fread(map, 1, sizeof map, stdin);
@@ -182,11 +173,11 @@ extern "C" {
  * there is cartfloor_map. Since 1.4 a lift takes a cart at any step up to the deadline: plans of 1.3 are still plans, but a choke
  * list of 1.3 and before may let a walk through that is lifted early, and is turned back then (12). Since 1.5 the numbers of a
  * job may have exponents: what was a job is the same job, and only texts that got 4 may be answered otherwise. Since 1.6 a job
- * may have more carts than calls and bays, where it got 8 before, and its plans have SPARE lines. Since 1.7 it may have ONEWAY
- * lines, where it got 3 before. In both cases sheets of all other jobs are right or wrong as before. */
+ * may have more carts than calls and bays, where it got 8 before, and its plans have SPARE lines: sheets of all other jobs are
+ * right or wrong as before. */
 #define CARTFLOOR_VERSION_MAJOR 1
-#define CARTFLOOR_VERSION_MINOR 7
-#define CARTFLOOR_VERSION "1.7"
+#define CARTFLOOR_VERSION_MINOR 6
+#define CARTFLOOR_VERSION "1.6"
 
 /* C++ compilers can be asked to warn of C's casts. */
 #ifdef __cplusplus
@@ -238,7 +229,7 @@ enum {
     /* the text is over 16,384 bytes. To do: send less: no job within the limits needs more. */
     CARTFLOOR_TEXT_TOO_LONG = 2,
     /* a line has no LF, a wrong word, a word out of order or a wrong count of fields; or the text is empty. To do: mend that
-     * line: one FLOOR, then TRACK and ONEWAY, then CART, then CALL and BAY lines, one tab before each field. */
+     * line: one FLOOR, then TRACK, then CART, then CALL and BAY lines, one tab before each field. */
     CARTFLOOR_BAD_LINE = 3,
     /* a field is no number. To do: mend that line: one to three digits, no leading zero, no sign, no space, no CR; and behind them
      * nothing, or e or E, an optional + and one digit. */
@@ -270,8 +261,7 @@ enum {
     CARTFLOOR_NO_FLOOR = 14
 };
 
-/* Limits of a job; CARTFLOOR_TRACKS_MAX is for tracks of both words together, CARTFLOOR_CALLS_MAX for calls and bays together, of
- * which there are no more than carts. */
+/* Limits of a job; CARTFLOOR_CALLS_MAX is for calls and bays together, of which there are no more than carts. */
 #define CARTFLOOR_CELLS_MAX 256
 #define CARTFLOOR_TRACKS_MAX 512
 #define CARTFLOOR_CARTS_MAX 64

@@ -41,8 +41,7 @@ pub const NUMBERS: [Words; 15] = [
         number: 3,
         name: "BAD_LINE",
         says: "a line has no LF, a wrong word, a word out of order or a wrong count of fields; or the text is empty",
-        advice: "mend that line: one FLOOR, then TRACK and ONEWAY, then CART, then CALL and BAY lines, \
-                 one tab before each field",
+        advice: "mend that line: one FLOOR, then TRACK, then CART, then CALL and BAY lines, one tab before each field",
         of_lines: &[],
     },
     Words {
@@ -61,7 +60,6 @@ pub const NUMBERS: [Words; 15] = [
         of_lines: &[
             ("FLOOR", "no number of cells from 1 to 256"),
             ("TRACK", "a track to a cell that the floor has not"),
-            ("ONEWAY", "a track to a cell that the floor has not"),
             ("CART", "a cart on a cell that the floor has not"),
             ("CALL", "a call on a cell that the floor has not, or a deadline over 255"),
             ("BAY", "a bay on a cell that the floor has not, or a step over 255"),
@@ -74,7 +72,6 @@ pub const NUMBERS: [Words; 15] = [
         advice: "split the job: at most 512 tracks, 64 carts, and 64 calls and bays",
         of_lines: &[
             ("TRACK", "more than 512 tracks"),
-            ("ONEWAY", "more than 512 tracks"),
             ("CART", "more than 64 carts"),
             ("CALL", "more than 64 calls and bays"),
             ("BAY", "more than 64 calls and bays"),
@@ -88,7 +85,6 @@ pub const NUMBERS: [Words; 15] = [
         advice: "strike that line",
         of_lines: &[
             ("TRACK", "a track from a cell to itself or between cells joined already"),
-            ("ONEWAY", "a track from a cell to itself or between cells joined already"),
             ("CART", "a second cart on a cell"),
             ("CALL", "a second call or bay on a cell"),
             ("BAY", "a second call or bay on a cell"),

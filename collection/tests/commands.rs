@@ -6,7 +6,6 @@ use std::fs;
 use std::os::unix::fs::MetadataExt;
 
 use collection::words::{Words, NUMBERS};
-use harness::examples::oneway::{DOWN, UP};
 use harness::examples::spares::{D_WITHOUT_CALL, FULL, GATE};
 use harness::examples::{e_in_bay, A, A_BY_CALL, B, C, D, F, G, PLANNED, WHOLE};
 use kit::mixed::mixed;
@@ -217,26 +216,6 @@ fn bays() {
     folder.floors(&["check", "-q"]).expect(1, wrong, "");
     folder.put("closed.job", tabs(&closed.replace("BAY", "CALL")));
     folder.floors(&["check", "-q"]).expect(0, "", "");
-}
-
-/// Jobs with one-way tracks are planned by their sense, and so are their sheets checked.
-#[test]
-fn one_way_tracks() {
-    let folder = Folder::new();
-    folder.put("down.job", tabs(DOWN.job));
-    folder.put("up.job", tabs(UP.job));
-    let summary = "2 jobs: 1 plan, 1 cannot, 0 refused; sheets: 2 right, 0 missing, 0 wrong; 2 filed\n";
-    let filed = format!("down.sheet: filed CANNOT\nup.sheet: filed PLAN\n{summary}");
-    folder.floors(&["plan"]).expect(0, &filed, "");
-    for (name, example) in [("down.sheet", DOWN), ("up.sheet", UP)] {
-        assert_eq!(folder.get(name), tabs(example.sheet), "{name}");
-    }
-    // The track turned round, and joined twice.
-    folder.put("down.job", tabs(UP.job));
-    folder.put("up.job", tabs("FLOOR 2\nONEWAY 0 1\nONEWAY 1 0\n"));
-    let (wrong, doubled) = (NUMBERS[12].says, "a track from a cell to itself or between cells joined already");
-    let told = format!("down.sheet: error[12]: {wrong}\nup.job:3: error[7]: {doubled}\n");
-    folder.floors(&["check", "-q"]).expect(1, &told, "");
 }
 
 /// Jobs with more carts than calls are planned, and their sheets need the lines of the spare carts.

@@ -7,7 +7,6 @@ use std::collections::BTreeMap;
 
 use harness::gen::collection::collection;
 use harness::gen::damage::changed;
-use harness::gen::oneway::some_one_way;
 use harness::gen::spelled::respelled;
 use harness::gen::Rng;
 use harness::model::answer::{is_refusal, CANNOT, PLAN};
@@ -48,13 +47,13 @@ impl Case {
     }
 }
 
-/// A third of them with one-way tracks, some with their numbers written in other ways. By turns: as it is, without a sheet,
-/// with a damaged sheet, with the sheet of the job as it was before, damaged itself.
+/// Some with their numbers written in other ways. By turns: as it is, without a sheet, with a damaged sheet, with the sheet
+/// of the job as it was before, damaged itself.
 fn cases(count: usize, seed: u64, folder: &Folder) -> Vec<Case> {
     let rng = &mut Rng::new(seed);
     let mut former: Vec<u8> = b"PLAN\t0\n".to_vec();
     let mut case = |(i, entry): (usize, harness::gen::collection::Entry)| {
-        let plain = if rng.once_in(3) { some_one_way(entry.job, rng).text() } else { entry.job.text() };
+        let plain = entry.job.text();
         let job = if i % 4 == 0 { respelled(&plain, rng) } else { plain };
         let right = folder.floors_with(&["plan", "-"], &job).out.into_bytes();
         assert!(is_right(&job, &right), "{}", entry.name);

@@ -44,9 +44,8 @@ fn lines(shown: &[String]) -> Vec<u8> {
     shown.iter().map(line).collect::<String>().into_bytes()
 }
 
-/// The job and its plan, that of a job whose calls are in another order than their cells, that of one with a ramp, those of two
-/// jobs with a spare cart, a job that has none, one whose ramp is turned round, one that needs an early lift and one that needs a
-/// whole call.
+/// The job and its plan, that of a job whose calls are in another order than their cells, those of two jobs with a spare cart, a
+/// job that has none, one that needs an early lift and one that needs a whole call.
 #[test]
 fn the_examples() {
     let example = |name: &str| fs::read(format!("{ROOT}/examples/{name}.job")).expect("an example");
@@ -54,7 +53,7 @@ fn the_examples() {
     let job = lines(&shown_behind("## A job"));
     assert_eq!(job, example("bay"));
     let named = |name: &str| (example(name), sheet(&format!("In `examples/{name}.job`")));
-    let others = ["a", "ramp", "spare", "aside", "closed", "turned", "early", "whole"].map(named);
+    let others = ["a", "spare", "aside", "closed", "early", "whole"].map(named);
     for (job, sheet) in [(job, sheet("## Its sheet"))].into_iter().chain(others) {
         Folder::new().floors_with(&["plan", "-"], &job).expect(0, std::str::from_utf8(&sheet).expect("text"), "");
     }

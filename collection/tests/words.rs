@@ -65,13 +65,13 @@ fn explain_has_them() {
 #[test]
 fn words_of_a_line() {
     let doubled = &NUMBERS[7];
-    let text = b"FLOOR\t2\nTRACK\t0\t0\nCART\t0\nCALL\t0\nCARTS\t0\nBAY\t0\nONEWAY\t1\nONEWAYS\t1\n";
-    let says = [(2, "TRACK"), (3, "CART"), (4, "CALL"), (6, "BAY"), (7, "ONEWAY")];
+    let text = b"FLOOR\t2\nTRACK\t0\t0\nCART\t0\nCALL\t0\nCARTS\t0\nBAY\t0\n";
+    let says = [(2, "TRACK"), (3, "CART"), (4, "CALL"), (6, "BAY")];
     for (line, word) in says {
         let own = doubled.of_lines.iter().find(|(own, _)| *own == word).expect("words of that line").1;
         assert_eq!(doubled.of_line(text, line), own);
     }
-    for line in [0, 1, 5, 8, 9, 10, u64::MAX] {
+    for line in [0, 1, 5, 7, 8, u64::MAX] {
         assert_eq!(doubled.of_line(text, line), doubled.says, "{line}");
     }
 }

@@ -9,7 +9,6 @@
 struct Job {
     int cells, tracks, carts, calls;
     const int *from, *to;            // tracks
-    const int *one_way;              // 1 where a track carries carts only from its first cell to its second, else 0
     const int *starts;               // carts, as many as calls or more
     const int *lifts, *deadlines;    // calls
     const int *bays;                 // 1 where a call is a bay, else 0
@@ -34,21 +33,20 @@ inline Network network_of(const Job &job, bool backward) {
         if (job.bays[q]) shut[job.lifts[q]] = job.deadlines[q];
     }
     for (int i = 0; i < job.carts; i++) cart[job.starts[i]] = 1;
-    // Cells within a step of each cell, itself first: those that the step leads to, backward those that it comes from.
-    const int *tail = backward ? job.to : job.from, *head = backward ? job.from : job.to;
+    // Cells within a step of each cell, itself first.
     std::vector<int> row(n + 1, 0), near(n + 2 * job.tracks), filled(n, 1);
     for (int c = 0; c < n; c++) row[c + 1] = 1;
-    for (int i = 0; i < job.tracks; i++) row[tail[i] + 1]++, row[head[i] + 1] += !job.one_way[i];
+    for (int i = 0; i < job.tracks; i++) row[job.from[i] + 1]++, row[job.to[i] + 1]++;
     for (int c = 0; c < n; c++) row[c + 1] += row[c], near[row[c]] = c;
     for (int i = 0; i < job.tracks; i++) {
-        const int a = tail[i], b = head[i];
+        const int a = job.from[i], b = job.to[i];
         near[row[a] + filled[a]++] = b;
-        if (!job.one_way[i]) near[row[b] + filled[b]++] = a;
+        near[row[b] + filled[b]++] = a;
     }
     const int calls = 2 * k + 2;
     Network net{calls + job.calls, 2 * k, 2 * k + 1, {}};
     auto &arcs = net.arcs;
-    arcs.reserve(k + last * row[n] + met + job.carts + job.calls);
+    arcs.reserve(k + last * near.size() + met + job.carts + job.calls);
     // Node 2v is where a cart comes in, 2v + 1 where it goes on; backward the other way round.
     for (int t = 0, v = 0; t <= last; t++)
         for (int c = 0; c < n; c++, v++) {

@@ -1,11 +1,9 @@
 //! One call held against the model: the answer, and every byte of every buffer.
 
-mod chance;
 mod map;
 mod planner;
 mod told;
 
-pub use chance::{differences, plan_many};
 pub use map::{answer_to_map, library_on_map, map};
 pub use planner::{plan, planned};
 pub use told::assert_found;

@@ -1,9 +1,8 @@
 //! The filed examples: jobs with the answers that whoever asked for the planner, and later for bays, for early lifts, for
 //! exponents and for spare carts, wrote down. Tabs are shown as spaces. Each job is in `examples/` too, with its sheet, under
-//! its name in small letters; those of `spares` but for one, and those of `oneway` but for two, are here alone.
+//! its name in small letters; those of `spares` but for one are here alone.
 
 pub mod exponents;
-pub mod oneway;
 pub mod spares;
 
 use crate::model::answer::*;
@@ -24,8 +23,7 @@ pub struct Example {
     pub answer: u8,
 }
 
-pub const EXAMPLES: &[Example] =
-    &[A, B, C, D, G, BAY, CLOSED, WHOLE, OFFICE, spares::FULL, oneway::RAMP, oneway::TURNED];
+pub const EXAMPLES: &[Example] = &[A, B, C, D, G, BAY, CLOSED, WHOLE, OFFICE, spares::FULL];
 
 /// A job that has plans. Which of them is written is left open.
 pub struct Planned {

@@ -2,8 +2,8 @@
 //!
 //! It reads jobs as the model does, since its faults are about sheets. The rest goes other ways than the model: the
 //! sheet in one pass of bytes, conflicts by a table of who stands where, choke lists backwards from the calls, closed cells
-//! by a table of steps, the order of paths by looking at each two, the sense of tracks by a list of all steps. `job` has a
-//! second reader of jobs, and `map` a second converter of maps.
+//! by a table of steps, the order of paths by looking at each two. `job` has a second reader of jobs, and `map` a second
+//! converter of maps.
 
 mod backwards;
 mod bays;
@@ -12,15 +12,14 @@ mod form;
 pub mod job;
 pub mod map;
 mod order;
-pub mod senses;
 
 use crate::ffi::Checker;
 use crate::model::answer::*;
 use crate::model::job::Job;
+use crate::model::limits::store_least;
 use crate::model::reader;
 use crate::model::sheet::{Choke, Plan, Sheet};
 use bays::Closed;
-use senses::Senses;
 
 #[derive(Clone, Copy, Debug, PartialEq, Eq)]
 pub enum Fault {
@@ -95,36 +94,9 @@ pub enum Fault {
     StopsWalksOfFirstCarts,
     StopsWalksOfSparesToo,
     BoundsPointsByCarts,
-    // One-way tracks.
-    ReadsPlansBy(Senses),
-    ReadsListsBy(Senses),
-    LetsSparesGoAgainstSenses,
-    StoresNoOneWay,
-    StoresOneWayOnce,
 }
 
-/// The faults about one-way tracks.
-pub const ONE_WAY_FAULTS: &[Fault] = &[
-    Fault::ReadsPlansBy(Senses::Both),
-    Fault::ReadsPlansBy(Senses::Turned),
-    Fault::ReadsPlansBy(Senses::None),
-    Fault::ReadsPlansBy(Senses::Upwards),
-    Fault::ReadsPlansBy(Senses::OfTracksToo),
-    Fault::ReadsPlansBy(Senses::KeptOn),
-    Fault::ReadsPlansBy(Senses::OfFirst),
-    Fault::ReadsListsBy(Senses::Both),
-    Fault::ReadsListsBy(Senses::Turned),
-    Fault::ReadsListsBy(Senses::None),
-    Fault::ReadsListsBy(Senses::Upwards),
-    Fault::ReadsListsBy(Senses::OfTracksToo),
-    Fault::ReadsListsBy(Senses::KeptOn),
-    Fault::ReadsListsBy(Senses::OfFirst),
-    Fault::LetsSparesGoAgainstSenses,
-    Fault::StoresNoOneWay,
-    Fault::StoresOneWayOnce,
-];
-
-/// The other faults, without `None`.
+/// The faults, without `None`.
 pub const FAULTS: &[Fault] = &[
     Fault::IgnoresTrades,
     Fault::PassesAsManyPointsAsCalls,
@@ -226,7 +198,7 @@ impl Faulty {
         if self.0 == Fault::RefusesSpareCarts && job.carts.len() != job.calls.len() {
             return pack(UNEVEN, 0);
         }
-        let least = senses::store_least(&job, self.0);
+        let least = store_least(&job);
         if store.len() < least {
             return pack(STORE_TOO_SHORT, 0);
         }

@@ -12,8 +12,6 @@ pub mod lists;
 pub mod map_cases;
 pub mod map_damage;
 pub mod maps;
-pub mod oneway;
-pub mod oneway_texts;
 pub mod orders;
 pub mod places;
 pub mod plans;

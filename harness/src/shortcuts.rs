@@ -1,17 +1,15 @@
-//! Shortcuts that lose a lane: 27 planners that are wrong, each on some job, four of them about bays, two about the order of
-//! the lines, four about early lifts, four about spare carts and eight about one-way tracks.
+//! Shortcuts that lose a lane: nineteen planners that are wrong, each on some job, four of them about bays, two about the
+//! order of the lines, four about early lifts and four about spare carts.
 //!
 //! They search small jobs exhaustively but for the shortcut, so that nothing else can be the reason.
 
 mod bays;
 mod early;
-mod oneway;
 mod orders;
 mod spares;
 
 pub use bays::*;
 pub use early::*;
-pub use oneway::*;
 pub use orders::*;
 pub use spares::*;
 

@@ -1,11 +1,9 @@
 //! The planner in plain Rust, which the library is timed against and `floors` is tested with: PLAN exactly where an
-//! exhaustive search finds a plan, spare carts and one-way tracks included, and on larger jobs a sheet that passes the
-//! model's check.
+//! exhaustive search finds a plan, spare carts included, and on larger jobs a sheet that passes the model's check.
 
 use harness::baseline::{plan, plan_by, Mode};
 use harness::gen::early::{early, early_and_joined, too_late, whole_calls};
 use harness::gen::floors::line;
-use harness::gen::oneway::{small_with_one_way, some_one_way};
 use harness::gen::plans::has_plan;
 use harness::gen::sizes::{at_the_limits, medium};
 use harness::gen::small::{small_at_one_step, small_with_bays, small_without_bays};
@@ -14,7 +12,7 @@ use harness::gen::spelled::at_full_length;
 use harness::gen::Rng;
 use harness::model::answer::*;
 use harness::model::check::check;
-use harness::model::job::{Call, Job, Track};
+use harness::model::job::{Call, Job};
 use harness::model::limits::{sheet_least, store_least};
 use harness::model::sheet::{read, Sheet};
 use harness::tally::Tally;
@@ -76,11 +74,6 @@ fn small_jobs_with_spare_carts() {
 }
 
 #[test]
-fn small_jobs_with_one_way_tracks() {
-    try_small(small_with_one_way, 8, 6000);
-}
-
-#[test]
 fn jobs_that_only_an_early_lift_serves_and_lists_that_need_whole_calls() {
     let mut rng = Rng::new(5);
     for _ in 0..5000 {
@@ -115,23 +108,8 @@ fn at_twice_as_many_steps_as_the_way_has_else_as_late_as_can_be() {
     assert_eq!(called(Call::bay(2, 9)), 9);
     // On a ring, where who parks on cell 1 leaves only the other way round, of five steps.
     let mut ring = Job { carts: vec![0, 1], calls: vec![Call::bay(1, 0), Call::lift(2, 9)], ..line(7) };
-    ring.tracks.push(Track::both(6, 0));
+    ring.tracks.push((6, 0));
     assert_eq!(last_met(&ring), 9);
-}
-
-#[test]
-fn all_the_way_round_a_ring_that_runs_one_way() {
-    let tracks: Vec<Track> = (0..5).map(|cell| Track::one_way(cell, (cell + 1) % 5)).collect();
-    let called = |cell: usize, deadline: usize| Job {
-        cells: 5,
-        tracks: tracks.clone(),
-        carts: vec![1],
-        calls: vec![Call::lift(cell, deadline)],
-    };
-    assert_eq!(last_met(&called(2, 9)), 2);
-    assert_eq!(last_met(&called(0, 9)), 8);
-    assert_eq!(last_met(&called(0, 4)), 4);
-    assert_eq!(answer(&called(0, 3)), CANNOT);
 }
 
 #[test]
@@ -140,21 +118,6 @@ fn larger_jobs() {
     let mut tally = Tally::default();
     (0..500).for_each(|_| tally.count(answer(&medium(&mut rng))));
     (0..30).for_each(|_| tally.count(answer(&at_the_limits(&mut rng))));
-    tally.assert_each(&[PLAN, CANNOT], 100);
-}
-
-#[test]
-fn larger_jobs_with_one_way_tracks() {
-    let mut rng = Rng::new(9);
-    let mut tally = Tally::default();
-    let mut try_some = |make: fn(&mut Rng) -> Job, times: usize| {
-        for _ in 0..times {
-            let job = make(&mut rng);
-            tally.count(answer(&some_one_way(job, &mut rng)));
-        }
-    };
-    try_some(medium, 1000);
-    try_some(at_the_limits, 60);
     tally.assert_each(&[PLAN, CANNOT], 100);
 }
 

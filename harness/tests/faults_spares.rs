@@ -1,9 +1,11 @@
 //! The faults about spare carts that are put into the second check: each on one sheet told by hand, the right answer and
 //! the wrong one that the fault gives, and each on small jobs by chance. Tabs are shown as spaces.
 
-use harness::compare::{assert_found, differences};
-use harness::faulty::{Fault, FAULTS};
+use harness::compare::{self, assert_found};
+use harness::faulty::{Fault, Faulty, FAULTS};
+use harness::gen::cases::{Case, Known, KINDS};
 use harness::gen::spares::small_with_spares;
+use harness::gen::Rng;
 use harness::model::answer::*;
 
 /// Three cells in a row, carts on all of them, and the middle one is to be lifted at once.
@@ -142,16 +144,31 @@ fn a_list_as_long_as_the_calls() {
     assert_found(Fault::BoundsPointsByCarts, job, "CANNOT 1\nCHOKE 0 0\n", (BAD_SHEET, 1), (CANNOT, 0));
 }
 
+/// What the cases show of a fault on small jobs with spare carts.
+fn differences(fault: Fault, jobs: usize, enough: usize) -> Vec<String> {
+    let mut rng = Rng::new(3);
+    let mut found = Vec::new();
+    for _ in 0..jobs {
+        let known = Known::of(small_with_spares(&mut rng));
+        let cases: Vec<Case> = KINDS.iter().flat_map(|kind| kind(&known, &mut rng)).collect();
+        found.extend(cases.iter().filter_map(|case| compare::check(&Faulty(fault), case, &mut rng).err()));
+        if found.len() >= enough {
+            break;
+        }
+    }
+    found
+}
+
 #[test]
 fn no_fault_is_found_where_there_is_none() {
-    assert_eq!(differences(Fault::None, small_with_spares, 3, 1000, 1), Vec::<String>::new());
+    assert_eq!(differences(Fault::None, 1000, 1), Vec::<String>::new());
 }
 
 #[test]
 fn each_fault_about_spare_carts_is_found() {
     let first = FAULTS.iter().position(|&fault| fault == Fault::RefusesSpareCarts).expect("the first of them");
     for &fault in &FAULTS[first..] {
-        let found = differences(fault, small_with_spares, 3, 300, 20).len();
+        let found = differences(fault, 300, 20).len();
         assert!(found >= 20, "{fault:?} was found {found} times");
     }
 }

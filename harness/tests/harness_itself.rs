@@ -6,22 +6,44 @@ use std::fs::File;
 use std::io::pipe;
 use std::os::fd::AsRawFd;
 
-use harness::compare::differences;
-use harness::faulty::{Fault, FAULTS};
+use harness::compare;
+use harness::faulty::{Fault, Faulty, FAULTS};
 use harness::fenced::{Fence, Fenced, FENCES};
+use harness::gen::cases::{Known, KINDS};
 use harness::gen::small::small;
+use harness::gen::Rng;
 use harness::painted::depth_of;
+
+/// What the cases of `check_small` show of a fault on one job after the other: the first so many differences, or fewer
+/// if the jobs do not show more.
+fn differences(fault: Fault, jobs: usize, enough: usize) -> Vec<String> {
+    let mut rng = Rng::new(7);
+    let mut found = Vec::new();
+    for _ in 0..jobs {
+        let known = Known::of(small(&mut rng));
+        found.extend(differences_on(&known, fault, &mut rng));
+        if found.len() >= enough {
+            break;
+        }
+    }
+    found
+}
+
+fn differences_on(known: &Known, fault: Fault, rng: &mut Rng) -> Vec<String> {
+    let cases: Vec<_> = KINDS.iter().flat_map(|kind| kind(known, rng)).collect();
+    cases.iter().filter_map(|case| compare::check(&Faulty(fault), case, rng).err()).collect()
+}
 
 #[test]
 fn no_fault_is_found_where_there_is_none() {
-    assert_eq!(differences(Fault::None, small, 7, 500, 1), Vec::<String>::new());
+    assert_eq!(differences(Fault::None, 500, 1), Vec::<String>::new());
 }
 
 /// More than once each, so that it is not left to luck; and on fewer jobs than `check_small` tries.
 #[test]
 fn each_fault_is_found() {
     for &fault in FAULTS {
-        let found = differences(fault, small, 7, 1000, 5).len();
+        let found = differences(fault, 1000, 5).len();
         assert!(found >= 5, "{fault:?} was found {found} times");
     }
 }

@@ -1,7 +1,6 @@
 //! The library called by the names of the C header: its limits, lengths and answers, each at its edge, and the parameters
 //! of planner and check in the order of their prototypes. `header_map.rs` has the map call. Tabs are shown as spaces.
 
-use harness::examples::oneway::{DOWN, UP};
 use harness::examples::spares::{D_WITHOUT_CALL, FULL};
 use harness::examples::{A, B, BAY, CLOSED, D, F, F_TRADED, G, WHOLE};
 use harness::header::{answers, assert_rows, parameters, row, Row};
@@ -143,13 +142,6 @@ fn every_answer_by_its_name() {
         checked(FULL.job, "4351", FULL.sheet, "STORE_TOO_SHORT 0"),
         checked(FULL.job, "4352", "PLAN 1\nPATH 0 0 0 0\nSPARE 1 1\n", "BAD_SHEET 3"),
         checked(FULL.job, "4352", "PLAN 1\nPATH 0 0 0 0\nSPARE 1 1 0\n", "WRONG_SHEET 0"),
-        planned(UP.job, "4352", "88", UP.sheet, "the sheet, 4352 wiped, PLAN 20"),
-        planned(UP.job, "4351", "88", "", "the sheet, 0 wiped, STORE_TOO_SHORT 0"),
-        checked(UP.job, "CARTFLOOR_STORE_LEAST(1, 2, 1)", UP.sheet, "PLAN 0"),
-        checked(UP.job, "CARTFLOOR_STORE_LEAST(1, 2, 1) - 1", UP.sheet, "STORE_TOO_SHORT 0"),
-        planned(DOWN.job, "4352", "88", DOWN.sheet, "the sheet, 4352 wiped, CANNOT 9"),
-        checked(DOWN.job, "4352", DOWN.sheet, "CANNOT 0"),
-        checked(DOWN.job, "4352", UP.sheet, "WRONG_SHEET 0"),
     ];
     let long = "x".repeat(16_385);
     let refused: &[(&str, &str)] = &[
@@ -161,9 +153,6 @@ fn every_answer_by_its_name() {
         ("FLOOR 1\nCART 1e0\nCALL 0 0\n", "OUT_OF_RANGE 2"),
         ("FLOOR 1\nCART 0\nCALL 0 256\n", "OUT_OF_RANGE 3"),
         ("FLOOR 2\nTRACK 0 1\nTRACK 1 0\n", "DOUBLED 3"),
-        ("FLOOR 2\nTRACK 0 1\nONEWAY 1 0\n", "DOUBLED 3"),
-        ("FLOOR 2\nONEWAY 0 1\nONEWAY 1 0\n", "DOUBLED 3"),
-        ("FLOOR 2\nCART 0\nONEWAY 0 1\n", "BAD_LINE 3"),
         ("FLOOR 1\nBAY 0 0\nCALL 0 1\n", "DOUBLED 3"),
         ("FLOOR 2\nCART 0\nCALL 0 0\nBAY 1 0\n", "UNEVEN 0"),
         ("FLOOR 1\nCALL 0 0\n", "UNEVEN 0"),

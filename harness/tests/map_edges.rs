@@ -6,7 +6,6 @@ use harness::gen::floors::grid;
 use harness::gen::maps::{scattered, Drawing};
 use harness::gen::Rng;
 use harness::model::answer::*;
-use harness::model::job::Track;
 use harness::model::limits::{CELLS, SIDE};
 
 const ENOUGH: usize = cartfloor::FLOOR_MOST;
@@ -258,7 +257,6 @@ fn a_long_text() {
     let grid = grid(16, 16);
     assert_eq!(grid.tracks.len(), 480);
     let digits = |n: usize| n.to_string().len();
-    let line = |track: &Track| "TRACK\t\t\n".len() + digits(track.from) + digits(track.to);
-    let tracks: usize = grid.tracks.iter().map(line).sum();
+    let tracks: usize = grid.tracks.iter().map(|&(a, b)| "TRACK\t\t\n".len() + digits(a) + digits(b)).sum();
     assert_eq!(len, "FLOOR\t256\n".len() + tracks);
 }

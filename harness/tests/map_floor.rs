@@ -8,7 +8,7 @@ use harness::compare::plan;
 use harness::gen::maps::{block, corridor, scattered, some_map, winding, Drawing};
 use harness::gen::Rng;
 use harness::model::answer::*;
-use harness::model::job::{Job, Track};
+use harness::model::job::Job;
 use harness::model::limits::{sheet_least, store_least, CELLS};
 use harness::model::reader;
 
@@ -39,8 +39,7 @@ fn neighbours(map: &Drawing) -> BTreeSet<(usize, usize)> {
 fn assert_floor(map: &Drawing) -> Job {
     let job = reader::read(&written(&map.text())).expect("a job");
     assert_eq!((job.cells, job.carts.len(), job.calls.len()), (map.cells().len(), 0, 0));
-    let joined = neighbours(map).into_iter().map(|(a, b)| Track::both(a, b));
-    assert!(job.tracks.iter().copied().eq(joined), "{:?}", job.tracks);
+    assert!(job.tracks.iter().copied().eq(neighbours(map)), "{:?}", job.tracks);
     job
 }
 

@@ -9,7 +9,6 @@ use harness::gen::map_cases::damaged_maps;
 use harness::gen::maps::{corridor, some_map, Drawing};
 use harness::gen::Rng;
 use harness::model::answer::*;
-use harness::model::job::Track;
 use harness::model::limits::{CELLS, SIDE};
 use harness::model::map::{buffer_after, floor, read, text_of};
 use harness::model::reader;
@@ -73,12 +72,12 @@ fn the_example_files() {
 fn assert_neighbours_joined(map: &Drawing) {
     let (cells, floor) = (map.cells(), floor(&read(&map.text()).expect("a map")));
     assert_eq!(floor.cells, cells.len());
-    let tracks: BTreeSet<Track> = floor.tracks.iter().copied().collect();
+    let tracks: BTreeSet<(usize, usize)> = floor.tracks.iter().copied().collect();
     assert_eq!(tracks.len(), floor.tracks.len(), "a track twice");
     for (a, from) in cells.iter().enumerate() {
         for (b, to) in cells.iter().enumerate() {
             let is_next = from.0.abs_diff(to.0) + from.1.abs_diff(to.1) == 1;
-            assert_eq!(tracks.contains(&Track::both(a, b)), is_next && a < b, "{from:?} and {to:?}");
+            assert_eq!(tracks.contains(&(a, b)), is_next && a < b, "{from:?} and {to:?}");
         }
     }
     // By the lower number; then by the other one, for the cell on the right comes before the one below.

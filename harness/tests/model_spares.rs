@@ -20,7 +20,7 @@ use harness::model::job::Job;
 use harness::model::limits::{sheet_least, store_least};
 use harness::model::plan::is_plan;
 use harness::model::sheet::{self, Plan, Sheet};
-use harness::model::walks::{all_walks, can_be_written_out, spare_walks, standing_walks, Walk};
+use harness::model::walks::{all_walks, can_be_written_out, spare_walks, Walk};
 use harness::model::{reader, walks};
 
 fn job(text: &str) -> Job {
@@ -122,7 +122,9 @@ fn a_job_has_either_a_plan_or_a_true_choke_list() {
 fn spare_carts_can_always_stand_still() {
     let mut rng = Rng::new(4);
     for job in some_jobs(4000, &mut rng) {
-        let still = standing_walks(&job);
+        let is_open = |cell: usize| (0..=job.last()).all(|step| job.is_open(cell, step));
+        let still = |&cell: &usize| if is_open(cell) { vec![vec![cell; job.last() + 1]] } else { Vec::new() };
+        let still: Vec<Vec<Walk>> = job.carts.iter().map(still).collect();
         assert_eq!(calls_have_plan(&job), !plans_of(&job, &all_walks(&job), &still, 1).is_empty(), "{job:?}");
     }
 }

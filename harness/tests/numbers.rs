@@ -164,12 +164,10 @@ fn floors() {
     seen.assert_all("TRACK", 1, 1..=limits::CELLS - 1);
 }
 
-/// A job at each limit, up to a line, and there a bad one. No job is refused further on: it has 641 lines at most. Every
-/// other track is one-way.
+/// A job at each limit, up to a line, and there a bad one. No job is refused further on: it has 641 lines at most.
 #[test]
 fn each_line_of_a_job() {
-    let word = |i: usize| ["TRACK", "ONEWAY"][i % 2];
-    let track = |i: usize| format!("{} {} {}\n", word(i), i % 256, (i % 256 + 1 + i / 256) % 256);
+    let track = |i: usize| format!("TRACK {} {}\n", i % 256, (i % 256 + 1 + i / 256) % 256);
     let job = format!("FLOOR {}\n", limits::CELLS)
         + &lines(limits::TRACKS, track)
         + &lines(limits::CARTS, |i| format!("CART {i}\n"))

@@ -10,7 +10,7 @@ use harness::gen::places::{places, Place};
 use harness::gen::spelled::{spellings, with_field, with_power, POWERS};
 use harness::gen::Rng;
 use harness::model::answer::*;
-use harness::model::job::{Call, Job, Track};
+use harness::model::job::{Call, Job};
 use harness::model::limits::{self, sheet_least, store_least};
 use harness::model::lines::{number, LF, TAB};
 use harness::model::reader;
@@ -56,10 +56,8 @@ fn deciding(value: usize) -> Vec<(Job, usize, usize)> {
     }
     if value < limits::CELLS {
         let next = (value + 1) % limits::CELLS;
-        all.push((on_cells(256, vec![Track::both(value, next)], value, Call::bay(next, 1)), 2, 0));
-        all.push((on_cells(256, vec![Track::both(next, value)], next, Call::bay(value, 1)), 2, 1));
-        all.push((on_cells(256, vec![Track::one_way(value, next)], value, Call::bay(next, 1)), 2, 0));
-        all.push((on_cells(256, vec![Track::one_way(next, value)], next, Call::bay(value, 1)), 2, 1));
+        all.push((on_cells(256, vec![(value, next)], value, Call::bay(next, 1)), 2, 0));
+        all.push((on_cells(256, vec![(next, value)], next, Call::bay(value, 1)), 2, 1));
         all.push((on_cells(256, vec![], value, Call::lift(value, 0)), 2, 0));
         all.push((on_cells(256, vec![], value, Call::lift(value, 0)), 3, 0));
         all.push((on_cells(256, vec![], value, Call::bay(value, 0)), 3, 0));
@@ -104,12 +102,12 @@ fn jobs_told_by_hand() {
     }
 }
 
-/// Six bytes a number: a FLOOR line of 13, 512 ONEWAY lines of 21, 64 CART lines of 12 and 64 CALL lines of 19.
+/// Six bytes a number: a FLOOR line of 13, 512 TRACK lines of 20, 64 CART lines of 12 and 64 CALL lines of 19.
 #[test]
 fn the_longest_text() {
     let text = longest_text();
-    assert_eq!(text.len(), 13 + 512 * 21 + 64 * 12 + 64 * 19);
-    assert_eq!(text.len(), 12_749);
+    assert_eq!(text.len(), 13 + 512 * 20 + 64 * 12 + 64 * 19);
+    assert_eq!(text.len(), 12_237);
     let job = reader::read(&text).expect("a job");
     let planned = |text: &[u8]| plan(text, store_least(&job), sheet_least(&job), &mut Rng::new(3));
     let (answer, sheet) = planned(&text);

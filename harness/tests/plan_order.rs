@@ -3,17 +3,19 @@
 //!
 //! The comparison holds each sheet against the model; the order of its lines is looked at here once more.
 
-use harness::compare::{plan, plan_many};
+use harness::compare::plan;
 use harness::gen::bays::{all_bays, some_bays};
 use harness::gen::floors::{line, loose, ring};
 use harness::gen::large::{backwards, standing};
 use harness::gen::orders::every_order;
+use harness::gen::plans::has_plan;
 use harness::gen::small::{small_at_one_step_with_bays, small_at_one_step_without_bays};
 use harness::gen::Rng;
 use harness::model::answer::*;
 use harness::model::job::{Call, Job};
 use harness::model::limits::{self, sheet_least, store_least};
 use harness::model::sheet::{self, Path, Plan, Sheet};
+use harness::tally::Tally;
 
 fn planned(job: &Job, rng: &mut Rng) -> (u8, Vec<u8>) {
     plan(&job.text(), store_least(job), sheet_least(job), rng)
@@ -30,11 +32,19 @@ fn assert_rising(job: &Job, sheet: &[u8]) {
 }
 
 fn try_out(make: fn(&mut Rng) -> Job, seed: u64, jobs: usize) {
-    plan_many(make, seed, jobs, 5, |job, answer, sheet| {
+    let mut rng = Rng::new(seed);
+    let mut tally = Tally::default();
+    for number in 0..jobs {
+        let job = make(&mut rng);
+        let (answer, sheet) = planned(&job, &mut rng);
+        assert_eq!(answer == PLAN, has_plan(&job), "seed {seed}, job {number}: {job:?}");
         if answer == PLAN {
-            assert_rising(job, sheet);
+            assert_rising(&job, &sheet);
         }
-    });
+        tally.count(answer);
+    }
+    tally.assert_only(&[PLAN, CANNOT]);
+    tally.assert_each(&[PLAN, CANNOT], jobs / 5);
 }
 
 #[test]

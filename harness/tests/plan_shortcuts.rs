@@ -1,7 +1,6 @@
 //! The shortcuts that lose a lane: for each a job on which it is wrong, and the planner is right.
 
 use harness::compare::{library, plan};
-use harness::examples::oneway::{DOWN, GATE, UP};
 use harness::examples::spares::D_WITHOUT_CALL;
 use harness::examples::{tabs, A, A_BY_CALL, BAY, BUFFER, CLOSED, EARLY, EARLY_BY_DEADLINES};
 use harness::gen::plans::has_plan;
@@ -189,59 +188,4 @@ fn leaving_spare_carts_out() {
     assert_eq!(sheet, tabs("PLAN 0\n"));
     assert_eq!(library(&job.text(), BUFFER, &sheet), (BAD_SHEET, 2));
     assert_eq!(right_answer(&job), PLAN);
-}
-
-/// A shortcut about one-way tracks: the sheet that it writes for a job, which the check turns back, and the right answer.
-fn assert_one_way(shortcut: Planner, text: &str, sheet: &str, right: u8) {
-    let job = job(text);
-    assert_eq!(shortcut(&job).text(), tabs(sheet));
-    assert_eq!(library(&job.text(), BUFFER, &tabs(sheet)), (WRONG_SHEET, 0));
-    assert_eq!(right_answer(&job), right);
-}
-
-#[test]
-fn going_along_one_way_tracks_both_ways() {
-    assert_one_way(going_both_ways, DOWN.job, "PLAN 1\nPATH 0 0 0 1\n", CANNOT);
-}
-
-#[test]
-fn going_along_one_way_tracks_against_their_sense() {
-    assert_one_way(going_against_the_sense, DOWN.job, "PLAN 1\nPATH 0 0 0 1\n", CANNOT);
-    assert_one_way(going_against_the_sense, UP.job, "CANNOT 0\n", PLAN);
-}
-
-#[test]
-fn keeping_off_every_one_way_track() {
-    assert_one_way(keeping_off_one_way_tracks, UP.job, "CANNOT 0\n", PLAN);
-}
-
-#[test]
-fn going_one_way_along_tracks_of_both() {
-    // The first cell of the track is the one that the cart has to come to.
-    let job = "FLOOR 2\nTRACK 1 0\nCART 0\nBAY 1 1\n";
-    assert_one_way(going_one_way_along_every_track, job, "CANNOT 0\n", PLAN);
-}
-
-#[test]
-fn leading_a_path_against_the_sense() {
-    assert_one_way(leading_paths_both_ways, DOWN.job, "PLAN 1\nPATH 0 0 0 1\n", CANNOT);
-}
-
-#[test]
-fn leading_a_spare_cart_against_the_sense() {
-    let job = "FLOOR 3\nONEWAY 0 1\nCART 1\nCART 2\nBAY 2 1\n";
-    assert_one_way(leading_spares_both_ways, job, "PLAN 1\nPATH 1 0 2 2\nSPARE 0 1 0\n", PLAN);
-}
-
-#[test]
-fn chokes_for_walks_both_ways() {
-    // No list of one point stops who would go up the ramp that leads down, so that an empty one is written.
-    assert_one_way(stopping_walks_both_ways, GATE.job, "CANNOT 0\n", CANNOT);
-}
-
-#[test]
-fn chokes_for_walks_against_the_sense() {
-    // Cart 0 can come up the ramp to cell 1. Against its sense it cannot, so that a point on cell 1 at step 0 would do.
-    let job = "FLOOR 3\nONEWAY 0 1\nCART 0\nCART 1\nBAY 1 1\nBAY 2 1\n";
-    assert_one_way(stopping_walks_against_the_sense, job, "CANNOT 1\nCHOKE 1 0\n", CANNOT);
 }

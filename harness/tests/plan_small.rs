@@ -3,18 +3,30 @@
 //! The comparison holds each sheet against the model, which for jobs of this size writes out all walks to decide a
 //! choke list, and against the library's check.
 
-use harness::compare::{plan, plan_many};
+use harness::compare::plan;
 use harness::examples::BUFFER;
 use harness::gen::damage::damaged;
+use harness::gen::plans::has_plan;
 use harness::gen::small::{small, small_with_bays, small_without_bays};
 use harness::gen::Rng;
 use harness::model::answer::*;
 use harness::model::job::Job;
+use harness::model::limits::{sheet_least, store_least};
 use harness::model::walks::can_be_written_out;
 use harness::tally::Tally;
 
 fn try_out(make: fn(&mut Rng) -> Job, seed: u64, jobs: usize) {
-    plan_many(make, seed, jobs, 5, |job, _, _| assert!(can_be_written_out(job)));
+    let mut rng = Rng::new(seed);
+    let mut tally = Tally::default();
+    for number in 0..jobs {
+        let job = make(&mut rng);
+        assert!(can_be_written_out(&job));
+        let (answer, _) = plan(&job.text(), store_least(&job), sheet_least(&job), &mut rng);
+        assert_eq!(answer == PLAN, has_plan(&job), "seed {seed}, job {number}: {job:?}");
+        tally.count(answer);
+    }
+    tally.assert_only(&[PLAN, CANNOT]);
+    tally.assert_each(&[PLAN, CANNOT], jobs / 5);
 }
 
 // Several tests, so that they run side by side.

@@ -1,16 +1,17 @@
 //! Jobs with spare carts, planned in the least buffers, up to every limit: PLAN exactly where an exhaustive search finds one
 //! on small jobs. Each sheet has to pass the library's check and the model's.
 
-use harness::compare::{plan, plan_many};
+use harness::compare::plan;
 use harness::examples::spares::SPARES;
 use harness::examples::{tabs, BUFFER};
 use harness::gen::early::about_early_lifts;
 use harness::gen::floors::*;
 use harness::gen::large::*;
+use harness::gen::plans::has_plan;
 use harness::gen::spares::{fewer_calls, one_cart_more, small_with_spares};
 use harness::gen::Rng;
 use harness::model::answer::*;
-use harness::model::job::{Call, Job, Track};
+use harness::model::job::{Call, Job};
 use harness::model::limits::{self, sheet_least, store_least};
 use harness::model::sheet::{Plan, Sheet, Spare};
 use harness::model::walks::can_be_written_out;
@@ -29,7 +30,16 @@ fn the_examples() {
 }
 
 fn try_out(make: fn(&mut Rng) -> Job, seed: u64, jobs: usize) {
-    plan_many(make, seed, jobs, 20, |_, _, _| {});
+    let mut rng = Rng::new(seed);
+    let mut tally = Tally::default();
+    for number in 0..jobs {
+        let job = make(&mut rng);
+        let (answer, _) = plan(&job.text(), store_least(&job), sheet_least(&job), &mut rng);
+        assert_eq!(answer == PLAN, has_plan(&job), "seed {seed}, job {number}: {job:?}");
+        tally.count(answer);
+    }
+    tally.assert_only(&[PLAN, CANNOT]);
+    tally.assert_each(&[PLAN, CANNOT], jobs / 20);
 }
 
 #[test]
@@ -140,7 +150,7 @@ fn a_bay_that_shuts_a_line() {
     let (mut job, _) = shut_line(32, 31, limits::DEADLINE);
     assert_eq!(planned(&one_cart_more(job.clone(), &mut Rng::new(8))).0, PLAN);
     // Behind the others, a cart more is too late.
-    job.tracks.push(Track::both(0, job.cells));
+    job.tracks.push((0, job.cells));
     job.carts.push(job.cells);
     job.cells += 1;
     assert_eq!(planned(&job).0, CANNOT);

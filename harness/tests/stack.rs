@@ -7,7 +7,6 @@ use harness::gen::early::early_many_times;
 use harness::gen::floors::*;
 use harness::gen::large::*;
 use harness::gen::maps::{corridor, scattered, Drawing};
-use harness::gen::oneway::all_one_way;
 use harness::gen::spelled::at_full_length;
 use harness::gen::Rng;
 use harness::model::answer::*;
@@ -50,10 +49,6 @@ fn right_sheets() -> Vec<(Job, Sheet, u8)> {
     let ((few, few_spare), (many, many_spare)) = (spare(8), spare(limits::CARTS - 1));
     let (mut gate, steps) = crowded_star(255, 32, 32);
     gate.carts.extend(100..132);
-    let one_way = all_one_way(floor.clone());
-    let (ramps, ramps_plan) = moving_with_spares(one_way, (limits::CARTS, 8), 200, limits::DEADLINE, &mut Rng::new(11));
-    let (others, _) = moving(all_one_way(grid(15, 17)), limits::CARTS - 1, 100, limits::DEADLINE, &mut Rng::new(12));
-    let (lost_above, ends_above) = with_lost_call(others);
     vec![
         (still, Sheet::of_paths(still_paths), PLAN),
         (moved, Sheet::of_paths(paths), PLAN),
@@ -66,8 +61,6 @@ fn right_sheets() -> Vec<(Job, Sheet, u8)> {
         (few, Sheet::Plan(few_spare), PLAN),
         (many, Sheet::Plan(many_spare), PLAN),
         (gate, Sheet::Cannot(steps), CANNOT),
-        (ramps, Sheet::Plan(ramps_plan), PLAN),
-        (lost_above, Sheet::Cannot(ends_above), CANNOT),
     ]
 }
 

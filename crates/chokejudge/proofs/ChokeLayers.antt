@@ -21,9 +21,9 @@ use Rattle.job.specs.declared.state.Job.{Job}
 use Rattle.job.specs.Held.{Some, choke_of, choke_at, chokes_to}
 use Rattle.job.proofs.UpTo.{up_count, in_up}
 use Rattle.job.proofs.Arrays.{in_carts, calls_count, call-at, deadline_by}
-use Rattle.floor.specs.Tables.{OpenAt, Onto}
+use Rattle.floor.specs.Tables.{OpenAt, Near}
 use Rattle.floor.specs.Made.{Filled, never, closes_at}
-use Rattle.floor.proofs.JobTables.{calls_apart, shut_of}
+use Rattle.floor.proofs.JobTables.{move_even, near_even, calls_apart, shut_of}
 use Rattle.chokejudge.specs.ChokeLayers.{Placed, Choked, Side, Parted, Closing, MetBy, Reached, SomeMet}
 use Rattle.chokejudge.specs.Grown.{Between}
 use Rattle.chokejudge.specs.Lifts.{lifted_to, Lifts}
@@ -129,15 +129,15 @@ module _ (s : Job) (ready : Ready (job_of s)) where
     pub calls_known : s.calls ≤ max_calls → (i : ℕ) → m ≤ i → i < n → get_or first i 0 < max_calls
     calls_known few i lo hi = omega (arith, (whole_known (get_or first i 0) (i, lo, hi, refl)).0)
 
-    module _ {onto onset shut : List ℕ} (r : Onto (job_of s) onto onset)
+    module _ {near begin shut : List ℕ} (r : Near (job_of s) near begin)
         (shuts : Filled s.targets (λ k. closes_at (get_or s.kinds k 0) (get_or s.deadlines k 0)) never s.calls shut) where
       -- the layers by the arrays
       abbrev InLayer : ℕ → ℕ → Type 0
-      InLayer = Reached onto onset shut s.starts s.carts first second m
+      InLayer = Reached near begin shut s.starts s.carts first second m
 
       in_floor : (t v : ℕ) → InLayer t v → v < s.cells
-      in_floor = layer_known (Placed s.starts s.carts) (Side onto onset) shut (Choked first second m) s.cells (λ v p. rw (sym p.2) (carts_known p.0 p.1))
-          (λ c h. r.all c c h (inl refl)) r.rows.known
+      in_floor = layer_known (Placed s.starts s.carts) (Side near begin) shut (Choked first second m) s.cells (λ v p. rw (sym p.2) (carts_known p.0 p.1))
+          (λ c h. r.all c c h (inl refl)) (near_even r)
 
       opens : (t v : ℕ) → v < s.cells → t ≤ max_steps → OpenAt shut t v ↔ Open (job_of s) t v
       opens t v b few = (shut_of s shuts).opens v t (omega (arith, ready.fit.few_cells)) few
@@ -149,13 +149,13 @@ module _ (s : Job) (ready : Ready (job_of s)) where
           there : InLayer (suc t) v → ((u : ℕ) → InLayer t u → Free (job_of s) list t u) → Free (job_of s) list (suc t) v
           there ((u, f, p), o, q) is =
               let l = in_floor t u f in
-              ((u, is u f, (r.only u v l p, (opens (suc t) v (r.rows.known u v l p) few).0 o)), λ x. q ((choked (suc t) v).0 x))
+              ((u, is u f, (move_even (job_of s) v u (r.only u v l p), (opens (suc t) v (near_even r u v l p).0 few).0 o)), λ x. q ((choked (suc t) v).0 x))
 
           back : Free (job_of s) list (suc t) v → ((u : ℕ) → Free (job_of s) list t u → InLayer t u) → InLayer (suc t) v
           back ((u, f, (p, o)), q) is =
               let l = in_floor t u (is u f) in
-              let i = r.all u v l p in
-              ((u, is u f, i), (opens (suc t) v (r.rows.known u v l i) few).1 o, λ x. q ((choked (suc t) v).1 x))
+              let i = r.all u v l (move_even (job_of s) u v p) in
+              ((u, is u f, i), (opens (suc t) v (near_even r u v l i).0 few).1 o, λ x. q ((choked (suc t) v).1 x))
 
       module _ {due : List ℕ} (lifts : Lifts s.kinds s.targets s.deadlines s.calls first m n due) where
         -- call k is none of the whole calls, and is met at the step t

@@ -49,20 +49,19 @@ module _ (First : ℕ → Type 0) (Side : ℕ → ℕ → Type 0) (shut : List �
       stamp v (inl e) = omega arith
       stamp v (inr p) = let (e, q) = left k v p in omega (arith, (g.only v (z v) (omega arith)).0)
 
-  module _ (floor : ℕ) (known : (v : ℕ) → First v → v < floor) (stays : (c : ℕ) → c < floor → Side c c) (onward : (c x : ℕ) → c < floor → Side c x → x < floor) where
+  module _ (floor : ℕ) (known : (v : ℕ) → First v → v < floor) (stays : (c : ℕ) → c < floor → Side c c) (even : (c x : ℕ) → c < floor → Side c x → (x < floor) × Side x c) where
     pub layer_known : (t v : ℕ) → OfLayer t v → v < floor
     layer_known zero v (f, n) = known v f
-    layer_known (suc t) v ((u, f, s), o, n) = onward u v (layer_known t u f) s
+    layer_known (suc t) v ((u, f, s), o, n) = (even u v (layer_known t u f) s).0
 
-    -- What is added to the layer of step t: its choke points that an older cell leads to, and what the older cells of the queue lead to. `Back v x` says that x leads to v.
-    abbrev pub Added : (ℕ → ℕ → Type 0) → ℕ → List ℕ → List ℕ → ℕ → ℕ → ℕ → Type 0
-    Added Back t l queue head tail v = (Choke t v × ((x : ℕ) × Back v x × Older l (t + 1 + 1) x)) ⊎ ((u : ℕ) × Between queue head tail u × (Older l (t + 1 + 1) u × Side u v))
+    -- what is added to the layer of step t: its choke points that an older cell leads to, and what the older cells of the queue lead to
+    abbrev pub Added : ℕ → List ℕ → List ℕ → ℕ → ℕ → ℕ → Type 0
+    Added t l queue head tail v = (Choke t v × ((x : ℕ) × Side v x × Older l (t + 1 + 1) x)) ⊎ ((u : ℕ) × Between queue head tail u × (Older l (t + 1 + 1) u × Side u v))
 
-    module _ (Back : ℕ → ℕ → Type 0) (turn : (c x : ℕ) → c < floor → Side c x → Back x c) (turned : (c x : ℕ) → c < floor → Back c x → Side x c)
-        (t : ℕ) (choke : (v : ℕ) → Choke t v → v < floor) (l queue l₁ queue₁ l₂ : List ℕ) (head tail n₁ : ℕ)
+    module _ (t : ℕ) (choke : (v : ℕ) → Choke t v → v < floor) (l queue l₁ queue₁ l₂ : List ℕ) (head tail n₁ : ℕ)
         (st : LayerTable t l queue head tail)
         (lasts : (v : ℕ) → 0 < get_or l v 0 → OpenAt shut (t + 1) v)
-        (g : Grown shut (t + 1 + 1) (Added Back t l queue head tail) l queue tail l₁ queue₁ n₁)
+        (g : Grown shut (t + 1 + 1) (Added t l queue head tail) l queue tail l₁ queue₁ n₁)
         (k : Cleared (Choke (t + 1)) l₁ l₂) where
       older : (u : ℕ) → 0 < get_or l u 0 → Older l (t + 1 + 1) u
       older u p = (p, omega (arith, st.stamps u))
@@ -75,14 +74,14 @@ module _ (First : ℕ → Type 0) (Side : ℕ → ℕ → Type 0) (shut : List �
 
           go : (0 < get_or l v 0) ⊎ (Choke t v ⊎ Between queue head tail u) → 0 < get_or l₁ v 0
           go (inl q) = omega (arith, g.kept v q)
-          go (inr (inl q)) = g.all v (inl (q, (u, turn u v (layer_known t u ((st.layer u).0 p)) s, older u p))) near
+          go (inr (inl q)) = g.all v (inl (q, (u, (even u v (layer_known t u ((st.layer u).0 p)) s).1, older u p))) near
           go (inr (inr q)) = g.all v (inr (u, q, (older u p, s))) near
 
       led : (v : ℕ) → 0 < get_or l₁ v 0 → (u : ℕ) × OfLayer t u × Side u v
       led v p = go (zero_or (get_or l v 0))
         where
-          from : Added Back t l queue head tail v → (u : ℕ) × OfLayer t u × Side u v
-          from (inl (q, (x, s, o))) = (x, (st.layer x).0 o.0, turned v x (choke v q) s)
+          from : Added t l queue head tail v → (u : ℕ) × OfLayer t u × Side u v
+          from (inl (q, (x, s, o))) = (x, (st.layer x).0 o.0, (even v x (choke v q) s).1)
           from (inr (u, b, (o, s))) = (u, (st.layer u).0 o.0, s)
 
           go : (get_or l v 0 ≡ 0) ⊎ (0 < get_or l v 0) → (u : ℕ) × OfLayer t u × Side u v

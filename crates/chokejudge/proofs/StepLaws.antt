@@ -11,8 +11,8 @@ use lib.ListN.{length, get_or, get_or-eq_default}
 use Rattle.model.specs.Limits.{max_cells, max_calls, max_steps}
 use Rattle.model.specs.Job.{Job}
 use Rattle.job.specs.Held.{Some}
-use Rattle.floor.specs.Tables.{OpenAt, Near, Onto}
-use Rattle.floor.proofs.JobTables.{sides_turn}
+use Rattle.floor.specs.Tables.{OpenAt, Near}
+use Rattle.floor.proofs.JobTables.{near_even}
 use Rattle.chokejudge.specs.ChokeLayers.{Placed, Choked, Side, Closing, MetBy, Reached, SomeMet}
 use Rattle.chokejudge.specs.Grown.{Between, Older, Again, Onward, Roomy, Grown, Cleared, Cursor, members, queue_size}
 use Rattle.chokejudge.proofs.Numbers.{below_or}
@@ -20,10 +20,10 @@ use Rattle.chokejudge.proofs.GrownLaws.{grown_as}
 use Rattle.chokejudge.proofs.ClearedLaws.{cleared_as, cursor_first, points_of}
 use Rattle.chokejudge.proofs.LayerLaws.{LayerTable, layer_table_first, layer_table_next, layer_known}
 
-module _ (onto onset shut starts : List ℕ) (carts : ℕ) (cells steps : List ℕ) (n : ℕ) where
+module _ (near begin shut starts : List ℕ) (carts : ℕ) (cells steps : List ℕ) (n : ℕ) where
   -- The table, the queue from `head` to before `tail`, and the points of step t from `opens` to before `end`.
   pub record Holding (t : ℕ) (since queue : List ℕ) (head tail opens end : ℕ) : Type 0 where
-    pub stands : LayerTable (Placed starts carts) (Side onto onset) shut (Choked cells steps n) t since queue head tail
+    pub stands : LayerTable (Placed starts carts) (Side near begin) shut (Choked cells steps n) t since queue head tail
     pub size : length since ≡ max_cells
     pub places : length queue ≡ queue_size
     pub ends : tail ≤ members since + end
@@ -44,12 +44,12 @@ pub first_open : {targets shut : List ℕ} {calls : ℕ} → Closing targets cal
     → ((k : ℕ) → k < carts → get_or starts k 0 < floor) → (v : ℕ) → Placed starts carts v → OpenAt shut 0 v
 first_open r starts carts floor few known v (k, b, e) = r.first v (omega (arith, known k b))
 
-module _ {onto onset shut starts : List ℕ} {carts : ℕ} {cells steps : List ℕ} {n : ℕ} where
+module _ {near begin shut starts : List ℕ} {carts : ℕ} {cells steps : List ℕ} {n : ℕ} where
   pub holding_first : {l₀ queue₀ l queue l' : List ℕ} {tail end : ℕ} → ((v : ℕ) → Placed starts carts v → OpenAt shut 0 v) → ((v : ℕ) → get_or l₀ v 0 ≡ 0) → length l₀ ≡ max_cells
       → length queue₀ ≡ queue_size → Grown shut 1 (Placed starts carts) l₀ queue₀ 0 l queue tail → Gone cells steps n 0 0 l l' end
-      → Holding onto onset shut starts carts cells steps n 0 l' queue 0 tail 0 end
+      → Holding near begin shut starts carts cells steps n 0 l' queue 0 tail 0 end
   holding_first {l₀} {queue₀} {l} {queue} {l'} {tail} {end} o z h p g k = record {
-    stands = layer_table_first (Placed starts carts) (Side onto onset) shut (Choked cells steps n) l₀ l l' queue₀ queue tail o z g
+    stands = layer_table_first (Placed starts carts) (Side near begin) shut (Choked cells steps n) l₀ l l' queue₀ queue tail o z g
         (cleared_as (points_of steps n 0 0 (cursor_first steps n) cells end k.1) k.2);
     size = k.2.size ∙ g.cells ∙ h;
     places = g.places ∙ p;
@@ -60,27 +60,25 @@ module _ {onto onset shut starts : List ℕ} {carts : ℕ} {cells steps : List �
     to = k.1;
   }
 
-  module _ {t : ℕ} {since queue : List ℕ} {head tail opens end : ℕ} (h : Holding onto onset shut starts carts cells steps n t since queue head tail opens end) where
+  module _ {t : ℕ} {since queue : List ℕ} {head tail opens end : ℕ} (h : Holding near begin shut starts carts cells steps n t since queue head tail opens end) where
     pub roomy : n ≤ max_calls → Roomy since queue tail
     roomy few = record { cells = h.size; places = h.places; ends = omega (arith, h.ends, h.to.few) }
 
-    module _ {j : Job} (f : Onto j onto onset) (carts_known : (k : ℕ) → k < carts → get_or starts k 0 < j.cells) where
+    module _ {j : Job} (f : Near j near begin) (carts_known : (k : ℕ) → k < carts → get_or starts k 0 < j.cells) where
       first_known : (v : ℕ) → Placed starts carts v → v < j.cells
       first_known v p = rw (sym p.2) (carts_known p.0 p.1)
 
-      known : (t v : ℕ) → Reached onto onset shut starts carts cells steps n t v → v < j.cells
-      known = layer_known (Placed starts carts) (Side onto onset) shut (Choked cells steps n) j.cells first_known (λ c h. f.all c c h (inl refl)) f.rows.known
+      known : (t v : ℕ) → Reached near begin shut starts carts cells steps n t v → v < j.cells
+      known = layer_known (Placed starts carts) (Side near begin) shut (Choked cells steps n) j.cells first_known (λ c h. f.all c c h (inl refl)) (near_even f)
 
       pub older_known : (v : ℕ) → Older since (t + 1 + 1) v → v < j.cells
       older_known v o = known t v ((h.stands.layer v).0 o.0)
 
-      pub holding_next : {near begin : List ℕ} → Near j near begin → (points_known : (k : ℕ) → k < n → get_or cells k 0 < j.cells)
-          → ((v : ℕ) → 0 < get_or since v 0 → OpenAt shut (t + 1) v) → {l₁ queue₁ l₂ : List ℕ} {n₁ end' : ℕ}
-          → Grown shut (t + 1 + 1) (λ v. Again near begin cells opens end since (t + 1 + 1) v ⊎ Onward onto onset queue head tail since (t + 1 + 1) v) since queue tail l₁ queue₁ n₁
-          → Gone cells steps n (t + 1) end l₁ l₂ end' → Holding onto onset shut starts carts cells steps n (t + 1) l₂ queue₁ tail n₁ end end'
-      holding_next {near} {begin} r points_known lasts {l₁} {queue₁} {l₂} {n₁} {end'} g k = record {
-        stands = layer_table_next (Placed starts carts) (Side onto onset) shut (Choked cells steps n) j.cells first_known (λ c h. f.all c c h (inl refl)) f.rows.known
-            (Side near begin) (λ c x h p. ((sides_turn r f x c).1 h p).1) (λ c x h p. ((sides_turn r f c x).0 h p).1)
+      pub holding_next : (points_known : (k : ℕ) → k < n → get_or cells k 0 < j.cells) → ((v : ℕ) → 0 < get_or since v 0 → OpenAt shut (t + 1) v) → {l₁ queue₁ l₂ : List ℕ} {n₁ end' : ℕ}
+          → Grown shut (t + 1 + 1) (λ v. Again near begin cells opens end since (t + 1 + 1) v ⊎ Onward near begin queue head tail since (t + 1 + 1) v) since queue tail l₁ queue₁ n₁
+          → Gone cells steps n (t + 1) end l₁ l₂ end' → Holding near begin shut starts carts cells steps n (t + 1) l₂ queue₁ tail n₁ end end'
+      holding_next points_known lasts {l₁} {queue₁} {l₂} {n₁} {end'} g k = record {
+        stands = layer_table_next (Placed starts carts) (Side near begin) shut (Choked cells steps n) j.cells first_known (λ c h. f.all c c h (inl refl)) (near_even f)
             t (λ v p. rw (sym p.2.1) (points_known p.0 p.1)) since queue l₁ queue₁ l₂ head tail n₁ h.stands lasts
             (grown_as (λ v. (⊎_elim (λ p. inl ((at v).0 p.0, p.1)) (λ p. inr p), ⊎_elim (λ p. inl ((at v).1 p.0, p.1)) (λ p. inr p))) g)
             (cleared_as (points_of steps n (t + 1) end h.to cells end' k.1) k.2);
@@ -105,7 +103,7 @@ module _ {onto onset shut starts : List ℕ} {carts : ℕ} {cells steps : List �
       Parked = Some calls (λ k. (get_or shut (get_or targets k 0) 0 ≡ t + 1) × (0 < get_or since (get_or targets k 0) 0))
 
       abbrev LayerAt : ℕ → ℕ → Type 0
-      LayerAt = Reached onto onset shut starts carts cells steps n
+      LayerAt = Reached near begin shut starts carts cells steps n
 
       pub lift_met : {last : ℕ} → t ≤ last → Lifted → SomeMet (MetBy due shut) last LayerAt
       lift_met soon (v, b, (p, l)) = (t, soon, (v, (h.stands.layer v).0 p, inl (omega arith)))

@@ -38,9 +38,9 @@ abbrev pub Layer : (ℕ → Type 0) → (ℕ → ℕ → Type 0) → (ℕ → �
 Layer First Side Open Choke zero v = First v × (Choke 0 v → ⊥)
 Layer First Side Open Choke (suc t) v = ((u : ℕ) × Layer First Side Open Choke t u × Side u v) × Open (suc t) v × (Choke (suc t) v → ⊥)
 
--- The layers of the floor with these rows of cells that one leads to and these closed cells, the first `carts` carts and the first n points.
+-- The layers of the floor with these rows and closed cells, the first `carts` carts and the first n points.
 abbrev pub Reached : List ℕ → List ℕ → List ℕ → List ℕ → ℕ → List ℕ → List ℕ → ℕ → ℕ → ℕ → Type 0
-Reached onto onset shut starts carts cells steps n = Layer (Placed starts carts) (Side onto onset) (OpenAt shut) (Choked cells steps n)
+Reached near begin shut starts carts cells steps n = Layer (Placed starts carts) (Side near begin) (OpenAt shut) (Choked cells steps n)
 
 -- A cell of a layer up to the step `last` meets a call.
 abbrev pub SomeMet : (ℕ → ℕ → Type 0) → ℕ → (ℕ → ℕ → Type 0) → Type 0

@@ -25,13 +25,13 @@ Between l = RangeHas (λ k. get_or l k 0)
 abbrev pub Older : List ℕ → ℕ → ℕ → Type 0
 Older l s v = (0 < get_or l v 0) × (get_or l v 0 < s)
 
--- v is one of the points from a to before b, and an older cell leads to it, by the rows of the cells that lead here.
+-- v is one of the points from a to before b, and an older cell leads to it.
 abbrev pub Again : List ℕ → List ℕ → List ℕ → ℕ → ℕ → List ℕ → ℕ → ℕ → Type 0
 Again near begin cells a b l s v = Between cells a b v × ((x : ℕ) × Side near begin v x × Older l s x)
 
--- An older cell of the queue from a to before b leads to v, by the rows of the cells that one leads to.
+-- An older cell of the queue from a to before b leads to v.
 abbrev pub Onward : List ℕ → List ℕ → List ℕ → ℕ → ℕ → List ℕ → ℕ → ℕ → Type 0
-Onward onto onset queue a b l s v = (u : ℕ) × Between queue a b u × (Older l s u × Side onto onset u v)
+Onward near begin queue a b l s v = (u : ℕ) × Between queue a b u × (Older l s u × Side near begin u v)
 
 -- The table and the queue have room for a cell more.
 pub record Roomy (l queue : List ℕ) (n : ℕ) : Type 0 where

@@ -1,22 +1,20 @@
 // Whether choke points are a true choke list in the order of the sheet: no walk ends at a call without standing on one of them.
-ghost use Rattle.std.specs.Prelude.{◌≡◌, ℕ, ◌+◌, ◌-◌, ◌<◌, ◌≤◌, length, get_or};
+ghost use Rattle.std.specs.Prelude.{◌≡◌, ℕ, ◌-◌, ◌<◌, ◌≤◌, length, get_or};
 ghost use Rattle.model.specs.Lists.{In};
-ghost use Rattle.model.specs.Limits.{max_cells, max_tracks, max_carts, max_calls, max_steps};
+ghost use Rattle.model.specs.Limits.{max_cells, max_carts, max_calls, max_steps};
 ghost use Rattle.model.specs.Job as model;
 ghost use Rattle.model.specs.Choke.{Choke, KnownChoke, ChokesInOrder};
 ghost use Rattle.model.specs.Ready.{Ready};
 ghost use Rattle.model.specs.Promises.{RightChokes};
 ghost use Rattle.job.specs.Arrays.{job_of, Sized};
 ghost use Rattle.job.specs.Held.{chokes_to, Decides};
-ghost use Rattle.floor.specs.Tables.{near_size, Near, Onto};
-ghost use Rattle.floor.specs.Made.{Tracks, TrackRows};
+ghost use Rattle.floor.specs.Tables.{Near};
 ghost use Rattle.chokejudge.specs.ChokeLayers.{Closing, Reached, MetBy, SomeMet};
 ghost use Rattle.chokejudge.specs.Grown.{Climbs};
 
 use crate::calls::{call_tables, chain, has_bay, has_lift};
 use crate::layer::{close, grow, place};
 use floor::order::choke_rises;
-use floor::tables::neighbours;
 use job::state::{CELL, Job};
 use model::Limits;
 
@@ -61,8 +59,6 @@ fn count_cells(kinds: &[u8], n: usize) -> usize
 fn reaches<'a>(
     near: &[u8],
     begin: &[u16],
-    onto: &[u8],
-    onset: &[u16],
     shut: &[u16; Limits::CELLS],
     due: &[u16],
     starts: &'a [u8; Limits::CARTS],
@@ -74,8 +70,8 @@ fn reaches<'a>(
     steps: &[u8],
     n: usize,
 ) -> bool
-    requires { (carts ≤ max_carts) × (calls ≤ max_calls) × (last < max_steps) × (n ≤ max_calls) × (n ≤ length cells.now) × (n ≤ length steps.now) × Climbs steps.now n × ((j : model.Job) × Near j near.now begin.now × Onto j onto.now onset.now × ((k : ℕ) → k < carts → get_or starts.now k 0 < j.cells) × ((k : ℕ) → k < n → get_or cells.now k 0 < j.cells) × (j.cells ≤ max_cells)) × Closing targets.now calls shut.now × (length due.now ≡ max_cells) }
-    ensures { Decides result (SomeMet (MetBy due.now shut.now) last (Reached onto.now onset.now shut.now starts.now carts cells.now steps.now n)) }
+    requires { (carts ≤ max_carts) × (calls ≤ max_calls) × (last < max_steps) × (n ≤ max_calls) × (n ≤ length cells.now) × (n ≤ length steps.now) × Climbs steps.now n × ((j : model.Job) × Near j near.now begin.now × ((k : ℕ) → k < carts → get_or starts.now k 0 < j.cells) × ((k : ℕ) → k < n → get_or cells.now k 0 < j.cells) × (j.cells ≤ max_cells)) × Closing targets.now calls shut.now × (length due.now ≡ max_cells) }
+    ensures { Decides result (SomeMet (MetBy due.now shut.now) last (Reached near.now begin.now shut.now starts.now carts cells.now steps.now n)) }
 {
     let mut latest = [0u8; Limits::STEPS + 1];
     let mut before = [0u8; Limits::CALLS];
@@ -99,8 +95,6 @@ fn reaches<'a>(
         tail = grow(
             near,
             begin,
-            onto,
-            onset,
             shut,
             cells,
             opens,
@@ -119,25 +113,6 @@ fn reaches<'a>(
     false
 }
 
-// The rows of `near` have the cells from which a track leads to a cell, those of `onto` the cells to which one leads from it.
-fn row_tables<'a>(
-    senses: &'a [u8; Limits::TRACKS / 8],
-    from: &'a [u8; Limits::TRACKS],
-    to: &'a [u8; Limits::TRACKS],
-    tracks: usize,
-    cells: usize,
-    near: &mut [u8],
-    begin: &mut [u16],
-    onto: &mut [u8],
-    onset: &mut [u16],
-)
-    requires { Tracks cells from.now to.now tracks × Tracks cells to.now from.now tracks × (tracks ≤ max_tracks) × (cells ≤ max_cells) × (length near.old ≡ near_size) × (length begin.old ≡ max_cells + 1) × (length onto.old ≡ near_size) × (length onset.old ≡ max_cells + 1) }
-    ensures { TrackRows cells senses.now from.now to.now tracks near.new begin.new × TrackRows cells senses.now to.now from.now tracks onto.new onset.new }
-{
-    neighbours(senses, from, to, tracks, cells, near, begin);
-    neighbours(senses, to, from, tracks, cells, onto, onset);
-}
-
 pub fn is_choke_list(job: Job, first: &[u8], second: &[u8], kinds: &[u8], n: usize) -> bool
     requires { Ready (job_of job) × Sized job × (length first.now ≡ max_calls) × (length second.now ≡ max_calls) × (length kinds.now ≡ max_calls) × (n < job.calls) × ((x : Choke) → In x (chokes_to first.now second.now kinds.now n) → KnownChoke (job_of job) x) }
     ensures { Decides result (RightChokes (job_of job) (chokes_to first.now second.now kinds.now n)) }
@@ -148,18 +123,8 @@ pub fn is_choke_list(job: Job, first: &[u8], second: &[u8], kinds: &[u8], n: usi
     let m = count_cells(kinds, n);
     let mut near = [0u8; Limits::CELLS + 2 * Limits::TRACKS];
     let mut begin = [0u16; Limits::CELLS + 1];
-    let mut onto = [0u8; Limits::CELLS + 2 * Limits::TRACKS];
-    let mut onset = [0u16; Limits::CELLS + 1];
-    row_tables(
-        &job.senses,
-        &job.from,
-        &job.to,
-        job.tracks,
-        job.cells,
-        &mut near,
-        &mut begin,
-        &mut onto,
-        &mut onset,
+    floor::tables::neighbours(
+        &job.from, &job.to, job.tracks, job.cells, &mut near, &mut begin,
     );
     let mut shut = [0u16; Limits::CELLS];
     let mut due = [0u16; Limits::CELLS];
@@ -178,8 +143,6 @@ pub fn is_choke_list(job: Job, first: &[u8], second: &[u8], kinds: &[u8], n: usi
     !reaches(
         &near,
         &begin,
-        &onto,
-        &onset,
         &shut,
         &due,
         &job.starts,

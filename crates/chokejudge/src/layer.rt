@@ -125,8 +125,8 @@ fn rejoin(
 
 // Adds what the older cells of the queue from `head` to before `end` lead to.
 fn advance(
-    onto: &[u8],
-    onset: &[u16],
+    near: &[u8],
+    begin: &[u16],
     shut: &[u16; Limits::CELLS],
     since: &mut [u16],
     queue: &mut [u8],
@@ -135,27 +135,24 @@ fn advance(
     tail: usize,
     stamp: u16,
 ) -> usize
-    requires { (0 < stamp) × Roomy since.old queue.old tail × (head ≤ end) × (end ≤ tail) × ((floor : ℕ) × Rows floor onto.now onset.now × ((v : ℕ) → Older since.old stamp v → v < floor)) }
-    ensures { Grown shut.now stamp (Onward onto.now onset.now queue.old head end since.old stamp) since.old queue.old tail since.new queue.new result }
+    requires { (0 < stamp) × Roomy since.old queue.old tail × (head ≤ end) × (end ≤ tail) × ((floor : ℕ) × Rows floor near.now begin.now × ((v : ℕ) → Older since.old stamp v → v < floor)) }
+    ensures { Grown shut.now stamp (Onward near.now begin.now queue.old head end since.old stamp) since.old queue.old tail since.new queue.new result }
 {
     let mut at = tail;
     for i in head..end {
         let u = wide(queue[i]);
         if is_older(since[u], stamp) {
-            at = spread(row(onto, onset, u), shut, since, queue, at, stamp);
+            at = spread(row(near, begin, u), shut, since, queue, at, stamp);
         }
     }
     at
 }
 
 // The next layer but for its choke points. A cart may stand, and none of the layer's cells closes before a call is reached, so they stay, and only two kinds of cells can
-// add to it: those added at the last step, which stand in the queue from `head` on, and the choke points of the last step, from `opens` to before `end`. Rows of `near` have the
-// cells that lead to a cell, rows of `onto` those that it leads to.
+// add to it: those added at the last step, which stand in the queue from `head` on, and the choke points of the last step, from `opens` to before `end`.
 pub fn grow(
     near: &[u8],
     begin: &[u16],
-    onto: &[u8],
-    onset: &[u16],
     shut: &[u16; Limits::CELLS],
     cells: &[u8],
     opens: usize,
@@ -166,13 +163,13 @@ pub fn grow(
     tail: usize,
     stamp: u16,
 ) -> usize
-    requires { (0 < stamp) × Roomy since.old queue.old tail × (opens ≤ end) × (end ≤ length cells.now) × (head ≤ tail) × ((floor : ℕ) × Rows floor near.now begin.now × Rows floor onto.now onset.now × ((k : ℕ) → k < end → get_or cells.now k 0 < floor) × ((v : ℕ) → Older since.old stamp v → v < floor)) }
-    ensures { Grown shut.now stamp (λ v. Again near.now begin.now cells.now opens end since.old stamp v ⊎ Onward onto.now onset.now queue.old head tail since.old stamp v) since.old queue.old tail since.new queue.new result }
+    requires { (0 < stamp) × Roomy since.old queue.old tail × (opens ≤ end) × (end ≤ length cells.now) × (head ≤ tail) × ((floor : ℕ) × Rows floor near.now begin.now × ((k : ℕ) → k < end → get_or cells.now k 0 < floor) × ((v : ℕ) → Older since.old stamp v → v < floor)) }
+    ensures { Grown shut.now stamp (λ v. Again near.now begin.now cells.now opens end since.old stamp v ⊎ Onward near.now begin.now queue.old head tail since.old stamp v) since.old queue.old tail since.new queue.new result }
 {
     let at = rejoin(
         near, begin, shut, cells, opens, end, since, queue, tail, stamp,
     );
-    advance(onto, onset, shut, since, queue, head, tail, at, stamp)
+    advance(near, begin, shut, since, queue, head, tail, at, stamp)
 }
 
 // Takes the choke points of step t out, which begin at `at`. Answers where those of later steps begin.

@@ -1,4 +1,4 @@
--- Tables of the floor: the cells that one step leads from, or those that one leads to, the deadlines of the calls' cells, when bays close, the carts' cells.
+-- Tables of the floor: the cells that one step leads from, the deadlines of the calls' cells, when bays close, the carts' cells.
 use Rattle.std.specs.Prelude.{ℕ, ◌+◌, ◌-◌, ◌*◌, ◌<◌, ◌≤◌, ◌≡◌, List, [], cond, ltb, ◌↔◌, length, get_or, take, drop}
 use Rattle.model.specs.Limits.{max_cells, max_tracks, max_steps}
 use Rattle.model.specs.Lists.{In}
@@ -26,19 +26,11 @@ pub record Rows (n : ℕ) (near begin : List ℕ) : Type 0 where
   pub few : (c : ℕ) → c < n → length (row_of near begin c) ≤ max_cells
   pub known : (c x : ℕ) → c < n → In x (row_of near begin c) → x < n
 
--- Row c has the cells that stand so to c, and no others.
-pub record Sides (j : Job) (R : ℕ → ℕ → Type 0) (near begin : List ℕ) : Type 0 where
+-- Row c has c itself and the cells that a track joins to c, and no others.
+pub record Near (j : Job) (near begin : List ℕ) : Type 0 where
   pub rows : Rows j.cells near begin
-  pub only : (c x : ℕ) → c < j.cells → In x (row_of near begin c) → R x c
-  pub all : (c x : ℕ) → c < j.cells → R x c → In x (row_of near begin c)
-
--- c itself and the cells from which a track leads to c
-abbrev pub Near : Job → List ℕ → List ℕ → Type 0
-Near j near begin = Sides j (λ x c. Move j x c) near begin
-
--- c itself and the cells to which a track leads from c
-abbrev pub Onto : Job → List ℕ → List ℕ → Type 0
-Onto j near begin = Sides j (λ x c. Move j c x) near begin
+  pub only : (c x : ℕ) → c < j.cells → In x (row_of near begin c) → Move j x c
+  pub all : (c x : ℕ) → c < j.cells → Move j x c → In x (row_of near begin c)
 
 -- Entry c of `due` is one more than the deadline of the call on c, or 0.
 pub record Due (j : Job) (due : List ℕ) : Type 0 where

@@ -10,9 +10,10 @@ use Rattle.model.specs.Text.{numeral, line, floor_word, track_word}
 use Rattle.model.specs.SheetText.{lines_text}
 use Rattle.model.specs.GridMap.{floor_lines, track_numbers}
 use Rattle.model.proofs.Decide.{dec_eq}
+use Rattle.job.specs.Arrays.{track_at}
 use Rattle.job.proofs.UpTo.{up_suc}
 use Rattle.text.proofs.Wrote.{head_long, lines_append}
-use Rattle.gridmap.specs.CellPlaces.{aisle_at, tracks_in}
+use Rattle.gridmap.specs.CellPlaces.{tracks_in}
 
 module _ (from to : List ℕ) where
   abbrev pub track_lines : ℕ → List ℕ
@@ -21,7 +22,7 @@ module _ (from to : List ℕ) where
   pub lines_more : (t : ℕ) → length (track_lines (t + 1)) ≡ length (track_lines t) + length (line track_word (get_or from t 0 ∷ get_or to t 0 ∷ []))
   lines_more t =
       let l : List ℕ = line track_word (get_or from t 0 ∷ get_or to t 0 ∷ []) in
-      rw (up_suc (aisle_at from to) t, lines_append (λ t. track_word) track_numbers (tracks_in from to t) (aisle_at from to t ∷ []), append-nil l) (length-append (track_lines t) l)
+      rw (up_suc (track_at from to) t, lines_append (λ t. track_word) track_numbers (tracks_in from to t) (track_at from to t ∷ []), append-nil l) (length-append (track_lines t) l)
 
   pub floor_long : (cells t : ℕ) → length (floor_lines cells (tracks_in from to t)) ≡ 7 + length (numeral cells) + length (track_lines t)
   floor_long cells t = rw (length-append (line floor_word (cells ∷ [])) (track_lines t)) (omega (arith, head_long floor_word cells))

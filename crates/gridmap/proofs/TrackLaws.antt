@@ -14,7 +14,7 @@ use lib.ListN.{get_or}
 use borrow.Author.Tests.{ltb-true, eqb-true, lt-ltb, eq-eqb}
 use Rattle.model.specs.Limits.{max_cells}
 use Rattle.model.specs.Lists.{Lex, each_below}
-use Rattle.model.specs.Job.{bothWays, track}
+use Rattle.model.specs.Job.{track}
 use Rattle.model.specs.GridMap.{cell_at, map_cells, cell_number, track_to}
 use Rattle.model.proofs.Basics.{nope, and_left, and_right, and_both}
 use Rattle.model.proofs.Lex.{dec_lex, lex_else}
@@ -103,7 +103,7 @@ module _ {places : List ℕ} {cells stride : ℕ} {m : List (List ℕ)} {w : ℕ
       → t ≡ (ltb n cells && eqb (get_or places n 0) (p * stride + q)) → track_to m r c p q ≡ track_if t k n
   track_stood r c k n p q t e i f g = rw e (go t (cell_at m p q) (stood n p q t i f g) refl)
     where
-      go : (t u : Bool) → u ≡ t → cell_at m p q ≡ u → cond u (track bothWays k (cell_number m p q) ∷ []) [] ≡ track_if t k n
+      go : (t u : Bool) → u ≡ t → cell_at m p q ≡ u → cond u (track k (cell_number m p q) ∷ []) [] ≡ track_if t k n
       go true true a b = rw (f b)
       go false false a b = refl
       go true false a b = nope (cc)

@@ -1,9 +1,9 @@
 -- Where the cells of a map stand, and the tracks that are found from that.
 use Rattle.std.specs.Prelude.{ℕ, suc, ◌+◌, ◌*◌, ◌≤◌, ◌<◌, ◌≡◌, List, [], ◌∷◌, ◌++◌, Bool, true, cond, length, get_or}
 use Rattle.model.specs.Limits.{max_cells, max_tracks, max_side}
-use Rattle.model.specs.Job.{bothWays, Track, track}
+use Rattle.model.specs.Job.{Track, track}
 use Rattle.model.specs.GridMap.{cell_at, map_cells, cell_number, tracks_of}
-use Rattle.job.specs.Arrays.{up_to}
+use Rattle.job.specs.Arrays.{up_to, track_at}
 
 -- The places of the largest map: its letters, and a line feed behind each row.
 abbrev pub max_places : ℕ
@@ -20,15 +20,12 @@ pub record PlaceReached (places : List ℕ) (j n p i : ℕ) : Type 0 where
   pub before : (k : ℕ) → j ≤ k → k < i → get_or places k 0 < p
   pub there : i < n → p ≤ get_or places i 0
 
--- the tracks that two arrays hold; those of a map run both ways
-abbrev pub aisle_at : List ℕ → List ℕ → ℕ → Track
-aisle_at from to k = track bothWays (get_or from k 0) (get_or to k 0)
-
+-- the tracks that two arrays hold
 abbrev pub tracks_in : List ℕ → List ℕ → ℕ → List Track
-tracks_in from to t = up_to (aisle_at from to) t
+tracks_in from to t = up_to (track_at from to) t
 
 abbrev pub track_if : Bool → ℕ → ℕ → List Track
-track_if there a b = cond there (track bothWays a b ∷ []) []
+track_if there a b = cond there (track a b ∷ []) []
 
 -- What is held is followed by these tracks, which are n at most.
 pub record TracksNoted (n : ℕ) (ts : List Track) (from to : List ℕ) (t : ℕ) (from' to' : List ℕ) (t' : ℕ) : Type 0 where

@@ -1,23 +1,20 @@
 -- What stands in a job that arrays hold, entry by entry: its counts, its calls, carts and tracks, and its last step. Assumes nothing.
-use Prim.Native.Nat.{ℕ, zero, suc, ◌+◌, ◌*◌, ◌≤◌, ◌<◌, max}
+use Prim.Native.Nat.{ℕ, zero, suc, ◌+◌, ◌≤◌, ◌<◌, max}
 use mathlib.Core.Path.{◌≡◌, refl, sym, ap, ◌∙◌}
 use mathlib.Core.List.{List, [], ◌∷◌, ◌++◌}
-use mathlib.Core.Bool.{Bool, true, false}
+use mathlib.Core.Bool.{true}
 use mathlib.Core.Logic.{◌↔◌}
 use native.Mathlib.Omega.{arith}
 use native.Mathlib.Numerals.{add-one}
-use lib.ListN.{length, get_or, set}
-use lib.Seq.{get_or-set_same, get_or-set_other}
+use lib.ListN.{length, get_or}
 use borrow.Author.Tests.{ltb-true}
 use Rattle.model.specs.Limits.{max_tracks, max_carts, max_calls}
 use Rattle.model.specs.Lists.{In}
-use Rattle.model.specs.Job.{Sense, bothWays, Track, CallKind, lift, Call, track, call, track_of, cart_cell, call_of, latest, horizon}
-use Rattle.model.specs.ReadJob.{track_line, cart_line, call_line, has_room}
+use Rattle.model.specs.Job.{Track, CallKind, lift, Call, track, call, track_of, cart_cell, call_of, latest, horizon}
+use Rattle.model.specs.ReadJob.{trackLine, cartLine, call_line, has_room}
 use Rattle.job.specs.declared.state.Job.{Job}
-use Rattle.job.specs.Arrays.{up_to, sense_of, track_at, call_at, job_of}
-use Rattle.job.specs.Bits.{bit_at, with_bit_if}
-use Rattle.job.proofs.UpTo.{up_count, up_at, in_up, up_more}
-use Rattle.job.proofs.BitLaws.{bit_told, bit_kept}
+use Rattle.job.specs.Arrays.{up_to, track_at, call_at, job_of}
+use Rattle.job.proofs.UpTo.{up_count, up_at, in_up}
 
 -- the largest of the first deadlines
 latest_last : (l : List Call) (q : Call) → latest (l ++ (q ∷ [])) ≡ max (latest l) q.deadline
@@ -40,18 +37,9 @@ latest_same : (f g : ℕ → Call) → ((k : ℕ) → (f k).deadline ≡ (g k).d
 latest_same f g e zero = refl
 latest_same f g e (suc n) = latest_last (up_to f n) (f n) ∙ rw (latest_same f g e n, e n) (sym (latest_last (up_to g n) (g n)))
 
--- One track more, written at the end: its bit was not set.
-pub up_track : (senses from to : List ℕ) (n a b : ℕ) (t : Bool) {d : Sense} {senses' : List ℕ} → senses' ≡ with_bit_if t senses n → sense_of t ≡ d
-    → n < 8 * length senses → n < length from → n < length to → bit_at senses n ≡ false
-    → up_to (track_at senses' (set from n a) (set to n b)) (n + 1) ≡ up_to (track_at senses from to) n ++ (track d a b ∷ [])
-up_track senses from to n a b t made is h g i e =
-    rw (made, ← is) (up_more (track_at senses from to) _ n _
-    (λ k l. rw (bit_kept t senses n h k (λ z. omega arith), get_or-set_other from n k a 0 (λ z. omega arith), get_or-set_other to n k b 0 (λ z. omega arith)))
-    (rw (bit_told t senses n h e, get_or-set_same from n a 0 g, get_or-set_same to n b 0 i)))
-
 module _ (s : Job) where
   pub tracks_count : length (job_of s).tracks ≡ s.tracks
-  tracks_count = up_count (track_at s.senses s.from s.to) s.tracks
+  tracks_count = up_count (track_at s.from s.to) s.tracks
 
   pub carts_count : length (job_of s).carts ≡ s.carts
   carts_count = up_count (λ k. get_or s.starts k 0) s.carts
@@ -59,17 +47,17 @@ module _ (s : Job) where
   pub calls_count : length (job_of s).calls ≡ s.calls
   calls_count = up_count (call_at s.kinds s.targets s.deadlines) s.calls
 
-  pub tracks_room : (d : Sense) → has_room (job_of s) (track_line d) ≡ true → s.tracks < max_tracks
-  tracks_room d e = rw tracks_count at (ltb-true (length (job_of s).tracks) max_tracks e)
+  pub tracks_room : has_room (job_of s) trackLine ≡ true → s.tracks < max_tracks
+  tracks_room e = rw tracks_count at (ltb-true (length (job_of s).tracks) max_tracks e)
 
-  pub carts_room : has_room (job_of s) cart_line ≡ true → s.carts < max_carts
+  pub carts_room : has_room (job_of s) cartLine ≡ true → s.carts < max_carts
   carts_room e = rw carts_count at (ltb-true (length (job_of s).carts) max_carts e)
 
   pub calls_room : (k : CallKind) → has_room (job_of s) (call_line k) ≡ true → s.calls < max_calls
   calls_room k e = rw calls_count at (ltb-true (length (job_of s).calls) max_calls e)
 
-  pub track-at : (k : ℕ) → k < s.tracks → track_of (job_of s) k ≡ track_at s.senses s.from s.to k
-  track-at k h = up_at (track_at s.senses s.from s.to) s.tracks k (track bothWays 0 0) h
+  pub track-at : (k : ℕ) → k < s.tracks → track_of (job_of s) k ≡ track_at s.from s.to k
+  track-at k h = up_at (track_at s.from s.to) s.tracks k (track 0 0) h
 
   pub cart_at : (k : ℕ) → k < s.carts → cart_cell (job_of s) k ≡ get_or s.starts k 0
   cart_at k h = up_at (λ k. get_or s.starts k 0) s.carts k 0 h
@@ -80,8 +68,8 @@ module _ (s : Job) where
   pub deadline_at : (k : ℕ) → k < s.calls → (call_of (job_of s) k).deadline ≡ get_or s.deadlines k 0
   deadline_at k h = ap (λ (q : Call). q.deadline) (call-at k h)
 
-  pub in_tracks : (t : Track) → In t (job_of s).tracks ↔ ((k : ℕ) × (k < s.tracks) × (t ≡ track_at s.senses s.from s.to k))
-  in_tracks = in_up (track_at s.senses s.from s.to) s.tracks
+  pub in_tracks : (t : Track) → In t (job_of s).tracks ↔ ((k : ℕ) × (k < s.tracks) × (t ≡ track_at s.from s.to k))
+  in_tracks = in_up (track_at s.from s.to) s.tracks
 
   pub in_carts : (v : ℕ) → In v (job_of s).carts ↔ ((k : ℕ) × (k < s.carts) × (get_or s.starts k 0 ≡ v))
   in_carts v = let i = in_up (λ k. get_or s.starts k 0) s.carts v in (λ m. let (k, h, e) = i.0 m in (k, h, sym e), λ (k, h, e). i.1 (k, h, sym e))

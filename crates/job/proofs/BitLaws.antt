@@ -13,7 +13,7 @@ use lib.ListN.{length, get_or, replicate, length-set}
 use lib.Seq.{get_or-set_same, get_or-set_other}
 use borrow.Author.Tests.{eq-eqb, ne_eqb}
 use Rattle.model.proofs.Decide.{dec_eq}
-use Rattle.job.specs.Bits.{bit_at, with_bit, with_bit_if}
+use Rattle.job.specs.Bits.{bit_at, with_bit}
 
 -- digit k of a number, from the lowest on
 abbrev bit_of : ℕ → ℕ → Bool
@@ -84,26 +84,6 @@ module _ (l : List ℕ) (p : ℕ) (h : p < 8 * length l) where
 pub bits_length : (l : List ℕ) (p : ℕ) → length (with_bit l p) ≡ length l
 unfolding with_bit
 bits_length l p = length-set l (p / 8) (bit_or (get_or l (p / 8) 0) (2 ^ (p % 8)))
-
-pub bits_length_if : (t : Bool) (l : List ℕ) (p : ℕ) → length (with_bit_if t l p) ≡ length l
-bits_length_if true l p = bits_length l p
-bits_length_if false l p = refl
-
--- Where the bit is set if this is wanted: so it is told afterwards, if it was not set, and any other bit is as it was.
-module _ (t : Bool) (l : List ℕ) (p : ℕ) (h : p < 8 * length l) where
-  pub bit_told : bit_at l p ≡ false → bit_at (with_bit_if t l p) p ≡ t
-  bit_told e = go t
-    where
-      go : (u : Bool) → bit_at (with_bit_if u l p) p ≡ u
-      go true = bit_set l p h
-      go false = e
-
-  pub bit_kept : (i : ℕ) → (i ≡ p → ⊥) → bit_at (with_bit_if t l p) i ≡ bit_at l i
-  bit_kept i n = go t
-    where
-      go : (u : Bool) → bit_at (with_bit_if u l p) i ≡ bit_at l i
-      go true = bit_other l p h i n
-      go false = refl
 
 zeros : (n i : ℕ) → ◌≡◌ {A = ℕ} (get_or (replicate n 0) i 0) 0
 zeros zero i = refl

@@ -1,28 +1,22 @@
 -- The job that the arrays hold.
-use Rattle.std.specs.Prelude.{ℕ, zero, suc, ◌*◌, ◌≤◌, ◌≡◌, List, [], ◌∷◌, ◌++◌, Bool, true, false, length, get_or}
+use Rattle.std.specs.Prelude.{ℕ, zero, suc, ◌≤◌, ◌≡◌, List, [], ◌∷◌, ◌++◌, length, get_or}
 use Rattle.model.specs.Limits.{max_tracks, max_carts, max_calls}
 use Rattle.model.specs.Job as model
-use Rattle.model.specs.Job.{Sense, bothWays, oneWay, CallKind, lift, bay, track, call}
+use Rattle.model.specs.Job.{CallKind, lift, bay, track, call}
 use Rattle.job.specs.declared.state.Job.{Job}
-use Rattle.job.specs.Bits.{bit_at}
 
 -- the first n values of f
 abbrev pub up_to : {A : Type 0} → (ℕ → A) → ℕ → List A
 up_to f zero = []
 up_to f (suc n) = up_to f n ++ (f n ∷ [])
 
--- the sense of a track, by its bit
-abbrev pub sense_of : Bool → Sense
-sense_of false = bothWays
-sense_of true = oneWay
-
 -- the kind of a call, by its byte
 abbrev pub call_kind : ℕ → CallKind
 call_kind zero = lift
 call_kind (suc n) = bay
 
-abbrev pub track_at : List ℕ → List ℕ → List ℕ → ℕ → model.Track
-track_at senses from to k = track (sense_of (bit_at senses k)) (get_or from k 0) (get_or to k 0)
+abbrev pub track_at : List ℕ → List ℕ → ℕ → model.Track
+track_at from to k = track (get_or from k 0) (get_or to k 0)
 
 abbrev pub call_at : List ℕ → List ℕ → List ℕ → ℕ → model.Call
 call_at kinds targets deadlines k = call (call_kind (get_or kinds k 0)) (get_or targets k 0) (get_or deadlines k 0)
@@ -30,7 +24,7 @@ call_at kinds targets deadlines k = call (call_kind (get_or kinds k 0)) (get_or 
 abbrev pub job_of : Job → model.Job
 job_of s = record {
   cells = s.cells;
-  tracks = up_to (track_at s.senses s.from s.to) s.tracks;
+  tracks = up_to (track_at s.from s.to) s.tracks;
   carts = up_to (λ k. get_or s.starts k 0) s.carts;
   calls = up_to (call_at s.kinds s.targets s.deadlines) s.calls;
 }
@@ -41,10 +35,8 @@ pub record Sized (s : Job) : Type 0 where
   pub carts : s.carts ≤ max_carts
   pub calls : s.calls ≤ max_calls
 
--- The arrays are as long as they are declared, and no bit is set behind those of the tracks, which the list of their entries does not say.
+-- The arrays are as long as they are declared, which the list of their entries does not say.
 pub record Long (s : Job) : Type 0 where
-  pub senses : 8 * length s.senses ≡ max_tracks
-  pub unset : (k : ℕ) → s.tracks ≤ k → bit_at s.senses k ≡ false
   pub from : length s.from ≡ max_tracks
   pub to : length s.to ≡ max_tracks
   pub starts : length s.starts ≡ max_carts

@@ -9,10 +9,6 @@ bit_at l i = eqb (get_or l (i / 8) 0 / 2 ^ (i % 8) % 2) 1
 unfoldable pub with_bit : List ℕ → ℕ → List ℕ
 with_bit l i = set l (i / 8) (bit_or (get_or l (i / 8) 0) (2 ^ (i % 8)))
 
--- the same if this is wanted
-abbrev pub with_bit_if : Bool → List ℕ → ℕ → List ℕ
-with_bit_if wanted l i = cond wanted (with_bit l i) l
-
 -- The pairs whose greater cell is below n, a cell with itself among them.
 abbrev pub pairs_below : ℕ → ℕ
 pairs_below n = n * (n + 1) / 2

@@ -1,7 +1,7 @@
 // A table of bits, eight to a byte: bit i is bit i % 8 of byte i / 8.
 ghost use Rattle.std.specs.Prelude.{◌≡◌, ◌*◌, ◌<◌, length};
 ghost use Rattle.model.specs.Limits.{max_cells};
-ghost use Rattle.job.specs.Bits.{bit_at, with_bit, with_bit_if, pair_at};
+ghost use Rattle.job.specs.Bits.{bit_at, with_bit, pair_at};
 
 // Whether bit i of the table is set.
 pub fn has(table: &[u8], i: usize) -> bool
@@ -17,17 +17,6 @@ pub fn add(table: &mut [u8], i: usize)
     ensures { table.new ≡ with_bit table.old i }
 {
     table[i / 8] |= 1 << (i % 8);
-}
-
-// Sets it if this is wanted.
-pub fn add_if(table: &mut [u8], i: usize, wanted: bool)
-    requires { i < 8 * length table.old }
-    ensures { table.new ≡ with_bit_if wanted table.old i }
-{
-    if !wanted {
-        return;
-    }
-    add(table, i);
 }
 
 // The place of two cells in a table with a bit for each two, the same either way round.

@@ -11,13 +11,11 @@ pub const CELL: u8 = 0;
 
 pub const WHOLE: u8 = 1;
 
-// The first `tracks` entries of `from` and `to` are the tracks, and so for carts and calls. Of a track also a bit of `senses`, which is set if it is one-way; of a
-// call its kind, its cell and its deadline.
+// The first `tracks` entries of `from` and `to` are the tracks, and so for carts and calls. Of a call: its kind, its cell and its deadline.
 #[derive(Drop)]
 pub struct Job {
     pub cells: usize,
     pub tracks: usize,
-    pub senses: [u8; Limits::TRACKS / 8],
     pub from: [u8; Limits::TRACKS],
     pub to: [u8; Limits::TRACKS],
     pub carts: usize,

@@ -9,9 +9,9 @@ use lib.Dec.{ltb, eqb}
 use lib.ListN.{length}
 use Rattle.model.specs.declared.answer.Answer.TheVariants.{BadLine, NoNumber, TextTooLong}
 use Rattle.model.specs.Limits.{max_text}
-use Rattle.model.specs.Job.{Job, bothWays, oneWay, lift, bay}
-use Rattle.model.specs.Text.{Lines, done, cut, more, lines_of, number_of, scaled_of, and_number, numbers_by, opens, after, floor_word, track_word, oneway_word, cart_word, call_word, bay_word}
-use Rattle.model.specs.ReadJob.{refused, accepted, Kind, floor_line, track_line, cart_line, call_line, no_job, may_follow, field_count, Said, wrong, right}
+use Rattle.model.specs.Job.{Job, lift, bay}
+use Rattle.model.specs.Text.{Lines, done, cut, more, lines_of, number_of, scaled_of, and_number, numbers_by, opens, after, floor_word, track_word, cart_word, call_word, bay_word}
+use Rattle.model.specs.ReadJob.{refused, accepted, Kind, floorLine, trackLine, cartLine, call_line, no_job, may_follow, field_count, Said, wrong, right}
 use Rattle.model.specs.ReadJob.{numbers_say, fields_say, line_says, go_on, lines_say, read_by, read_job}
 use Rattle.model.proofs.Basics.{nope}
 use Rattle.model.proofs.Digits.{number_scaled}
@@ -38,23 +38,22 @@ module _ (first second : List ℕ → Option ℕ) (keeps : (n : ℕ) (f : List �
       go true (some ns) q h = ap (numbers_say j k) (numbers_kept fs ns q)
 
   line_kept : (j : Job) (l : List ℕ) → (line_says first j l ≡ wrong NoNumber → ⊥) → line_says second j l ≡ line_says first j l
-  line_kept j l = go (opens floor_word l) (opens track_word l) (opens oneway_word l) (opens cart_word l) (opens call_word l) (opens bay_word l)
+  line_kept j l = go (opens floor_word l) (opens track_word l) (opens cart_word l) (opens call_word l) (opens bay_word l)
     where
       say : (List ℕ → Option ℕ) → Kind → List ℕ → Said
       say number k word = fields_say number j k (after word l)
 
-      says : (List ℕ → Option ℕ) → Bool → Bool → Bool → Bool → Bool → Bool → Said
-      says number t u o v w x = cond t (say number floor_line floor_word) (cond u (say number (track_line bothWays) track_word) (cond o (say number (track_line oneWay) oneway_word)
-          (cond v (say number cart_line cart_word) (cond w (say number (call_line lift) call_word) (cond x (say number (call_line bay) bay_word) (wrong BadLine))))))
+      says : (List ℕ → Option ℕ) → Bool → Bool → Bool → Bool → Bool → Said
+      says number t u v w x = cond t (say number floorLine floor_word) (cond u (say number trackLine track_word) (cond v (say number cartLine cart_word)
+          (cond w (say number (call_line lift) call_word) (cond x (say number (call_line bay) bay_word) (wrong BadLine)))))
 
-      go : (t u o v w x : Bool) → (says first t u o v w x ≡ wrong NoNumber → ⊥) → says second t u o v w x ≡ says first t u o v w x
-      go true u o v w x = fields_kept j floor_line (after floor_word l)
-      go false true o v w x = fields_kept j (track_line bothWays) (after track_word l)
-      go false false true v w x = fields_kept j (track_line oneWay) (after oneway_word l)
-      go false false false true w x = fields_kept j cart_line (after cart_word l)
-      go false false false false true x = fields_kept j (call_line lift) (after call_word l)
-      go false false false false false true = fields_kept j (call_line bay) (after bay_word l)
-      go false false false false false false = λ h. refl
+      go : (t u v w x : Bool) → (says first t u v w x ≡ wrong NoNumber → ⊥) → says second t u v w x ≡ says first t u v w x
+      go true u v w x = fields_kept j floorLine (after floor_word l)
+      go false true v w x = fields_kept j trackLine (after track_word l)
+      go false false true w x = fields_kept j cartLine (after cart_word l)
+      go false false false true x = fields_kept j (call_line lift) (after call_word l)
+      go false false false false true = fields_kept j (call_line bay) (after bay_word l)
+      go false false false false false = λ h. refl
 
   lines_kept : (j : Job) (n : ℕ) (ls : Lines) → ((l : ℕ) → lines_say first j n ls ≡ refused NoNumber l → ⊥) → lines_say second j n ls ≡ lines_say first j n ls
   lines_kept j n done h = refl

@@ -2,12 +2,11 @@
 use Prim.Native.Nat.{ℕ, suc, ◌+◌, ◌-◌, ◌<◌}
 use mathlib.Core.Path.{◌≡◌, refl, sym, ◌∙◌, ap}
 use mathlib.Core.List.{List, [], ◌∷◌, ◌++◌, map}
-use mathlib.Core.Logic.{◌⊎◌, inl, inr}
 use native.Mathlib.Omega.{arith}
 use lib.ListN.{length, get_or}
 use Rattle.model.specs.Lists.{In, NoDup, Rising}
-use Rattle.model.specs.Job.{Job, Sense, bothWays, oneWay, Track, CallKind, lift, bay, Call, track, cart_cell, call_of, horizon}
-use Rattle.model.specs.Walk.{At, Arc, Open, Step, Walk, InTime, Serves}
+use Rattle.model.specs.Job.{Job, Track, CallKind, lift, bay, Call, track, cart_cell, call_of, horizon}
+use Rattle.model.specs.Walk.{At, Open, Step, Walk, InTime, Serves}
 use Rattle.model.specs.Plan.{Path, Ride, ride_of, Leads, StaysOn, OnFloor, Share, Trade, NoShare, NoTrade, Apart, CallsServed, Plan, Sooner, Before}
 use Rattle.model.specs.Choke.{Choke, cell_step, whole_call, KnownChoke, Stops, StandsOn, TrueChokes, Rises}
 use Rattle.model.specs.Promises.{RightPlan, RightChokes}
@@ -17,42 +16,14 @@ use Rattle.model.proofs.Decide.{dec_by, dec_and, dec_or, dec_imp, dec_not, dec_e
 use Rattle.model.proofs.Listed.{walks_of, walk_listed}
 
 -- Walks.
-pub no_oneway : bothWays ≡ oneWay → ⊥
-no_oneway e = nope (cc)
+pub track_eq : {s t : Track} → (s.from ≡ t.from) × (s.to ≡ t.to) → s ≡ t
+track_eq h = λ i. track (h.0 i) (h.1 i)
 
-pub no_both : oneWay ≡ bothWays → ⊥
-no_both e = no_oneway (sym e)
-
-abbrev pub dec_sense : (s t : Sense) → Dec (s ≡ t)
-dec_sense bothWays bothWays = yes refl
-dec_sense bothWays oneWay = no no_oneway
-dec_sense oneWay bothWays = no no_both
-dec_sense oneWay oneWay = yes refl
-
-pub track_eq : {s t : Track} → (s.sense ≡ t.sense) × ((s.from ≡ t.from) × (s.to ≡ t.to)) → s ≡ t
-track_eq h = λ i. track (h.0 i) (h.1.0 i) (h.1.1 i)
-
-pub track_parts : {s t : Track} → s ≡ t → (s.sense ≡ t.sense) × ((s.from ≡ t.from) × (s.to ≡ t.to))
-track_parts e = (ap (λ t. t.sense) e, (ap (λ t. t.from) e, ap (λ t. t.to) e))
+pub track_parts : {s t : Track} → s ≡ t → (s.from ≡ t.from) × (s.to ≡ t.to)
+track_parts e = (ap (λ t. t.from) e, ap (λ t. t.to) e)
 
 abbrev pub dec_track : (s t : Track) → Dec (s ≡ t)
-dec_track s t = dec_by track_eq track_parts (dec_and (dec_sense s.sense t.sense) (dec_and (dec_eq s.from t.from) (dec_eq s.to t.to)))
-
--- A track from u to v has one of the two senses.
-pub arc_of : (j : Job) (u v : ℕ) → (In (track bothWays u v) j.tracks ⊎ In (track oneWay u v) j.tracks) ⊎ In (track bothWays v u) j.tracks → Arc j u v
-arc_of j u v (inl (inl h)) = inl (bothWays, h)
-arc_of j u v (inl (inr h)) = inl (oneWay, h)
-arc_of j u v (inr h) = inr h
-
-pub arc_parts : (j : Job) (u v : ℕ) → Arc j u v → (In (track bothWays u v) j.tracks ⊎ In (track oneWay u v) j.tracks) ⊎ In (track bothWays v u) j.tracks
-arc_parts j u v (inl (bothWays, h)) = inl (inl h)
-arc_parts j u v (inl (oneWay, h)) = inl (inr h)
-arc_parts j u v (inr h) = inr h
-
-abbrev pub dec_arc : (j : Job) (u v : ℕ) → Dec (Arc j u v)
-dec_arc j u v =
-    let listed : (t : Track) → Dec (In t j.tracks) = λ t. dec_in dec_track t j.tracks in
-    dec_by (arc_of j u v) (arc_parts j u v) (dec_or (dec_or (listed (track bothWays u v)) (listed (track oneWay u v))) (listed (track bothWays v u)))
+dec_track s t = dec_by track_eq track_parts (dec_and (dec_eq s.from t.from) (dec_eq s.to t.to))
 
 pub no_bay : lift ≡ bay → ⊥
 no_bay e = nope (cc)
@@ -72,7 +43,8 @@ abbrev pub dec_open : (j : Job) (t v : ℕ) → Dec (Open j t v)
 dec_open j t v = all_in (λ q. dec_imp (dec_bay q.kind) (dec_imp (dec_eq q.cell v) (dec_le _ _))) j.calls
 
 abbrev pub dec_step : (j : Job) (t u v : ℕ) → Dec (Step j t u v)
-dec_step j t u v = dec_and (dec_or (dec_eq u v) (dec_arc j u v)) (dec_open j (suc t) v)
+dec_step j t u v =
+    dec_and (dec_or (dec_eq u v) (dec_or (dec_in dec_track (track u v) j.tracks) (dec_in dec_track (track v u) j.tracks))) (dec_open j (suc t) v)
 
 abbrev pub dec_at : (w : List ℕ) (t v : ℕ) → Dec (At w t v)
 dec_at w t v = dec_and (dec-lt t (length w)) (dec_eq (get_or w t 0) v)

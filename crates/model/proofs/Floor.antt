@@ -9,7 +9,7 @@ use native.Mathlib.Omega.{arith}
 use lib.Dec.{ltb, leb, eqb}
 use lib.ListN.{length, get_or}
 use borrow.Author.Tests.{lt-ltb, le-leb, eq-eqb, ltb-true, leb-true, eqb-true}
-use Rattle.model.specs.Job.{Job, bothWays, CallKind, lift, bay, track, cart_cell, call_of, horizon}
+use Rattle.model.specs.Job.{Job, CallKind, lift, bay, track, cart_cell, call_of, horizon}
 use Rattle.model.specs.Ready.{Fit}
 use Rattle.model.specs.Walk.{Step, Walk, InTime}
 use Rattle.model.specs.Plan.{Path, Ride, Leads, StaysOn}
@@ -69,8 +69,8 @@ below_of n (a ∷ w) h = and_both (ltb a n) (all_below n w) (lt-ltb a n (h 0 (om
 module _ (j : Job) (f : Fit j) where
   pub step_known : (t u v : ℕ) → u < j.cells → Step j t u v → v < j.cells
   step_known t u v h (inl e, o) = rw e at h
-  step_known t u v h (inr (inl (s, m)), o) = (f.known_tracks (track s u v) m).1
-  step_known t u v h (inr (inr m), o) = (f.known_tracks (track bothWays v u) m).0
+  step_known t u v h (inr (inl m), o) = (f.known_tracks (track u v) m).1
+  step_known t u v h (inr (inr m), o) = (f.known_tracks (track v u) m).0
 
   pub walk_known : (c : ℕ) (w : List ℕ) → c < j.cells → Walk j c w → (t : ℕ) → t < length w → get_or w t 0 < j.cells
   walk_known c w h k zero l = rw k.starts.1 h

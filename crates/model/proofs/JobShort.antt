@@ -1,5 +1,5 @@
--- A text that says a job has at most 12,749 bytes, however long a text may be: three digits, a mark, a plus and a digit make six bytes for a number (`scaled_short`), so that the lines of a job
--- have at most 13, 21, 12 and 19 bytes with their LF, and there are at most 1, 512, 64 and 64 of them. What the lines weigh together is counted along with them (`lines_weigh`).
+-- A text that says a job has at most 12,237 bytes, however long a text may be: three digits, a mark, a plus and a digit make six bytes for a number (`scaled_short`), so that the lines of a job
+-- have at most 13, 20, 12 and 19 bytes with their LF, and there are at most 1, 512, 64 and 64 of them. What the lines weigh together is counted along with them (`lines_weigh`).
 -- Assumes nothing.
 use Prim.Native.Nat.{ℕ, suc, ◌+◌, ◌*◌, ◌≤◌, ◌<◌}
 use mathlib.Core.Path.{◌≡◌, refl, ap}
@@ -15,7 +15,7 @@ use Rattle.model.specs.Limits.{max_cells}
 use Rattle.model.specs.Job.{Job, track, call}
 use Rattle.model.specs.Text.{Lines, done, cut, more, on_first, lines_of, on_field, fields_of, is_mark, number_of, digits_of, behind_digits, without_plus, one_digit, power_of}
 use Rattle.model.specs.Text.{scaled, scaled_of, and_number, numbers_by, after}
-use Rattle.model.specs.ReadJob.{refused, accepted, Kind, floor_line, track_line, cart_line, call_line, no_job, may_follow, in_range, field_count, add, Said, wrong, right, line_says, go_on, lines_say}
+use Rattle.model.specs.ReadJob.{refused, accepted, Kind, floorLine, trackLine, cartLine, call_line, no_job, may_follow, in_range, field_count, add, Said, wrong, right, line_says, go_on, lines_say}
 use Rattle.model.proofs.Basics.{nope, and_left}
 use Rattle.model.proofs.Digits.{both_long}
 use Rattle.model.proofs.Words.{opens_long}
@@ -94,19 +94,19 @@ line_short {j} {j'} {l} x =
 
 -- The most bytes of the lines that said a job.
 abbrev floor_most : ℕ → ℕ
-floor_most n = cond (eqb n 0) 0 (line_most floor_line)
+floor_most n = cond (eqb n 0) 0 (line_most floorLine)
 
 abbrev weight : Job → ℕ
-weight j = floor_most j.cells + 21 * length j.tracks + 12 * length j.carts + 19 * length j.calls
+weight j = floor_most j.cells + 20 * length j.tracks + 12 * length j.carts + 19 * length j.calls
 
 added_weigh : (j : Job) (k : Kind) (a b : ℕ) → may_follow j k ≡ true → in_range j k a b ≡ true → weight j + line_most k ≤ weight (add j k a b)
-added_weigh j floor_line a b m r =
+added_weigh j floorLine a b m r =
     let some : 0 < a = ltb-true 0 a (and_left (ltb 0 a) (leb a max_cells) r) in
-    let before : floor_most j.cells ≡ 0 = ap (λ t. cond t 0 (line_most floor_line)) m in
-    let now : floor_most a ≡ line_most floor_line = ap (λ t. cond t 0 (line_most floor_line)) (ne_eqb a 0 (λ z. omega arith)) in
+    let before : floor_most j.cells ≡ 0 = ap (λ t. cond t 0 (line_most floorLine)) m in
+    let now : floor_most a ≡ line_most floorLine = ap (λ t. cond t 0 (line_most floorLine)) (ne_eqb a 0 (λ z. omega arith)) in
     omega arith
-added_weigh j (track_line s) a b m r = omega (arith, length-append j.tracks (track s a b ∷ []))
-added_weigh j cart_line a b m r = omega (arith, length-append j.carts (a ∷ []))
+added_weigh j trackLine a b m r = omega (arith, length-append j.tracks (track a b ∷ []))
+added_weigh j cartLine a b m r = omega (arith, length-append j.carts (a ∷ []))
 added_weigh j (call_line k) a b m r = omega (arith, length-append j.calls (call k a b ∷ []))
 
 -- A text of n bytes has these lines, if none of them is cut.
@@ -146,12 +146,12 @@ lines_weigh j j' n m (more l ls) (r, f, h) e = go (line_says scaled_of j l) refl
         omega (arith, line_short x, added_weigh j x.kind x.a x.b x.follows x.ranged, ap weight x.so, ih k e)
 
 -- So the limit on the bytes of a text turns back no job that keeps the other limits.
-pub job_short : (s : List ℕ) (j : Job) → lines_say scaled_of no_job 1 (lines_of s) ≡ accepted j → length s ≤ 12749
+pub job_short : (s : List ℕ) (j : Job) → lines_say scaled_of no_job 1 (lines_of s) ≡ accepted j → length s ≤ 12237
 job_short s j e =
     let f = (lines_ready no_job j 1 (lines_of s) no_fit e).fit in
     let first : floor_most j.cells ≤ 13 = go (eqb j.cells 0) in
     omega (arith, lines_weigh no_job j 1 (length s) (lines_of s) (lines_fill s) e, f.few_tracks, f.few_carts, f.few_calls)
   where
-    go : (t : Bool) → cond t 0 (line_most floor_line) ≤ 13
+    go : (t : Bool) → cond t 0 (line_most floorLine) ≤ 13
     go true = omega arith
     go false = omega arith

@@ -20,7 +20,6 @@ pub mod PlanCourses
 pub mod SparesKept
 pub mod Agree
 pub mod Decisions
-pub mod OneWay
 pub mod OneOrder
 pub mod OnFloor
 pub mod Every

@@ -9,7 +9,7 @@ use lib.ListN.{length, get_or}
 use lib.Dec.{leb}
 use borrow.Author.Tests.{leb-true, leb-false}
 use Rattle.model.specs.Lists.{In}
-use Rattle.model.specs.Job.{Job, bothWays, Call, CallKind, lift, bay, track}
+use Rattle.model.specs.Job.{Job, Call, CallKind, lift, bay, track}
 use Rattle.model.specs.Walk.{Move, Walk, InTime, Serves}
 use Rattle.model.proofs.Lists.{in_map, in_left, in_right}
 
@@ -49,8 +49,8 @@ walks j (suc n) c = each (λ d. map (λ w. c ∷ w) (walks j n d)) (c ∷ ends j
 
 move_in : (j : Job) (u v : ℕ) → Move j u v → In v (u ∷ ends j)
 move_in j u v (inl e) = inl (sym e)
-move_in j u v (inr (inl (s, h))) = inr (in_right v (map (λ t. t.from) j.tracks) (map (λ t. t.to) j.tracks) (in_map (λ t. t.to) (track s u v) j.tracks h))
-move_in j u v (inr (inr h)) = inr (in_left v (map (λ t. t.from) j.tracks) (map (λ t. t.to) j.tracks) (in_map (λ t. t.from) (track bothWays v u) j.tracks h))
+move_in j u v (inr (inl h)) = inr (in_right v (map (λ t. t.from) j.tracks) (map (λ t. t.to) j.tracks) (in_map (λ t. t.to) (track u v) j.tracks h))
+move_in j u v (inr (inr h)) = inr (in_left v (map (λ t. t.from) j.tracks) (map (λ t. t.to) j.tracks) (in_map (λ t. t.from) (track v u) j.tracks h))
 
 Moves : Job → List ℕ → Type 0
 Moves j w = (t : ℕ) → suc t < length w → Move j (get_or w t 0) (get_or w (suc t) 0)

@@ -14,11 +14,11 @@ use Rattle.model.specs.declared.answer.Answer.{Answer}
 use Rattle.model.specs.declared.answer.Answer.TheVariants.{BadLine, SheetTooShort, NoFloor}
 use Rattle.model.specs.Limits.{max_cells, max_tracks, max_text}
 use Rattle.model.specs.Lists.{In, Rising, Lex, each_below}
-use Rattle.model.specs.Job.{Job, bothWays, Track, track}
+use Rattle.model.specs.Job.{Job, Track, track}
 use Rattle.model.specs.Walk.{Arc}
 use Rattle.model.specs.Text.{lines_of, fields_of, numeral, fields, line, floor_word, track_word, number_of, numbers_of}
 use Rattle.model.specs.SheetText.{lines_text}
-use Rattle.model.specs.ReadJob.{Verdict, refused, accepted, Kind, floor_line, track_line, no_job, leads, may_follow, field_count, in_range, has_room, is_new, add, wrong, right}
+use Rattle.model.specs.ReadJob.{Verdict, refused, accepted, Kind, floorLine, trackLine, no_job, leads, may_follow, field_count, in_range, has_room, is_new, add, wrong, right}
 use Rattle.model.specs.ReadJob.{numbers_say, fields_say, line_says, go_on, lines_say, read_by, read_job}
 use Rattle.model.specs.GridMap.{Drawn, bad, drawn, read_map, cell_at, map_cells, cell_number, track_to, tracks_at, tracks_of, track_numbers, map_text, floor_job, NextTo, floor_text, map_verdict}
 use Rattle.model.proofs.Basics.{nope, and_left, and_right, and_both}
@@ -46,7 +46,7 @@ module _ (m : List (List ℕ)) where
   to_rise : (r c r' c' : ℕ) → Rising TrackBefore (track_to m r c r' c')
   to_rise r c r' c' = go (cell_at m r' c')
     where
-      go : (b : Bool) → Rising TrackBefore (cond b (track bothWays (cell_number m r c) (cell_number m r' c') ∷ []) [])
+      go : (b : Bool) → Rising TrackBefore (cond b (track (cell_number m r c) (cell_number m r' c') ∷ []) [])
       go true = tt
       go false = tt
 
@@ -75,9 +75,6 @@ module _ (m : List (List ℕ)) where
       row_rise : (r : ℕ) → Rising TrackBefore (row r)
       row_rise r = each_rising TrackBefore (length (get_or m r [])) (tracks_at m r) (at_rise r)
           (λ c c' s t h i k. leaves_rise (inr (refl, h)) (track_leaves m r c s i) (track_leaves m r c' t k))
-
-  pub track_both : (t : Track) → In t (tracks_of m) → t.sense ≡ bothWays
-  track_both t h = let (r, c, k) = track_cells m t h in ap (λ t. t.sense) k.ends
 
   pub track_known : (t : Track) → In t (tracks_of m) → (t.from < t.to) × (t.to < map_cells m)
   track_known t h =
@@ -118,22 +115,20 @@ abbrev floor_of : ℕ → List Track → Job
 floor_of n ts = record { cells = n; tracks = ts; carts = []; calls = [] }
 
 module _ (n : ℕ) (ts : List Track) (some : 0 < n) (few : n ≤ max_cells) (rise : Rising TrackBefore ts) (known : (t : Track) → In t ts → (t.from < t.to) × (t.to < n))
-    (both : (t : Track) → In t ts → t.sense ≡ bothWays) (room : length ts ≤ max_tracks) where
+    (room : length ts ≤ max_tracks) where
   track_said : (got rest : List Track) (t : Track) → got ++ (t ∷ rest) ≡ ts → line_says number_of (floor_of n got) (track_word ++ fields (track_numbers t)) ≡ right (floor_of n (got ++ (t ∷ [])))
   track_said got rest t e =
       let old : (s : Track) → In s got → TrackBefore s t = λ s i. rising_across TrackBefore (λ x y z. lex_on) got (t ∷ rest) (rw e rise) s t i (inl refl) in
       let up : (s : Track) → In s got → s.from < s.to = λ s i. (known s (rw e at (in_left s got (t ∷ rest) i))).0 in
-      let i : In t ts = rw e at (in_right t got (t ∷ rest) (inl refl)) in
-      let k = known t i in
-      let new : is_new (floor_of n got) (track_line bothWays) t.from t.to ≡ true = rw (
+      let k = known t (rw e at (in_right t got (t ∷ rest) (inl refl))) in
+      let new : is_new (floor_of n got) trackLine t.from t.to ≡ true = rw (
         ne_eqb t.from t.to (λ h. omega arith),
         leads_none t.from t.to got (λ s i f g. lex_apart (old s i) (sym f) (sym g)),
         leads_none t.to t.from got (λ s i f g. omega (arith, up s i)),
       ) in
-      line_passes (floor_of n got) (track_line bothWays) t.from (t.to ∷ []) (omega arith, (omega arith, tt)) refl (rw (lt-ltb 0 n some))
+      line_passes (floor_of n got) trackLine t.from (t.to ∷ []) (omega arith, (omega arith, tt)) refl (rw (lt-ltb 0 n some))
       (and_both (ltb t.from n) (ltb t.to n) (lt-ltb t.from n (omega arith)) (lt-ltb t.to n k.1))
       (lt-ltb (length got) max_tracks (omega (arith, length-append got (t ∷ rest), ap length e))) new
-      ∙ ap (λ s. right (floor_of n (got ++ (track s t.from t.to ∷ [])))) (sym (both t i))
 
   tracks_say : (got rest : List Track) (k : ℕ) → got ++ rest ≡ ts → lines_say number_of (floor_of n got) k (lines_of (lines_text (λ t. track_word) track_numbers rest)) ≡ accepted (floor_of n ts)
   tracks_say got [] k e = rw (ne_eqb n 0 (λ h. omega arith)) (ap (λ l. accepted (floor_of n l)) (sym (append-nil got) ∙ e))
@@ -149,8 +144,8 @@ plain_reads m some few =
     rw (le-ltb max_text (length (map_text m)) (omega (arith, text_room m)))
     (ap (lines_say number_of no_job 1) (line_read floor_word (n ∷ []) (lines_text (λ t. track_word) track_numbers (tracks_of m)) refl (omega arith, tt))
     ∙ ap (λ x. go_on x 1 (λ j. lines_say number_of j 2 (lines_of (lines_text (λ t. track_word) track_numbers (tracks_of m)))))
-    (line_passes no_job floor_line n [] (omega arith, tt) refl refl (and_both (ltb 0 n) (leb n max_cells) (lt-ltb 0 n some) (le-leb n max_cells few)) refl refl)
-    ∙ tracks_say n (tracks_of m) some few (tracks_rise m) (track_known m) (track_both m) (omega (arith, tracks_few m)) [] (tracks_of m) 2 refl)
+    (line_passes no_job floorLine n [] (omega arith, tt) refl refl (and_both (ltb 0 n) (leb n max_cells) (lt-ltb 0 n some) (le-leb n max_cells few)) refl refl)
+    ∙ tracks_say n (tracks_of m) some few (tracks_rise m) (track_known m) (omega (arith, tracks_few m)) [] (tracks_of m) 2 refl)
 
 pub map_reads : (m : List (List ℕ)) → 0 < map_cells m → map_cells m ≤ max_cells → read_job (map_text m) ≡ accepted (floor_job m)
 map_reads m some few = same_job (map_text m) (floor_job m) (plain_reads m some few)

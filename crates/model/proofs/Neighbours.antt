@@ -8,7 +8,7 @@ use mathlib.Core.Bool.{Bool, true, false, cond}
 use native.Mathlib.Omega.{arith}
 use lib.ListN.{length, get_or}
 use Rattle.model.specs.Lists.{In, each_below}
-use Rattle.model.specs.Job.{Sense, bothWays, Track, track}
+use Rattle.model.specs.Job.{Track, track}
 use Rattle.model.specs.Walk.{Arc}
 use Rattle.model.specs.GridMap.{is_cell, cell_at, cell_number, track_to, tracks_at, tracks_of, floor_job, NextTo}
 use Rattle.model.proofs.Basics.{nope}
@@ -51,13 +51,13 @@ module _ (m : List (List ℕ)) where
     pub row : ℕ
     pub column : ℕ
     pub there : cell_at m row column ≡ true
-    pub ends : t ≡ track bothWays (cell_number m r c) (cell_number m row column)
+    pub ends : t ≡ track (cell_number m r c) (cell_number m row column)
     pub onward : RightOrBelow r c row column
 
-  pub track-to : (r c r' c' : ℕ) (t : Track) → In t (track_to m r c r' c') → (cell_at m r' c' ≡ true) × (t ≡ track bothWays (cell_number m r c) (cell_number m r' c'))
+  pub track-to : (r c r' c' : ℕ) (t : Track) → In t (track_to m r c r' c') → (cell_at m r' c' ≡ true) × (t ≡ track (cell_number m r c) (cell_number m r' c'))
   track-to r c r' c' t = go (cell_at m r' c')
     where
-      go : (b : Bool) → In t (cond b (track bothWays (cell_number m r c) (cell_number m r' c') ∷ []) []) → (b ≡ true) × (t ≡ track bothWays (cell_number m r c) (cell_number m r' c'))
+      go : (b : Bool) → In t (cond b (track (cell_number m r c) (cell_number m r' c') ∷ []) []) → (b ≡ true) × (t ≡ track (cell_number m r c) (cell_number m r' c'))
       go true (inl e) = (refl, e)
       go true (inr h) = absurd h
       go false h = absurd h
@@ -78,29 +78,29 @@ module _ (m : List (List ℕ)) where
       let (c, _, k) = each_in t (length (get_or m r [])) (λ c. tracks_at m r c) i in
       (r, c, track_leaves r c t k)
 
-  track_laid : (r c r' c' : ℕ) → cell_at m r c ≡ true → cell_at m r' c' ≡ true → RightOrBelow r c r' c' → In (track bothWays (cell_number m r c) (cell_number m r' c')) (tracks_of m)
+  track_laid : (r c r' c' : ℕ) → cell_at m r c ≡ true → cell_at m r' c' ≡ true → RightOrBelow r c r' c' → In (track (cell_number m r c) (cell_number m r' c')) (tracks_of m)
   track_laid r c r' c' e f o =
-      let t = track bothWays (cell_number m r c) (cell_number m r' c') in
+      let t = track (cell_number m r c) (cell_number m r' c') in
       in_each t (length m) (λ r. each_below (length (get_or m r [])) (λ c. tracks_at m r c)) r (row_inside m r c e)
       (in_each t (length (get_or m r [])) (λ c. tracks_at m r c) c (column_inside (get_or m r []) c e) (rw e (go o)))
     where
-      to : In (track bothWays (cell_number m r c) (cell_number m r' c')) (track_to m r c r' c')
+      to : In (track (cell_number m r c) (cell_number m r' c')) (track_to m r c r' c')
       to = rw f (inl refl)
 
-      go : RightOrBelow r c r' c' → In (track bothWays (cell_number m r c) (cell_number m r' c')) (track_to m r c r (suc c) ++ track_to m r c (suc r) c)
+      go : RightOrBelow r c r' c' → In (track (cell_number m r c) (cell_number m r' c')) (track_to m r c r (suc c) ++ track_to m r c (suc r) c)
       go (inl (p, q)) = rw (p, q) (in_left _ (track_to m r c r (suc c)) (track_to m r c (suc r) c) (rw (p, q) at to))
       go (inr (p, q)) = rw (p, q) (in_right _ (track_to m r c r (suc c)) (track_to m r c (suc r) c) (rw (p, q) at to))
 
-  track_onward : (r c r' c' : ℕ) → cell_at m r c ≡ true → cell_at m r' c' ≡ true → (s : Sense) → In (track s (cell_number m r c) (cell_number m r' c')) (tracks_of m) → RightOrBelow r c r' c'
-  track_onward r c r' c' e f s h =
-      let (x, y, k) = track_cells (track s (cell_number m r c) (cell_number m r' c')) h in
+  track_onward : (r c r' c' : ℕ) → cell_at m r c ≡ true → cell_at m r' c' ≡ true → In (track (cell_number m r c) (cell_number m r' c')) (tracks_of m) → RightOrBelow r c r' c'
+  track_onward r c r' c' e f h =
+      let (x, y, k) = track_cells (track (cell_number m r c) (cell_number m r' c')) h in
       let (p, q) = number_once m r c x y e k.here (ap (λ t. t.from) k.ends) in
       let (p', q') = number_once m r' c' k.row k.column f k.there (ap (λ t. t.to) k.ends) in
       ⊎_elim (λ g. inl (omega arith, omega arith)) (λ g. inr (omega arith, omega arith)) k.onward
 
   pub joined_next : (r c r' c' : ℕ) → cell_at m r c ≡ true → cell_at m r' c' ≡ true → Arc (floor_job m) (cell_number m r c) (cell_number m r' c') → NextTo r c r' c'
-  joined_next r c r' c' e f (inl (s, h)) = next_on (track_onward r c r' c' e f s h)
-  joined_next r c r' c' e f (inr h) = next_back (track_onward r' c' r c f e bothWays h)
+  joined_next r c r' c' e f (inl h) = next_on (track_onward r c r' c' e f h)
+  joined_next r c r' c' e f (inr h) = next_back (track_onward r' c' r c f e h)
 
   pub next_joined : (r c r' c' : ℕ) → cell_at m r c ≡ true → cell_at m r' c' ≡ true → NextTo r c r' c' → Arc (floor_job m) (cell_number m r c) (cell_number m r' c')
-  next_joined r c r' c' e f n = ⊎_elim (λ o. inl (bothWays, track_laid r c r' c' e f o)) (λ o. inr (track_laid r' c' r c f e o)) (onward n)
+  next_joined r c r' c' e f n = ⊎_elim (λ o. inl (track_laid r c r' c' e f o)) (λ o. inr (track_laid r' c' r c f e o)) (onward n)

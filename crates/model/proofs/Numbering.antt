@@ -10,7 +10,7 @@ use native.Mathlib.Omega.{arith}
 use lib.ListN.{length, get_or, take, drop, length-append, take-append-drop}
 use lib.Seq.{take-nil, take-take, take-length}
 use Rattle.model.specs.Lists.{In, Lex, each_below}
-use Rattle.model.specs.Job.{bothWays, track}
+use Rattle.model.specs.Job.{track}
 use Rattle.model.specs.GridMap.{is_cell, cell_at, row_cells, map_cells, cell_number, track_to, tracks_at, tracks_of}
 use Rattle.model.proofs.Lists.{in_left, in_right, in_part}
 use Rattle.model.proofs.Decide.{dec-lt}
@@ -130,7 +130,7 @@ module _ {A : Type 0} (a : A) where
 track_to_few : (m : List (List ℕ)) (r c r' c' : ℕ) → length (track_to m r c r' c') ≤ 1
 track_to_few m r c r' c' = go (cell_at m r' c')
   where
-    go : (t : Bool) → length (cond t (track bothWays (cell_number m r c) (cell_number m r' c') ∷ []) []) ≤ 1
+    go : (t : Bool) → length (cond t (track (cell_number m r c) (cell_number m r' c') ∷ []) []) ≤ 1
     go true = omega arith
     go false = omega arith
 

@@ -88,30 +88,6 @@ moves =
     ∷ checks "FLOOR\t2\nTRACK\t0\t1\nCART\t0\nCART\t1\nCALL\t1\t1\nCALL\t0\t2\n" big "PLAN\t2\nPATH\t1\t0\t1\t1\nPATH\t0\t1\t0\t1\t0\n" 12
     ∷ []
 
-abbrev job_ring : String
-job_ring = "FLOOR\t3\nONEWAY\t0\t1\nONEWAY\t1\t2\nONEWAY\t2\t0\nCART\t0\nCART\t1\nCART\t2\nBAY\t0\t1\nBAY\t1\t1\nBAY\t2\t1\n"
-
--- ONEWAY lines stand among TRACK lines in any mixture, and nowhere else, and have two cells of the floor; the store's least length counts their tracks; no path goes against the sense, of
--- a spare cart neither, and a ring turns with the sense alone; a list that stops the walks with the sense is true, whatever walks there would be against it
-abbrev ramps : List Row
-ramps =
-    plans "FLOOR\t3\nONEWAY\t0\t1\nTRACK\t1\t2\nONEWAY\t2\t0\n" big big (wrote 0 "PLAN\t0\n")
-    ∷ plans "ONEWAY\t0\t1\n" big big (refuses 3 1)
-    ∷ plans "FLOOR\t2\nCART\t0\nONEWAY\t0\t1\n" big big (refuses 3 3)
-    ∷ plans "FLOOR\t2\nONEWAY\t0\n" big big (refuses 3 2)
-    ∷ plans "FLOOR\t2\nONEWAY\t0\tx\n" big big (refuses 4 2)
-    ∷ plans "FLOOR\t2\nONEWAY\t0\t2\n" big big (refuses 5 2)
-    ∷ plans "FLOOR\t2\nONEWAY\t0\t1e0\n" 4224 big (wrote 0 "PLAN\t0\n")
-    ∷ plans "FLOOR\t2\nONEWAY\t0\t1e0\n" 4223 big (refuses 9 0)
-    ∷ checks job_ring big "PLAN\t3\nPATH\t2\t0\t2\t0\nPATH\t0\t1\t0\t1\nPATH\t1\t2\t1\t2\n" 0
-    ∷ checks job_ring big "PLAN\t3\nPATH\t1\t0\t1\t0\nPATH\t2\t1\t2\t1\nPATH\t0\t2\t0\t2\n" 12
-    ∷ checks "FLOOR\t2\nONEWAY\t0\t1\nCART\t0\nCART\t1\nCALL\t1\t0\n" big "PLAN\t1\nPATH\t1\t0\t1\nSPARE\t0\t0\n" 0
-    ∷ checks "FLOOR\t3\nONEWAY\t0\t1\nCART\t1\nCART\t2\nCALL\t2\t1\n" big "PLAN\t1\nPATH\t1\t0\t2\t2\nSPARE\t0\t1\t0\n" 12
-    ∷ checks "FLOOR\t3\nONEWAY\t1\t0\nCART\t1\nCART\t2\nCALL\t2\t1\n" big "PLAN\t1\nPATH\t1\t0\t2\t2\nSPARE\t0\t1\t0\n" 0
-    ∷ checks "FLOOR\t2\nONEWAY\t1\t0\nCART\t0\nCALL\t1\t2\n" big "CANNOT\t0\n" 1
-    ∷ checks "FLOOR\t2\nONEWAY\t0\t1\nCART\t0\nCALL\t1\t2\n" big "CANNOT\t0\n" 12
-    ∷ []
-
 abbrev job_cross : String
 job_cross = "FLOOR\t3\nTRACK\t0\t1\nTRACK\t1\t2\nCART\t0\nCART\t1\nCALL\t1\t2\nCALL\t2\t2\n"
 
@@ -267,10 +243,6 @@ orders_hold x m = row_holds x (decided (all_in dec_row orders) tt x m)
 pub moves_hold : (x : Row) → In x moves → RowHolds x
 unfolding read_job read_sheet
 moves_hold x m = row_holds x (decided (all_in dec_row moves) tt x m)
-
-pub ramps_hold : (x : Row) → In x ramps → RowHolds x
-unfolding read_job read_sheet
-ramps_hold x m = row_holds x (decided (all_in dec_row ramps) tt x m)
 
 pub drawings_hold : (x : Row) → In x drawings → RowHolds x
 unfolding read_map

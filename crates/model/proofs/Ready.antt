@@ -14,19 +14,19 @@ use Rattle.model.specs.declared.answer.Answer.{Answer}
 use Rattle.model.specs.declared.answer.Answer.TheVariants.{TextTooLong, BadLine, Uneven}
 use Rattle.model.specs.Limits.{max_cells, max_tracks, max_carts, max_calls, max_steps, max_text}
 use Rattle.model.specs.Lists.{In, NoDup}
-use Rattle.model.specs.Job.{Job, bothWays, oneWay, Track, lift, bay, track, call}
+use Rattle.model.specs.Job.{Job, Track, lift, bay, track, call}
 use Rattle.model.specs.Ready.{SameEnds, Fit, Ready}
-use Rattle.model.specs.Text.{Lines, done, cut, more, lines_of, numbers_by, scaled_of, opens, after, floor_word, track_word, oneway_word, cart_word, call_word, bay_word}
-use Rattle.model.specs.ReadJob.{refused, accepted, Kind, floor_line, track_line, cart_line, call_line, no_job, member, leads, in_range, has_room}
+use Rattle.model.specs.Text.{Lines, done, cut, more, lines_of, numbers_by, scaled_of, opens, after, floor_word, track_word, cart_word, call_word, bay_word}
+use Rattle.model.specs.ReadJob.{refused, accepted, Kind, floorLine, trackLine, cartLine, call_line, no_job, member, leads, in_range, has_room}
 use Rattle.model.specs.ReadJob.{is_new, add, may_follow, field_count, Said, wrong, right, numbers_say, fields_say, line_says, go_on, lines_say, read_job}
 use Rattle.model.proofs.Basics.{nope, and_left, and_right}
 use Rattle.model.proofs.Lists.{in_get_or}
 
 -- The longest word of a kind of line.
 abbrev pub word_most : Kind → ℕ
-word_most floor_line = 5
-word_most (track_line s) = 6
-word_most cart_line = 4
+word_most floorLine = 5
+word_most trackLine = 5
+word_most cartLine = 4
 word_most (call_line k) = 4
 
 -- A line that is right passed its tests: a word opens it, as many fields as due follow, each is a number, and these pass too.
@@ -86,22 +86,20 @@ module _ (number : List ℕ → Option ℕ) (j j' : Job) (l : List ℕ) where
           }
 
   pub line_added : line_says number j l ≡ right j' → RightLine number j l j'
-  line_added e = go (opens floor_word l) refl (opens track_word l) refl (opens oneway_word l) refl (opens cart_word l) refl (opens call_word l) refl (opens bay_word l) refl e
+  line_added e = go (opens floor_word l) refl (opens track_word l) refl (opens cart_word l) refl (opens call_word l) refl (opens bay_word l) refl e
     where
       say : Kind → List ℕ → Said
       say k word = fields_say number j k (after word l)
 
-      go : (t : Bool) → opens floor_word l ≡ t → (u : Bool) → opens track_word l ≡ u → (r : Bool) → opens oneway_word l ≡ r → (v : Bool) → opens cart_word l ≡ v
-          → (w : Bool) → opens call_word l ≡ w → (x : Bool) → opens bay_word l ≡ x
-          → cond t (say floor_line floor_word) (cond u (say (track_line bothWays) track_word) (cond r (say (track_line oneWay) oneway_word) (cond v (say cart_line cart_word)
-          (cond w (say (call_line lift) call_word) (cond x (say (call_line bay) bay_word) (wrong BadLine)))))) ≡ right j' → RightLine number j l j'
-      go true o u _ r _ v _ w _ x _ e = fields_added floor_line floor_word o (omega arith) e
-      go false _ true o r _ v _ w _ x _ e = fields_added (track_line bothWays) track_word o (omega arith) e
-      go false _ false _ true o v _ w _ x _ e = fields_added (track_line oneWay) oneway_word o (omega arith) e
-      go false _ false _ false _ true o w _ x _ e = fields_added cart_line cart_word o (omega arith) e
-      go false _ false _ false _ false _ true o x _ e = fields_added (call_line lift) call_word o (omega arith) e
-      go false _ false _ false _ false _ false _ true o e = fields_added (call_line bay) bay_word o (omega arith) e
-      go false _ false _ false _ false _ false _ false _ e = nope (cc)
+      go : (t : Bool) → opens floor_word l ≡ t → (u : Bool) → opens track_word l ≡ u → (v : Bool) → opens cart_word l ≡ v → (w : Bool) → opens call_word l ≡ w
+          → (x : Bool) → opens bay_word l ≡ x → cond t (say floorLine floor_word) (cond u (say trackLine track_word) (cond v (say cartLine cart_word)
+          (cond w (say (call_line lift) call_word) (cond x (say (call_line bay) bay_word) (wrong BadLine))))) ≡ right j' → RightLine number j l j'
+      go true o u _ v _ w _ x _ e = fields_added floorLine floor_word o (omega arith) e
+      go false _ true o v _ w _ x _ e = fields_added trackLine track_word o (omega arith) e
+      go false _ false _ true o w _ x _ e = fields_added cartLine cart_word o (omega arith) e
+      go false _ false _ false _ true o x _ e = fields_added (call_line lift) call_word o (omega arith) e
+      go false _ false _ false _ false _ true o e = fields_added (call_line bay) bay_word o (omega arith) e
+      go false _ false _ false _ false _ false _ e = nope (cc)
 
 -- A member more, at the end.
 in_snoc : {A : Type 0} (a x : A) (l : List A) → In a (l ++ (x ∷ [])) → In a l ⊎ (a ≡ x)
@@ -148,23 +146,23 @@ or_right : (x y : Bool) → (x || y) ≡ false → y ≡ false
 or_right true y e = nope (cc)
 or_right false y e = e
 
-own_snoc : (ts : List Track) (t : Track) → leads t.from t.to ts ≡ false → leads t.to t.from ts ≡ false
-    → ((i k : ℕ) → i < k → k < length ts → SameEnds (get_or ts i (track bothWays 0 0)) (get_or ts k (track bothWays 0 0)) → ⊥)
-    → (i k : ℕ) → i < k → k < length (ts ++ (t ∷ [])) → SameEnds (get_or (ts ++ (t ∷ [])) i (track bothWays 0 0)) (get_or (ts ++ (t ∷ [])) k (track bothWays 0 0)) → ⊥
-own_snoc ts t e f own i k l m s = go (ltb k (length ts)) refl
+own_snoc : (ts : List Track) (a b : ℕ) → leads a b ts ≡ false → leads b a ts ≡ false
+    → ((i k : ℕ) → i < k → k < length ts → SameEnds (get_or ts i (track 0 0)) (get_or ts k (track 0 0)) → ⊥)
+    → (i k : ℕ) → i < k → k < length (ts ++ (track a b ∷ [])) → SameEnds (get_or (ts ++ (track a b ∷ [])) i (track 0 0)) (get_or (ts ++ (track a b ∷ [])) k (track 0 0)) → ⊥
+own_snoc ts a b e f own i k l m s = go (ltb k (length ts)) refl
   where
-    old : get_or (ts ++ (t ∷ [])) i (track bothWays 0 0) ≡ get_or ts i (track bothWays 0 0)
-    old = get_or-append ts (t ∷ []) (track bothWays 0 0) i (omega (arith, length-append ts (t ∷ [])))
+    old : get_or (ts ++ (track a b ∷ [])) i (track 0 0) ≡ get_or ts i (track 0 0)
+    old = get_or-append ts (track a b ∷ []) (track 0 0) i (omega (arith, length-append ts (track a b ∷ [])))
 
-    new : SameEnds (get_or ts i (track bothWays 0 0)) t → ⊥
-    new (inl p) = leads_in t.from t.to ts e (get_or ts i (track bothWays 0 0)) (in_get_or ts i (track bothWays 0 0) (omega (arith, length-append ts (t ∷ [])))) p
-    new (inr p) = leads_in t.to t.from ts f (get_or ts i (track bothWays 0 0)) (in_get_or ts i (track bothWays 0 0) (omega (arith, length-append ts (t ∷ [])))) p
+    new : SameEnds (get_or ts i (track 0 0)) (track a b) → ⊥
+    new (inl p) = leads_in a b ts e (get_or ts i (track 0 0)) (in_get_or ts i (track 0 0) (omega (arith, length-append ts (track a b ∷ [])))) p
+    new (inr p) = leads_in b a ts f (get_or ts i (track 0 0)) (in_get_or ts i (track 0 0) (omega (arith, length-append ts (track a b ∷ [])))) p
 
-    go : (b : Bool) → ltb k (length ts) ≡ b → ⊥
-    go true q = own i k l (ltb-true k (length ts) q) (rw (old, get_or-append ts (t ∷ []) (track bothWays 0 0) k (ltb-true k (length ts) q)) at s)
+    go : (t : Bool) → ltb k (length ts) ≡ t → ⊥
+    go true q = own i k l (ltb-true k (length ts) q) (rw (old, get_or-append ts (track a b ∷ []) (track 0 0) k (ltb-true k (length ts) q)) at s)
     go false q =
-        let z : k ≡ length ts = omega (arith, ltb-false k (length ts) q, length-append ts (t ∷ [])) in
-        new (rw (old, z, get_or-append_seam ts t [] (track bothWays 0 0)) at s)
+        let z : k ≡ length ts = omega (arith, ltb-false k (length ts) q, length-append ts (track a b ∷ [])) in
+        new (rw (old, z, get_or-append_seam ts (track a b) [] (track 0 0)) at s)
 
 pub no_fit : Fit no_job
 no_fit = record {
@@ -187,7 +185,7 @@ module _ (j : Job) (f : Fit j) (a b : ℕ) where
   no_cell e n h = absurd (omega (arith, eqb-true j.cells 0 e))
 
   add_fit : (k : Kind) → may_follow j k ≡ true → in_range j k a b ≡ true → has_room j k ≡ true → is_new j k a b ≡ true → Fit (add j k a b)
-  add_fit floor_line m r h n = record {
+  add_fit floorLine m r h n = record {
     few_cells = leb-true a max_cells (and_right (ltb 0 a) (leb a max_cells) r);
     few_tracks = f.few_tracks;
     few_carts = f.few_carts;
@@ -200,17 +198,17 @@ module _ (j : Job) (f : Fit j) (a b : ℕ) where
     own_cells = f.own_cells;
     own_targets = f.own_targets;
   }
-  add_fit (track_line s) m r h n = record {
+  add_fit trackLine m r h n = record {
     few_cells = f.few_cells;
     few_carts = f.few_carts;
     few_calls = f.few_calls;
-    few_tracks = omega (arith, length-append j.tracks (track s a b ∷ []), ltb-true (length j.tracks) max_tracks h);
-    known_tracks = all_snoc j.tracks (track s a b) f.known_tracks
+    few_tracks = omega (arith, length-append j.tracks (track a b ∷ []), ltb-true (length j.tracks) max_tracks h);
+    known_tracks = all_snoc j.tracks (track a b) f.known_tracks
         (ltb-true a j.cells (and_left (ltb a j.cells) (ltb b j.cells) r), ltb-true b j.cells (and_right (ltb a j.cells) (ltb b j.cells) r));
     known_carts = f.known_carts;
     known_calls = f.known_calls;
-    no_loop = all_snoc j.tracks (track s a b) f.no_loop (eqb-false a b (or_left (eqb a b) (leads a b j.tracks) fresh));
-    own_tracks = own_snoc j.tracks (track s a b) (or_right (eqb a b) (leads a b j.tracks) fresh) (or_right (eqb a b || leads a b j.tracks) (leads b a j.tracks) unseen) f.own_tracks;
+    no_loop = all_snoc j.tracks (track a b) f.no_loop (eqb-false a b (or_left (eqb a b) (leads a b j.tracks) fresh));
+    own_tracks = own_snoc j.tracks a b (or_right (eqb a b) (leads a b j.tracks) fresh) (or_right (eqb a b || leads a b j.tracks) (leads b a j.tracks) unseen) f.own_tracks;
     own_cells = f.own_cells;
     own_targets = f.own_targets;
   }
@@ -220,7 +218,7 @@ module _ (j : Job) (f : Fit j) (a b : ℕ) where
 
       fresh : (eqb a b || leads a b j.tracks) ≡ false
       fresh = or_left (eqb a b || leads a b j.tracks) (leads b a j.tracks) unseen
-  add_fit cart_line m r h n = record {
+  add_fit cartLine m r h n = record {
     few_cells = f.few_cells;
     few_tracks = f.few_tracks;
     few_calls = f.few_calls;

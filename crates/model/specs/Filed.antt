@@ -104,13 +104,6 @@ job_shut = "FLOOR\t4\nTRACK\t0\t1\nTRACK\t1\t2\nCART\t0\nCART\t1\nCART\t3\nBAY\t
 abbrev pub job_spares : String
 job_spares = "FLOOR\t2\nCART\t1\nCART\t0\n"
 
--- job A with a ramp from cell 0 up to cell 1, and with one from cell 1 down to cell 0, which the cart on cell 0 cannot go up
-abbrev pub job_ramp : String
-job_ramp = "FLOOR\t3\nONEWAY\t0\t1\nTRACK\t1\t2\nCART\t0\nCART\t1\nCALL\t2\t1\nCALL\t1\t1\n"
-
-abbrev pub job_turned : String
-job_turned = "FLOOR\t3\nONEWAY\t1\t0\nTRACK\t1\t2\nCART\t0\nCART\t1\nCALL\t2\t1\nCALL\t1\t1\n"
-
 abbrev pub map_of_four : String
 map_of_four = "type octile\nheight 2\nwidth 2\nmap\n..\nGG\n"
 
@@ -171,15 +164,6 @@ filed =
     ∷ checks job_spares big "PLAN\t0\nSPARE\t1\t0\nSPARE\t0\t1\n" 12
     ∷ checks job_spare big "PLAN\t1\nPATH\t0\t0\t0\t0\nSPARE\t1\t1\n" (11 + 256 * 3)
     ∷ checks job_spare big "PLAN\t1\nPATH\t0\t0\t0\t0\n" (11 + 256 * 3)
-    ∷ plans job_ramp big big (wrote 0 "PLAN\t2\nPATH\t0\t1\t0\t1\nPATH\t1\t0\t1\t2\n")
-    ∷ plans job_turned big big (wrote 1 "CANNOT\t1\nCHOKE\t1\t0\n")
-    ∷ checks job_turned big "PLAN\t2\nPATH\t0\t1\t0\t1\nPATH\t1\t0\t1\t2\n" 12
-    ∷ checks job_ramp big "CANNOT\t1\nCHOKE\t1\t0\n" 12
-    ∷ plans "FLOOR\t2\nTRACK\t0\t1\nONEWAY\t0\t1\n" big big (refuses 7 3)
-    ∷ plans "FLOOR\t2\nTRACK\t0\t1\nONEWAY\t1\t0\n" big big (refuses 7 3)
-    ∷ plans "FLOOR\t2\nONEWAY\t0\t1\nTRACK\t1\t0\n" big big (refuses 7 3)
-    ∷ plans "FLOOR\t2\nONEWAY\t0\t1\nONEWAY\t1\t0\n" big big (refuses 7 3)
-    ∷ plans "FLOOR\t1\nONEWAY\t0\t0\n" big big (refuses 7 2)
     ∷ maps "type octile\nheight 1\nwidth 1\nmap\n.\n" big (wrote 0 "FLOOR\t1\n")
     ∷ maps map_of_four big (wrote 0 floor_of_four)
     ∷ maps map_of_four 48 (wrote 0 floor_of_four)

@@ -5,7 +5,7 @@ use Rattle.model.specs.Bytes.{bytes}
 use Rattle.model.specs.Limits.{max_cells, max_side}
 use Rattle.model.specs.Lists.{each_below}
 use Rattle.model.specs.declared.answer.Answer.TheVariants.{SheetTooShort, BadMap, NoFloor}
-use Rattle.model.specs.Job.{Job, bothWays, Track, track}
+use Rattle.model.specs.Job.{Job, Track, track}
 use Rattle.model.specs.Text.{lines_of, starts_with, number_of, line, floor_word, track_word}
 use Rattle.model.specs.SheetText.{lines_text}
 use Rattle.model.specs.FirstBad.{line_due, rest_says}
@@ -71,7 +71,7 @@ cell_number m r c = map_cells (take r m) + row_cells (take c (get_or m r []))
 
 -- The track from a cell to another place, if that is a cell.
 abbrev pub track_to : List (List ℕ) → ℕ → ℕ → ℕ → ℕ → List Track
-track_to m r c r' c' = cond (cell_at m r' c') (track bothWays (cell_number m r c) (cell_number m r' c') ∷ []) []
+track_to m r c r' c' = cond (cell_at m r' c') (track (cell_number m r c) (cell_number m r' c') ∷ []) []
 
 -- The tracks that a place has: if it is a cell, to the right, then below.
 abbrev pub tracks_at : List (List ℕ) → ℕ → ℕ → List Track

@@ -1,13 +1,8 @@
 -- A job: a floor, and the carts and calls on it. Cells, tracks, carts and calls are numbered from 0.
 use Rattle.std.specs.Prelude.{ℕ, ◌+◌, ◌*◌, max, List, [], ◌∷◌, length, get_or}
 
--- Along a track carts go both ways, or from its first cell to its second only.
-pub data Sense : Type 0 where
-  bothWays oneWay : Sense
-
--- a track's sense, and the two cells that it joins, in the order of its line
+-- the two cells that a track joins, in the order of its line
 pub record Track : Type 0 where
-  pub sense : Sense
   pub from : ℕ
   pub to : ℕ
 
@@ -28,14 +23,14 @@ pub record Job : Type 0 where
   pub carts : List ℕ
   pub calls : List Call
 
-abbrev pub track : Sense → ℕ → ℕ → Track
-track s u v = record { sense = s; from = u; to = v }
+abbrev pub track : ℕ → ℕ → Track
+track u v = record { from = u; to = v }
 
 abbrev pub call : CallKind → ℕ → ℕ → Call
 call k v t = record { kind = k; cell = v; deadline = t }
 
 abbrev pub track_of : Job → ℕ → Track
-track_of j k = get_or j.tracks k (track bothWays 0 0)
+track_of j k = get_or j.tracks k (track 0 0)
 
 abbrev pub cart_cell : Job → ℕ → ℕ
 cart_cell j k = get_or j.carts k 0

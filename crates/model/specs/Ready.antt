@@ -4,7 +4,7 @@ use Rattle.model.specs.Limits.{max_cells, max_tracks, max_carts, max_calls, max_
 use Rattle.model.specs.Lists.{In, NoDup}
 use Rattle.model.specs.Job.{Job, Track, Call, track_of}
 
--- the two tracks join the same cells, either way round, whatever their senses
+-- the two tracks join the same cells, either way round
 abbrev pub SameEnds : Track → Track → Type 0
 SameEnds s t = ((s.from ≡ t.from) × (s.to ≡ t.to)) ⊎ ((s.from ≡ t.to) × (s.to ≡ t.from))
 

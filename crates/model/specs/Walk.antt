@@ -1,11 +1,11 @@
 -- A walk is the list of its cells, from step 0 on.
 use Rattle.std.specs.Prelude.{ℕ, suc, ◌<◌, ◌≤◌, ◌≡◌, List, ◌⊎◌, length, get_or}
 use Rattle.model.specs.Lists.{In}
-use Rattle.model.specs.Job.{Job, Sense, bothWays, Call, CallKind, lift, bay, track}
+use Rattle.model.specs.Job.{Job, Call, CallKind, lift, bay, track}
 
--- A track leads from its first cell to its second, and back where it runs both ways.
+-- A track joins its cells both ways.
 abbrev pub Arc : Job → ℕ → ℕ → Type 0
-Arc j u v = ((s : Sense) × In (track s u v) j.tracks) ⊎ In (track bothWays v u) j.tracks
+Arc j u v = In (track u v) j.tracks ⊎ In (track v u) j.tracks
 
 -- The cell v is open at the step t: no bay on it has an earlier step.
 abbrev pub Open : Job → ℕ → ℕ → Type 0

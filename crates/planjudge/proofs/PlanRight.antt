@@ -141,7 +141,7 @@ module _ {s : Job} {carts calls lasts rows : List ℕ} (g : Given s carts calls 
       no_trade = no_pair Trade one_trade;
     }
 
-  pub tests_right : {table shut : List ℕ} (h : ℕ) → Marks s.senses s.from s.to s.tracks table → Shut (job_of s) shut → horizon (job_of s) ≤ h
+  pub tests_right : {table shut : List ℕ} (h : ℕ) → Marks s.from s.to s.tracks table → Shut (job_of s) shut → horizon (job_of s) ≤ h
       → Ordered s.targets s.deadlines calls s.calls → SparesRise carts s.calls s.carts → AllLed table shut rows lasts carts s.starts calls s.targets s.calls
       → AllStay table shut rows lasts carts s.starts s.calls s.carts → ((t : ℕ) → t ≤ h → Clear lasts rows s.carts t) → RightPlan (job_of s) Ps Ss
   tests_right h marks shuts late order rise led stayed clear = (

@@ -1,9 +1,9 @@
 -- What each turn of the loops of `plan` keeps, over plain lists and numbers. Assumes nothing.
 use Prim.Native.Nat.{ℕ, zero, suc, ◌+◌, ◌*◌, ◌≤◌, ◌<◌}
-use mathlib.Core.Path.{◌≡◌, refl, sym, ◌∙◌, ap}
+use mathlib.Core.Path.{◌≡◌, sym, ◌∙◌, ap}
 use mathlib.Core.List.{List}
-use mathlib.Core.Logic.{◌⊎◌, inl, inr, ⊎_elim}
-use mathlib.Core.Bool.{Bool, true, false, false≢true}
+use mathlib.Core.Logic.{inl, inr, ◌⊎◌, ⊎_elim}
+use mathlib.Core.Bool.{true, false, false≢true}
 use native.Mathlib.Omega.{arith}
 use native.Mathlib.Numerals.{add-one}
 use lib.ListN.{length, get_or, set}
@@ -12,12 +12,11 @@ use borrow.Author.Count.{below_more}
 use Rattle.model.specs.Limits.{max_cells, max_carts}
 use Rattle.model.proofs.Decide.{dec_eq}
 use Rattle.model.proofs.Lex.{lex_on, lex_apart}
-use Rattle.floor.specs.Made.{runs_back, TrackLeads}
 use Rattle.floor.specs.Order.{SoonerIn}
-use Rattle.job.specs.Bits.{bit_at}
-use Rattle.job.specs.Held.{Some}
-use Rattle.job.proofs.BitLaws.{bit_set, bit_other, bits_length_if}
-use Rattle.planjudge.specs.PlanTests.{cell_of, Ordered, arc_at, with_arc, Marks, Goes, Unshared, Trades, Standing}
+use Rattle.job.specs.Bits.{bit_at, with_bit, pairs_below, pair_at}
+use Rattle.job.proofs.BitLaws.{bit_set, bit_other, bits_length}
+use Rattle.job.proofs.Triangle.{pair_small, pair_same}
+use Rattle.planjudge.specs.PlanTests.{cell_of, Ordered, PairIn, Marks, Goes, Unshared, Trades, Standing}
 
 -- what holds of two numbers holds of those that they are equal to
 pub at_both : (F : ℕ → ℕ → Type 0) {x y p q : ℕ} → x ≡ p → y ≡ q → F x y → F p q
@@ -43,70 +42,57 @@ module _ (targets deadlines calls : List ℕ) where
   pub other_call : (n : ℕ) → Ordered targets deadlines calls n → (i k : ℕ) → i < k → k < n → get_or calls i 0 ≡ get_or calls k 0 → ⊥
   other_call n o i k a b e = lex_apart (path_before_all n o k i a b) (ap (λ q. get_or deadlines q 0) e) (ap (λ q. get_or targets q 0) e)
 
--- Tracks. Each two cells in their order have a bit of their own.
-arc_same : {a b u v : ℕ} → b < max_cells → v < max_cells → arc_at a b ≡ arc_at u v → (a ≡ u) × (b ≡ v)
-arc_same h l e = (omega arith, omega arith)
-
--- Bit x of a table was set if P, and else is as it was.
-data AfterMark (P : Type 0) (table table' : List ℕ) (x : ℕ) : Type 0 where
-  new : P → bit_at table' x ≡ true → AfterMark P table table' x
-  old : (P → ⊥) → bit_at table' x ≡ bit_at table x → AfterMark P table table' x
-
-module _ (leads : Bool) (table : List ℕ) (a b : ℕ) {table' : List ℕ} (made : table' ≡ with_arc leads table a b) (size : 8 * length table ≡ max_cells * max_cells) where
-  pub arc_size : 8 * length table' ≡ max_cells * max_cells
-  arc_size = ap (λ l. 8 * length l) made ∙ ap (λ n. 8 * n) (bits_length_if leads table (arc_at a b)) ∙ size
-
-  after_arc : a < max_cells → b < max_cells → (u v : ℕ) → v < max_cells → AfterMark ((leads ≡ true) × ((a ≡ u) × (b ≡ v))) table table' (arc_at u v)
-  after_arc x y u v l = rw made (go leads (dec_eq (arc_at u v) (arc_at a b)))
-    where
-      inside : arc_at a b < 8 * length table
-      inside = omega arith
-
-      go : (t : Bool) → Dec (arc_at u v ≡ arc_at a b) → AfterMark ((t ≡ true) × ((a ≡ u) × (b ≡ v))) table (with_arc t table a b) (arc_at u v)
-      go true (yes e) = new (refl, arc_same y l (sym e)) (rw e (bit_set table (arc_at a b) inside))
-      go true (no n) = old (λ (z, (p, q)). n (rw (p, q))) (bit_other table (arc_at a b) inside (arc_at u v) n)
-      go false d = old (λ (z, h). false≢true z) refl
-
-module _ (senses from to : List ℕ) where
-  pub marks_none : (table : List ℕ) → ((x : ℕ) → bit_at table x ≡ false) → Marks senses from to 0 table
+-- Tracks.
+module _ (from to : List ℕ) where
+  pub marks_none : (table : List ℕ) → ((x : ℕ) → bit_at table x ≡ false) → Marks from to 0 table
   marks_none table z = record {
     all = λ u v a b w. absurd (omega (arith, w.1));
-    only = λ u v a b e. absurd (false≢true (sym (z (arc_at u v)) ∙ e));
+    only = λ u v a b e. absurd (false≢true (sym (z (pair_at u v)) ∙ e));
   }
 
-  -- Track i was marked, from a to b, and back if it leads so.
-  module _ (i : ℕ) {a b : ℕ} {back : Bool} (e : a ≡ get_or from i 0) (f : b ≡ get_or to i 0) (g : back ≡ runs_back senses i) (x : a < max_cells) (y : b < max_cells)
-      {table half whole : List ℕ} (made : half ≡ with_arc true table a b) (made' : whole ≡ with_arc back half b a) (size : 8 * length table ≡ max_cells * max_cells)
-      (m : Marks senses from to i table) where
-    after_track : (u v : ℕ) → v < max_cells → AfterMark (TrackLeads senses from to u v i) table whole (arc_at u v)
-    after_track u v l = rw (← e, ← f, ← g) (go (after_arc true table a b made size x y u v l) (after_arc back half b a made' (arc_size true table a b made size) y x u v l))
-      where
-        go : AfterMark ((true ≡ true) × ((a ≡ u) × (b ≡ v))) table half (arc_at u v) → AfterMark ((back ≡ true) × ((b ≡ u) × (a ≡ v))) half whole (arc_at u v)
-            → AfterMark (((a ≡ u) × (b ≡ v)) ⊎ ((back ≡ true) × ((a ≡ v) × (b ≡ u)))) table whole (arc_at u v)
-        go t (new (z, (p, q)) w) = new (inr (z, (q, p))) w
-        go (new (z, h) o) (old n w) = new (inl h) (w ∙ o)
-        go (old n o) (old n' w) = old (⊎_elim (λ h. n (refl, h)) (λ (z, (p, q)). n' (z, (q, p)))) (w ∙ o)
+  module _ (i : ℕ) (table : List ℕ) (size : 8 * length table ≡ pairs_below max_cells) (a : get_or from i 0 < max_cells) (b : get_or to i 0 < max_cells) (m : Marks from to i table) where
+    abbrev at : ℕ
+    at = pair_at (get_or from i 0) (get_or to i 0)
 
-    more_all : (u v : ℕ) → u < max_cells → v < max_cells → Some (i + 1) (TrackLeads senses from to u v) → bit_at whole (arc_at u v) ≡ true
-    more_all u v c d (k, h, l) = go (after_track u v d) (dec_eq k i)
-      where
-        go : AfterMark (TrackLeads senses from to u v i) table whole (arc_at u v) → Dec (k ≡ i) → bit_at whole (arc_at u v) ≡ true
-        go (new p w) q = w
-        go (old n w) (yes q) = absurd (n (rw q at l))
-        go (old n w) (no q) = w ∙ m.all u v c d (k, omega arith, l)
+    inside : at < 8 * length table
+    inside = rw size (pair_small (get_or from i 0) (get_or to i 0) a b)
 
-    more_only : (u v : ℕ) → u < max_cells → v < max_cells → bit_at whole (arc_at u v) ≡ true → Some (i + 1) (TrackLeads senses from to u v)
-    more_only u v c d t = go (after_track u v d)
-      where
-        go : AfterMark (TrackLeads senses from to u v i) table whole (arc_at u v) → Some (i + 1) (TrackLeads senses from to u v)
-        go (new p w) = (i, omega arith, p)
-        go (old n w) = let (k, h, l) = m.only u v c d (sym w ∙ t) in (k, omega arith, l)
+    older : (u v : ℕ) → PairIn from to i u v → PairIn from to (i + 1) u v
+    older u v (x, h, f, g) = (x, omega arith, f, g)
 
-    pub marks_more : Marks senses from to (i + 1) whole
+    more_all : (u v : ℕ) → u < max_cells → v < max_cells → PairIn from to (i + 1) u v → bit_at (with_bit table at) (pair_at u v) ≡ true
+    more_all u v c d (x, h, e, f) = go (dec_eq (pair_at u v) at)
+      where
+        go : Dec (pair_at u v ≡ at) → bit_at (with_bit table at) (pair_at u v) ≡ true
+        go (yes q) = rw q (bit_set table at inside)
+        go (no n) = bit_other table at inside (pair_at u v) n ∙ m.all u v c d (x, earlier (dec_eq x i), e, f)
+          where
+            earlier : Dec (x ≡ i) → x < i
+            earlier (yes q) = absurd (n (rw (sym (rw q at e), sym (rw q at f))))
+            earlier (no k) = omega arith
+
+    more_only : (u v : ℕ) → u < max_cells → v < max_cells → bit_at (with_bit table at) (pair_at u v) ≡ true → PairIn from to (i + 1) u v ⊎ PairIn from to (i + 1) v u
+    more_only u v c d e = go (dec_eq (pair_at u v) at)
+      where
+        here : ((u ≡ get_or from i 0) × (v ≡ get_or to i 0)) ⊎ ((v ≡ get_or from i 0) × (u ≡ get_or to i 0)) → PairIn from to (i + 1) u v ⊎ PairIn from to (i + 1) v u
+        here (inl (p, q)) = inl (i, omega arith, sym p, sym q)
+        here (inr (p, q)) = inr (i, omega arith, sym p, sym q)
+
+        go : Dec (pair_at u v ≡ at) → PairIn from to (i + 1) u v ⊎ PairIn from to (i + 1) v u
+        go (yes q) = here (pair_same u v (get_or from i 0) (get_or to i 0) q)
+        go (no n) = ⊎_elim (λ l. inl (older u v l)) (λ l. inr (older v u l)) (m.only u v c d (sym (bit_other table at inside (pair_at u v) n) ∙ e))
+
+    pub marks_more : Marks from to (i + 1) (with_bit table at)
     marks_more = record { all = more_all; only = more_only }
 
+-- The same, of what the code has in locals.
+pub marks_turn : (from to : List ℕ) (i : ℕ) (table : List ℕ) {table' : List ℕ} {u v p : ℕ} → u ≡ get_or from i 0 → v ≡ get_or to i 0 → p ≡ pair_at u v → table' ≡ with_bit table p
+    → u < max_cells → v < max_cells → 8 * length table ≡ pairs_below max_cells → Marks from to i table → (8 * length table' ≡ pairs_below max_cells) × Marks from to (i + 1) table'
+marks_turn from to i table e f g h b d long m =
+    (ap (λ n. 8 * n) (ap length h ∙ bits_length table _) ∙ long, rw (h, g, e, f) (marks_more from to i table long (omega arith) (omega arith) m))
+
 -- Steps by the table: what is not the same cell is marked.
-pub no_go : (table : List ℕ) (u v : ℕ) → (u ≡ v → ⊥) → Goes table u v → bit_at table (arc_at u v) ≡ true
+pub no_go : (table : List ℕ) (u v : ℕ) → (u ≡ v → ⊥) → Goes table u v → bit_at table (pair_at u v) ≡ true
 no_go table u v a (inl e) = absurd (a e)
 no_go table u v a (inr e) = e
 

@@ -8,21 +8,28 @@ use native.Mathlib.Omega.{arith}
 use lib.ListN.{length, get_or}
 use Rattle.model.specs.Lists.{In}
 use Rattle.model.specs.Limits.{max_cells, max_steps}
-use Rattle.model.specs.Job.{cart_cell, call_of}
+use Rattle.model.specs.Job.{track, cart_cell, call_of}
 use Rattle.model.specs.Walk.{Move, Step, Walk}
 use Rattle.model.specs.Plan.{Path, Ride, Leads, StaysOn}
 use Rattle.model.proofs.Decide.{dec_le}
+use Rattle.model.proofs.Decisions.{track_eq, track_parts}
 use Rattle.job.specs.Arrays.{job_of}
 use Rattle.job.specs.declared.state.Job.{Job}
 use Rattle.job.specs.Held.{path_at, paths_to, ride_at, spares_from}
-use Rattle.job.proofs.Arrays.{call-at, cart_at}
+use Rattle.job.proofs.Triangle.{pair_back}
+use Rattle.job.proofs.Arrays.{call-at, cart_at, in_tracks}
 use Rattle.floor.specs.Tables.{Shut}
-use Rattle.floor.proofs.JobTables.{leads_move, move_leads}
-use Rattle.planjudge.specs.PlanTests.{cell_of, Marks, Goes, Allowed, Walks, AllLed, AllStay}
+use Rattle.planjudge.specs.PlanTests.{cell_of, PairIn, Marks, Goes, Allowed, Walks, AllLed, AllStay}
 use Rattle.planjudge.proofs.PlanLines.{Given, enough, in_paths, paths_in, in_spares, spares_in, ranged, ranged_spare, known_call, known_cart, long, line_at, line_next, line_end, small}
 
-module _ {s : Job} {carts calls lasts rows table shut : List ℕ} (g : Given s carts calls lasts rows) (marks : Marks s.senses s.from s.to s.tracks table)
-    (shuts : Shut (job_of s) shut) where
+track_listed : (s : Job) (u v : ℕ) → In (track u v) (job_of s).tracks → PairIn s.from s.to s.tracks u v
+track_listed s u v h =
+    let (i, l, e) = (in_tracks s (track u v)).0 h in (i, l, sym (track_parts e).0, sym (track_parts e).1)
+
+listed_track : (s : Job) (u v : ℕ) → PairIn s.from s.to s.tracks u v → In (track u v) (job_of s).tracks
+listed_track s u v (i, l, e, f) = (in_tracks s (track u v)).1 (i, l, track_eq (sym e, sym f))
+
+module _ {s : Job} {carts calls lasts rows table shut : List ℕ} (g : Given s carts calls lasts rows) (marks : Marks s.from s.to s.tracks table) (shuts : Shut (job_of s) shut) where
   abbrev P : ℕ → Path
   P = path_at carts calls lasts rows
 
@@ -36,10 +43,13 @@ module _ {s : Job} {carts calls lasts rows table shut : List ℕ} (g : Given s c
   Ss = spares_from carts lasts rows (length (job_of s).calls) (length (job_of s).carts - length (job_of s).calls)
 
   goes : (u v : ℕ) → u < max_cells → v < max_cells → Move (job_of s) u v → Goes table u v
-  goes u v a b m = ⊎_elim inl (λ l. inr (marks.all u v a b l)) (move_leads s v u m)
+  goes u v a b (inl e) = inl e
+  goes u v a b (inr (inl x)) = inr (marks.all u v a b (track_listed s u v x))
+  goes u v a b (inr (inr x)) = inr (rw (pair_back u v) (marks.all v u b a (track_listed s v u x)))
 
   move : (u v : ℕ) → u < max_cells → v < max_cells → Goes table u v → Move (job_of s) u v
-  move u v a b w = leads_move s v u (⊎_elim inl (λ x. inr (marks.only u v a b x)) w)
+  move u v a b (inl e) = inl e
+  move u v a b (inr x) = inr (⊎_elim (λ l. inl (listed_track s u v l)) (λ l. inr (listed_track s v u l)) (marks.only u v a b x))
 
   -- A step of line k, by the job and by the tables.
   module _ (k t : ℕ) (h : k < s.carts) (b : t < get_or lasts k 0) where

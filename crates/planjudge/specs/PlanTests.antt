@@ -1,9 +1,7 @@
 -- What the tests of a plan decide, by the numbers of its lines. Line k has its cart at k of `carts`, and its cells in row k of `rows`, up to the step that `lasts` has at k. Lines of paths
 -- have a call too; behind them stand those of the spare carts.
-use Rattle.std.specs.Prelude.{ℕ, ◌+◌, ◌*◌, ◌≤◌, ◌<◌, ◌≡◌, List, ◌⊎◌, Bool, true, cond, get_or, length}
-use Rattle.job.specs.Bits.{bit_at, with_bit_if}
-use Rattle.job.specs.Held.{Some}
-use Rattle.floor.specs.Made.{TrackLeads}
+use Rattle.std.specs.Prelude.{ℕ, ◌+◌, ◌*◌, ◌≤◌, ◌<◌, ◌≡◌, List, ◌⊎◌, true, get_or, length}
+use Rattle.job.specs.Bits.{bit_at, pair_at}
 use Rattle.floor.specs.Tables.{OpenAt}
 use Rattle.floor.specs.Order.{SoonerIn}
 use Rattle.model.specs.Limits.{max_cells, max_carts, max_steps}
@@ -30,22 +28,18 @@ Ordered targets deadlines calls n = (k : ℕ) → k + 1 < n → SoonerIn targets
 abbrev pub SparesRise : List ℕ → ℕ → ℕ → Type 0
 SparesRise carts paths lines = (k : ℕ) → paths ≤ k → k + 1 < lines → get_or carts k 0 < get_or carts (k + 1) 0
 
--- the place of the bit for a track from u to v
-abbrev pub arc_at : ℕ → ℕ → ℕ
-arc_at u v = u * max_cells + v
+-- One of the first n pairs of the two lists is u and v.
+abbrev pub PairIn : List ℕ → List ℕ → ℕ → ℕ → ℕ → Type 0
+PairIn from to n u v = (i : ℕ) × (i < n) × (get_or from i 0 ≡ u) × (get_or to i 0 ≡ v)
 
--- the table with that bit set, if a track leads so
-abbrev pub with_arc : Bool → List ℕ → ℕ → ℕ → List ℕ
-with_arc leads table u v = with_bit_if leads table (arc_at u v)
-
--- The table's bit is set where one of the first n tracks leads, and nowhere else.
-pub record Marks (senses from to : List ℕ) (n : ℕ) (table : List ℕ) : Type 0 where
-  pub all : (u v : ℕ) → u < max_cells → v < max_cells → Some n (TrackLeads senses from to u v) → bit_at table (arc_at u v) ≡ true
-  pub only : (u v : ℕ) → u < max_cells → v < max_cells → bit_at table (arc_at u v) ≡ true → Some n (TrackLeads senses from to u v)
+-- The table's bit is set for each of the first n pairs, either way round, and for no other.
+pub record Marks (from to : List ℕ) (n : ℕ) (table : List ℕ) : Type 0 where
+  pub all : (u v : ℕ) → u < max_cells → v < max_cells → PairIn from to n u v → bit_at table (pair_at u v) ≡ true
+  pub only : (u v : ℕ) → u < max_cells → v < max_cells → bit_at table (pair_at u v) ≡ true → PairIn from to n u v ⊎ PairIn from to n v u
 
 -- By the table, a cart may go from u to v in a step.
 abbrev pub Goes : List ℕ → ℕ → ℕ → Type 0
-Goes table u v = (u ≡ v) ⊎ (bit_at table (arc_at u v) ≡ true)
+Goes table u v = (u ≡ v) ⊎ (bit_at table (pair_at u v) ≡ true)
 
 -- By the tables, it may do so from the step t to the next: `shut` has for each cell the first step at which it is closed.
 abbrev pub Allowed : List ℕ → List ℕ → ℕ → ℕ → ℕ → Type 0

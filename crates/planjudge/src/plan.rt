@@ -7,14 +7,14 @@ ghost use Rattle.model.specs.Plan.{Path, Ride};
 ghost use Rattle.model.specs.Ready.{Ready};
 ghost use Rattle.model.specs.ReadSheet.{known_path, known_spare};
 ghost use Rattle.model.specs.Promises.{RightPlan};
-ghost use Rattle.job.specs.Bits.{bit_at};
+ghost use Rattle.job.specs.Bits.{bit_at, pairs_below};
 ghost use Rattle.job.specs.Arrays.{job_of, Sized};
 ghost use Rattle.job.specs.Held.{Room, paths_to, spares_from, Decides};
-ghost use Rattle.planjudge.specs.PlanTests.{cell_of, Fits, Below, Ordered, SparesRise, arc_at, with_arc, Marks, Goes, Allowed, Walks, Led, AllLed, AllStay, Unshared, Trades, Untraded, Clear, Standing};
+ghost use Rattle.planjudge.specs.PlanTests.{cell_of, Fits, Below, Ordered, SparesRise, Marks, Goes, Allowed, Walks, Led, AllLed, AllStay, Unshared, Trades, Untraded, Clear, Standing};
 
 use floor::order::sooner;
-use floor::tables::runs_back;
 use job::bits;
+use job::bits::pair;
 use job::state::Job;
 use model::Limits;
 use model::bytes::wide;
@@ -22,8 +22,8 @@ use model::bytes::wide;
 // In the place of a line's number: no line.
 const NONE: u8 = Limits::CARTS as u8;
 
-// The table has a bit for each cell and each cell that a track could lead to from there.
-const ARCS: usize = Limits::CELLS * Limits::CELLS;
+// The table has a bit for each two cells, a cell with itself too.
+const PAIRS: usize = Limits::CELLS * (Limits::CELLS + 1) / 2;
 
 // The cell of line k at the step t.
 fn cell(rows: &[u8], k: usize, t: usize) -> usize
@@ -70,57 +70,39 @@ fn spares_rise(carts: &[u8], paths: usize, lines: usize) -> bool
     true
 }
 
-// The place of the bit for a track from u to v.
-fn arc(u: usize, v: usize) -> usize
-    requires { (u < max_cells) × (v < max_cells) }
-    ensures { (result ≡ arc_at u v) × (result < max_cells * max_cells) }
-{
-    u * Limits::CELLS + v
-}
-
-// Marks in the table that a track leads from u to v, if it does.
-fn mark_arc(table: &mut [u8; ARCS / 8], leads: bool, u: usize, v: usize)
-    requires { (u < max_cells) × (v < max_cells) × (8 * length table.old ≡ max_cells * max_cells) }
-    ensures { table.new ≡ with_arc leads table.old u v }
-{
-    bits::add_if(table, arc(u, v), leads);
-}
-
-// Marks each track in the table, as it leads from its first cell to its second, and where it runs both ways back too.
+// Marks each track in the table.
 fn mark<'a>(
-    senses: &'a [u8; Limits::TRACKS / 8],
     from: &'a [u8; Limits::TRACKS],
     to: &'a [u8; Limits::TRACKS],
     n: usize,
-    table: &mut [u8; ARCS / 8],
+    table: &mut [u8; PAIRS / 8],
 )
-    requires { (n ≤ max_tracks) × (8 * length table.old ≡ max_cells * max_cells) × ((x : ℕ) → bit_at table.old x ≡ false) }
-    ensures { Marks senses.now from.now to.now n table.new }
+    requires { (n ≤ max_tracks) × (8 * length table.old ≡ pairs_below max_cells) × ((x : ℕ) → bit_at table.old x ≡ false) }
+    ensures { Marks from.now to.now n table.new }
 {
     let mut i = 0;
     while i < n {
         let u = wide(from[i]);
         let v = wide(to[i]);
-        mark_arc(table, true, u, v);
-        mark_arc(table, runs_back(senses, i), v, u);
+        bits::add(table, pair(u, v));
         i += 1;
     }
 }
 
 // Whether a cart may go from u to v in a step.
-fn goes(table: &[u8; ARCS / 8], u: usize, v: usize) -> bool
+fn goes(table: &[u8; PAIRS / 8], u: usize, v: usize) -> bool
     requires { (u < max_cells) × (v < max_cells) }
     ensures { Decides result (Goes table.now u v) }
 {
     if u == v {
         return true;
     }
-    bits::has(table, arc(u, v))
+    bits::has(table, pair(u, v))
 }
 
 // Whether it may do so from the step t to the next: v must not be closed then.
 fn allowed(
-    table: &[u8; ARCS / 8],
+    table: &[u8; PAIRS / 8],
     shut: &[u16; Limits::CELLS],
     t: usize,
     u: usize,
@@ -138,7 +120,7 @@ fn allowed(
 
 // Whether line k is a walk up to the step d.
 fn walks(
-    table: &[u8; ARCS / 8],
+    table: &[u8; PAIRS / 8],
     shut: &[u16; Limits::CELLS],
     rows: &[u8],
     k: usize,
@@ -159,7 +141,7 @@ fn walks(
 
 // Whether path k is a walk from the cell a to the cell b, and there at the step d.
 fn leads(
-    table: &[u8; ARCS / 8],
+    table: &[u8; PAIRS / 8],
     shut: &[u16; Limits::CELLS],
     rows: &[u8],
     k: usize,
@@ -181,7 +163,7 @@ fn leads(
 
 // Whether each of the first n paths leads from its cart to its call.
 fn all_lead<'a>(
-    table: &[u8; ARCS / 8],
+    table: &[u8; PAIRS / 8],
     shut: &[u16; Limits::CELLS],
     rows: &[u8],
     lasts: &[u8],
@@ -216,7 +198,7 @@ fn all_lead<'a>(
 
 // Whether each line from `paths` to `lines` is a walk from its cart's cell.
 fn all_stay(
-    table: &[u8; ARCS / 8],
+    table: &[u8; PAIRS / 8],
     shut: &[u16; Limits::CELLS],
     rows: &[u8],
     lasts: &[u8],
@@ -335,8 +317,8 @@ pub fn is_plan(job: Job, carts: &[u8], calls: &[u8], lasts: &[u8], rows: &[u8]) 
     if !spares_rise(carts, paths, lines) {
         return false;
     }
-    let mut table = [0u8; ARCS / 8];
-    mark(&job.senses, &job.from, &job.to, job.tracks, &mut table);
+    let mut table = [0u8; PAIRS / 8];
+    mark(&job.from, &job.to, job.tracks, &mut table);
     let mut shut = [0u16; Limits::CELLS];
     floor::tables::bays(&job.kinds, &job.targets, &job.deadlines, paths, &mut shut);
     if !all_lead(

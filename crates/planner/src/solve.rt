@@ -35,15 +35,7 @@ fn fill_tables(
     requires { Ready (job_of job) × Sized job × (length near.old ≡ near_size) × (length begin.old ≡ max_cells + 1) × (length due.old ≡ max_cells) × (length shut.old ≡ max_cells) × (length cart_on.old ≡ max_cells) }
     ensures { Tables (job_of job) near.new begin.new due.new shut.new cart_on.new }
 {
-    floor::tables::neighbours(
-        &job.senses,
-        &job.from,
-        &job.to,
-        job.tracks,
-        job.cells,
-        near,
-        begin,
-    );
+    floor::tables::neighbours(&job.from, &job.to, job.tracks, job.cells, near, begin);
     floor::tables::deadlines(&job.targets, &job.deadlines, job.calls, due);
     floor::tables::bays(&job.kinds, &job.targets, &job.deadlines, job.calls, shut);
     floor::tables::carts(&job.starts, job.carts, cart_on);

@@ -9,9 +9,9 @@ use lib.Dec.{eqb}
 use lib.ListN.{length, replicate, length-replicate}
 use Rattle.model.specs.declared.answer.Answer.TheVariants.{BadLine}
 use Rattle.model.specs.Job as model
-use Rattle.model.specs.Job.{bothWays, lift, track, call}
+use Rattle.model.specs.Job.{lift, track, call}
 use Rattle.model.specs.Text.{numbers_by, scaled_of}
-use Rattle.model.specs.ReadJob.{Said, wrong, floor_line, track_line, cart_line, call_line, may_follow, field_count, numbers_say, fields_say}
+use Rattle.model.specs.ReadJob.{Said, wrong, floorLine, trackLine, cartLine, call_line, may_follow, field_count, numbers_say, fields_say}
 use Rattle.model.specs.ReadJob as read
 use Rattle.reader.specs.declared.line.Fault.TheVariants.{Form}
 use Rattle.reader.specs.declared.line.Numbers.{Numbers}
@@ -38,18 +38,18 @@ module _ (j : model.Job) (k : read.Kind) (fs : List (List ℕ)) where
       go true (some ns) = refl
 
 pub count_few : (k : read.Kind) → (field_count k ≡ 1) ⊎ (field_count k ≡ 2)
-count_few floor_line = inl refl
-count_few (track_line d) = inr refl
-count_few cart_line = inl refl
+count_few floorLine = inl refl
+count_few trackLine = inr refl
+count_few cartLine = inl refl
 count_few (call_line q) = inr refl
 
 -- The tests are asked of any job with these counts: here is one.
 pub some_job : (c : Counts) → (j : model.Job) × SameCounts c j
 some_job c = (
-  record { cells = c.cells; tracks = replicate c.tracks (track bothWays 0 0); carts = replicate c.carts 0; calls = replicate c.calls (call lift 0 0) },
+  record { cells = c.cells; tracks = replicate c.tracks (track 0 0); carts = replicate c.carts 0; calls = replicate c.calls (call lift 0 0) },
   record {
     cells = refl;
-    tracks = sym (length-replicate c.tracks (track bothWays 0 0));
+    tracks = sym (length-replicate c.tracks (track 0 0));
     carts = sym (length-replicate c.carts 0);
     calls = sym (length-replicate c.calls (call lift 0 0));
   },

@@ -1,4 +1,3 @@
-pub mod Arms
 pub mod Tests
 pub mod Noted
 pub mod Entries

@@ -12,7 +12,7 @@ use borrow.Author.Tests.{eqb-true, eq-eqb}
 use Rattle.model.specs.Limits.{max_cells}
 use Rattle.model.specs.Job as model
 use Rattle.model.specs.Job.{track, call}
-use Rattle.model.specs.ReadJob.{Kind, floor_line, track_line, cart_line, call_line, no_job, add, leads, member}
+use Rattle.model.specs.ReadJob.{Kind, floorLine, trackLine, cartLine, call_line, no_job, add, leads, member}
 use Rattle.model.proofs.Basics.{and_left, and_right, and_both, nope}
 use Rattle.job.specs.Bits.{bit_at, with_bit, pair_at}
 use Rattle.reader.specs.Lines.{Small, cart_row, call_row, table_size, place_of, noted, Noted}
@@ -27,23 +27,23 @@ noted_zeros n = record {
 }
 
 pub place_small : (k : Kind) (a b : ℕ) → Small k a b → place_of k a b < table_size
-place_small floor_line a b s = omega arith
-place_small (track_line d) a b s = omega (arith, pair_small a b s.0 s.1)
-place_small cart_line a b s = omega arith
+place_small floorLine a b s = omega arith
+place_small trackLine a b s = omega (arith, pair_small a b s.0 s.1)
+place_small cartLine a b s = omega arith
 place_small (call_line q) a b s = omega arith
 
 pub noted_length : (seen : List ℕ) (k : Kind) (a b : ℕ) → length (noted seen k a b) ≡ length seen
-noted_length seen floor_line a b = refl
-noted_length seen (track_line d) a b = bits_length seen (pair_at a b)
-noted_length seen cart_line a b = bits_length seen (cart_row + a)
+noted_length seen floorLine a b = refl
+noted_length seen trackLine a b = bits_length seen (pair_at a b)
+noted_length seen cartLine a b = bits_length seen (cart_row + a)
 noted_length seen (call_line q) a b = bits_length seen (call_row + a)
 
 -- One track or one cell more.
-leads_more : (d : model.Sense) (a b u v : ℕ) (ts : List model.Track) → leads a b (ts ++ (track d u v ∷ [])) ≡ (leads a b ts || (eqb a u && eqb b v))
-leads_more d a b u v [] = or-false (eqb a u && eqb b v)
-leads_more d a b u v (t ∷ ts) =
+leads_more : (a b u v : ℕ) (ts : List model.Track) → leads a b (ts ++ (track u v ∷ [])) ≡ (leads a b ts || (eqb a u && eqb b v))
+leads_more a b u v [] = or-false (eqb a u && eqb b v)
+leads_more a b u v (t ∷ ts) =
     let here = eqb a t.from && eqb b t.to in
-    ap (λ x. here || x) (leads_more d a b u v ts) ∙ sym (or_assoc here (leads a b ts) (eqb a u && eqb b v))
+    ap (λ x. here || x) (leads_more a b u v ts) ∙ sym (or_assoc here (leads a b ts) (eqb a u && eqb b v))
 
 member_more : (a u : ℕ) (l : List ℕ) → member a (l ++ (u ∷ [])) ≡ (member a l || eqb a u)
 member_more a u [] = or-false (eqb a u)
@@ -61,9 +61,9 @@ or_pairs true s y t = refl
 or_pairs false true y t = sym (or-true y)
 or_pairs false false y t = refl
 
-joined_more : (d : model.Sense) (a b u v : ℕ) (ts : List model.Track) → joined_by a b (ts ++ (track d u v ∷ [])) ≡ (joined_by a b ts || joins a b u v)
-joined_more d a b u v ts =
-    rw (leads_more d a b u v ts, leads_more d b a u v ts) (or_pairs (leads a b ts) (eqb a u && eqb b v) (leads b a ts) (eqb b u && eqb a v))
+joined_more : (a b u v : ℕ) (ts : List model.Track) → joined_by a b (ts ++ (track u v ∷ [])) ≡ (joined_by a b ts || joins a b u v)
+joined_more a b u v ts =
+    rw (leads_more a b u v ts, leads_more b a u v ts) (or_pairs (leads a b ts) (eqb a u && eqb b v) (leads b a ts) (eqb b u && eqb a v))
 
 -- The track from u to v joins a and b just where the two pairs have one place.
 both_same : (a b u v : ℕ) → (eqb a u && eqb b v) ≡ true → pair_at a b ≡ pair_at u v
@@ -102,10 +102,10 @@ module _ (seen : List ℕ) (j : model.Job) (long : 8 * length seen ≡ table_siz
       rw (member_more a u l)
       (told (r + u) (r + a) (member a l) (eqb a u) h (λ t. ap (λ x. r + x) (eqb-true a u t)) (λ q. eq-eqb a u (omega arith)) e)
 
-  told_track : (d : model.Sense) (u v a b : ℕ) → u < max_cells → v < max_cells → a < max_cells → b < max_cells
-      → bit_at (with_bit seen (pair_at u v)) (pair_at a b) ≡ joined_by a b (j.tracks ++ (track d u v ∷ []))
-  told_track d u v a b s t h k =
-      rw (joined_more d a b u v j.tracks)
+  told_track : (u v a b : ℕ) → u < max_cells → v < max_cells → a < max_cells → b < max_cells
+      → bit_at (with_bit seen (pair_at u v)) (pair_at a b) ≡ joined_by a b (j.tracks ++ (track u v ∷ []))
+  told_track u v a b s t h k =
+      rw (joined_more a b u v j.tracks)
       (told
       (pair_at u v)
       (pair_at a b)
@@ -117,13 +117,13 @@ module _ (seen : List ℕ) (j : model.Job) (long : 8 * length seen ≡ table_siz
       (m.tracks a b h k))
 
   pub noted_add : (k : Kind) (a b : ℕ) → Small k a b → Noted (noted seen k a b) (add j k a b)
-  noted_add floor_line u v s = record { tracks = m.tracks; carts = m.carts; calls = m.calls }
-  noted_add (track_line d) u v (s, t) = record {
-    tracks = λ a b h k. told_track d u v a b s t h k;
+  noted_add floorLine u v s = record { tracks = m.tracks; carts = m.carts; calls = m.calls }
+  noted_add trackLine u v (s, t) = record {
+    tracks = λ a b h k. told_track u v a b s t h k;
     carts = λ a h. kept (pair_at u v) (cart_row + a) (omega (arith, pair_small u v s t)) (λ e. omega (arith, pair_small u v s t)) (m.carts a h);
     calls = λ a h. kept (pair_at u v) (call_row + a) (omega (arith, pair_small u v s t)) (λ e. omega (arith, pair_small u v s t)) (m.calls a h);
   }
-  noted_add cart_line u v s = record {
+  noted_add cartLine u v s = record {
     tracks = λ a b h k. kept (cart_row + u) (pair_at a b) (omega arith) (λ e. omega (arith, pair_small a b h k)) (m.tracks a b h k);
     carts = λ a h. told_cell cart_row u a j.carts (omega arith) (m.carts a h);
     calls = λ a h. kept (cart_row + u) (call_row + a) (omega arith) (λ e. omega arith) (m.calls a h);

@@ -13,7 +13,7 @@ use Rattle.model.specs.Limits.{max_cells, max_tracks, max_carts, max_calls, max_
 use Rattle.model.specs.Job as model
 use Rattle.model.specs.Text.{lines_of, scaled_of}
 use Rattle.model.specs.ReadJob as read
-use Rattle.model.specs.ReadJob.{floor_line, track_line, cart_line, call_line, refused, accepted, add, go_on, line_says, lines_say, whole_job, read_job}
+use Rattle.model.specs.ReadJob.{floorLine, trackLine, cartLine, call_line, refused, accepted, add, go_on, line_says, lines_say, whole_job, read_job}
 use Rattle.text.specs.Scan.{line_of}
 use Rattle.text.proofs.LineLaws.{lines_done, next_cut, next_more}
 use Rattle.reader.specs.declared.fill.Kind.{Kind}
@@ -28,7 +28,6 @@ use Rattle.job.specs.Arrays.{job_of, Sized, Long}
 use Rattle.reader.specs.Reading.{Read}
 use Rattle.reader.specs.Lines.{held, kind_of, answer_to, said_by, SameCounts, Small, Taken, table_size, noted, Noted}
 use Rattle.job.proofs.Arrays.{tracks_count, carts_count, calls_count}
-use Rattle.job.proofs.BitLaws.{no_bits}
 use Rattle.reader.proofs.Noted.{noted_zeros, noted_add, noted_length}
 
 -- The counts beside the arrays are those of the job in them.
@@ -66,7 +65,6 @@ so_far_counts {s} {job} k = counted job
 abbrev pub unfilled : Job
 unfilled = held
     (record { cells = 0; tracks = 0; carts = 0; calls = 0 })
-    (replicate (max_tracks / 8) 0)
     (replicate max_tracks 0)
     (replicate max_tracks 0)
     (replicate max_carts 0)
@@ -82,8 +80,6 @@ so_far_first s h = record {
   lines = omega arith;
   sized = record { tracks = omega arith; carts = omega arith; calls = omega arith };
   long = record {
-    senses = ap (λ n. 8 * n) (length-replicate {A = ℕ} (max_tracks / 8) 0);
-    unset = λ k h. no_bits (max_tracks / 8) k;
     from = length-replicate {A = ℕ} max_tracks 0;
     to = length-replicate {A = ℕ} max_tracks 0;
     starts = length-replicate {A = ℕ} max_carts 0;
@@ -98,9 +94,9 @@ so_far_first s h = record {
 }
 
 cells_small : (j : model.Job) (k : read.Kind) (a b : ℕ) → j.cells ≤ max_cells → Small k a b → (add j k a b).cells ≤ max_cells
-cells_small j floor_line a b h s = s
-cells_small j (track_line d) a b h s = h
-cells_small j cart_line a b h s = h
+cells_small j floorLine a b h s = s
+cells_small j trackLine a b h s = h
+cells_small j cartLine a b h s = h
 cells_small j (call_line q) a b h s = h
 
 module _ {s : List ℕ} {job : Job} {seen : List ℕ} {at line : ℕ} (k : ReadSoFar s job seen at line) where

@@ -1,5 +1,5 @@
--- What a line says, by the word that opens it: in plain lists. The word is the first of the six that the line begins with, the line is as long
--- as the word and its tab, and what follows them are its fields. By induction over the words. Assumes nothing.
+-- What a line says, by the word that opens it: in plain lists. The word is the first of the five that the line begins with, the line is as long
+-- as the word and its tab, and what follows them are its fields. By cases on the five tests. Assumes nothing.
 use Prim.Native.Nat.{ℕ, suc, ◌-◌, ◌≤◌}
 use mathlib.Core.Path.{◌≡◌, refl, sym, ap, ◌∙◌}
 use mathlib.Core.List.{List, [], ◌∷◌, ◌++◌}
@@ -9,36 +9,40 @@ use lib.ListN.{length, take, drop, length-append, length-drop}
 use lib.Seq.{take_all}
 use Rattle.model.specs.declared.answer.Answer.TheVariants.{BadLine}
 use Rattle.model.specs.Job as model
-use Rattle.model.specs.Text.{fields_of, scaled_of, opens, after, floor_word, track_word, oneway_word, cart_word, call_word, bay_word}
-use Rattle.model.specs.ReadJob.{Said, wrong, fields_say, line_says}
+use Rattle.model.specs.Job.{lift, bay}
+use Rattle.model.specs.Text.{fields_of, scaled_of, opens, floor_word, track_word, cart_word, call_word, bay_word}
+use Rattle.model.specs.ReadJob.{Said, wrong, floorLine, trackLine, cartLine, call_line, fields_say, line_says}
+use Rattle.model.specs.ReadJob as read
 use Rattle.model.proofs.Words.{opens_long}
 use Rattle.reader.specs.declared.fill.Kind.{Kind}
-use Rattle.reader.specs.declared.fill.Kind.TheVariants.{Floor, Track, Oneway, Cart, Call, Bay}
+use Rattle.reader.specs.declared.fill.Kind.TheVariants.{Floor, Track, Cart, Call, Bay}
 use Rattle.reader.specs.declared.line.Word.{Word}
 use Rattle.reader.specs.declared.line.Word.TheVariants.{Opens, Unknown}
 use Rattle.reader.specs.Lines.{kind_of, word_of}
 
--- The first of these words that opens the line, as a kind, and its size with the tab.
-abbrev pub word_in : List (List ℕ × Kind) → List ℕ → Word
-word_in [] l = Unknown
-word_in ((w, k) ∷ ws) l = cond (opens w l) (Opens k (suc (length w))) (word_in ws l)
+-- The first of the five words that opens the line.
+module _ (l : List ℕ) where
+  pub word_floor : opens floor_word l ≡ true → Opens Floor 6 ≡ word_of l
+  word_floor f = simp f
 
-abbrev pub words : List (List ℕ × Kind)
-words = (floor_word, Floor) ∷ (track_word, Track) ∷ (oneway_word, Oneway) ∷ (cart_word, Cart) ∷ (call_word, Call) ∷ (bay_word, Bay) ∷ []
+  module _ (f : opens floor_word l ≡ false) where
+    pub word_track : opens track_word l ≡ true → Opens Track 6 ≡ word_of l
+    word_track t = simp (f, t)
 
--- The word of the line is the first of these that opens it: the one in front, or else the first of those behind it.
-pub record FirstOf (l : List ℕ) (ws : List (List ℕ × Kind)) : Type 0 where
-  pub is : word_in ws l ≡ word_of l
+    module _ (t : opens track_word l ≡ false) where
+      pub word_cart : opens cart_word l ≡ true → Opens Cart 5 ≡ word_of l
+      word_cart c = simp (f, t, c)
 
-pub first_of_all : (l : List ℕ) → FirstOf l words
-first_of_all l = record { is = refl }
+      module _ (c : opens cart_word l ≡ false) where
+        pub word_call : opens call_word l ≡ true → Opens Call 5 ≡ word_of l
+        word_call d = simp (f, t, c, d)
 
-module _ {l w : List ℕ} {k : Kind} {ws : List (List ℕ × Kind)} (a : FirstOf l ((w, k) ∷ ws)) where
-  pub first_is : opens w l ≡ true → Opens k (suc (length w)) ≡ word_of l
-  first_is e = simp e at a.is
+        module _ (d : opens call_word l ≡ false) where
+          pub word_bay : opens bay_word l ≡ true → Opens Bay 4 ≡ word_of l
+          word_bay e = simp (f, t, c, d, e)
 
-  pub first_behind : opens w l ≡ false → FirstOf l ws
-  first_behind e = record { is = simp e at a.is }
+          pub word_unknown : opens bay_word l ≡ false → Unknown ≡ word_of l
+          word_unknown e = simp (f, t, c, d, e)
 
 -- What a line says by the word that opens it.
 unfoldable pub word_says : model.Job → List ℕ → Word → Said
@@ -47,19 +51,20 @@ word_says j l Unknown = wrong BadLine
 
 pub line_by : (j : model.Job) (l : List ℕ) → word_says j l (word_of l) ≡ line_says scaled_of j l
 unfolding word_says
-line_by j l = go words
+line_by j l = go (opens floor_word l) (opens track_word l) (opens cart_word l) (opens call_word l) (opens bay_word l)
   where
-    says : List (List ℕ × Kind) → Said
-    says [] = wrong BadLine
-    says ((w, k) ∷ ws) = cond (opens w l) (fields_say scaled_of j (kind_of k) (after w l)) (says ws)
+    say : read.Kind → ℕ → Said
+    say k n = fields_say scaled_of j k (fields_of (drop n l))
 
-    next : (t : Bool) (k : Kind) (n : ℕ) (x : Word) (y : Said) → word_says j l x ≡ y → word_says j l (cond t (Opens k n) x) ≡ cond t (word_says j l (Opens k n)) y
-    next true k n x y e = refl
-    next false k n x y e = e
-
-    go : (ws : List (List ℕ × Kind)) → word_says j l (word_in ws l) ≡ says ws
-    go [] = refl
-    go ((w, k) ∷ ws) = next (opens w l) k (suc (length w)) (word_in ws l) (says ws) (go ws)
+    go : (f t c d e : Bool) →
+        word_says j l (cond f (Opens Floor 6) (cond t (Opens Track 6) (cond c (Opens Cart 5) (cond d (Opens Call 5) (cond e (Opens Bay 4) Unknown))))) ≡
+        cond f (say floorLine 6) (cond t (say trackLine 6) (cond c (say cartLine 5) (cond d (say (call_line lift) 5) (cond e (say (call_line bay) 4) (wrong BadLine)))))
+    go true t c d e = refl
+    go false true c d e = refl
+    go false false true d e = refl
+    go false false false true e = refl
+    go false false false false true = refl
+    go false false false false false = refl
 
 -- A line is as long as the word that opens it.
 abbrev pub LongEnough : List ℕ → Word → Type 0
@@ -67,15 +72,14 @@ LongEnough l (Opens k n) = n ≤ length l
 LongEnough l Unknown = Unit
 
 pub word_long : (l : List ℕ) → LongEnough l (word_of l)
-word_long l = go words
+word_long l = next floor_word Floor _ (next track_word Track _ (next cart_word Cart _ (next call_word Call _ (next bay_word Bay _ tt))))
   where
-    next : (t : Bool) (w : List ℕ) (k : Kind) (x : Word) → opens w l ≡ t → LongEnough l x → LongEnough l (cond t (Opens k (suc (length w))) x)
-    next true w k x e h = omega (arith, opens_long (w ++ (9 ∷ [])) l e, length-append w (9 ∷ []))
-    next false w k x e h = h
-
-    go : (ws : List (List ℕ × Kind)) → LongEnough l (word_in ws l)
-    go [] = tt
-    go ((w, k) ∷ ws) = next (opens w l) w k (word_in ws l) refl (go ws)
+    next : (w : List ℕ) (k : Kind) (x : Word) → LongEnough l x → LongEnough l (cond (opens w l) (Opens k (suc (length w))) x)
+    next w k x h = go (opens w l) refl
+      where
+        go : (t : Bool) → opens w l ≡ t → LongEnough l (cond t (Opens k (suc (length w))) x)
+        go true e = omega (arith, opens_long (w ++ (9 ∷ [])) l e, length-append w (9 ∷ []))
+        go false e = h
 
 pub line_unknown : (j : model.Job) (l : List ℕ) → word_of l ≡ Unknown → wrong BadLine ≡ line_says scaled_of j l
 unfolding word_says

@@ -5,12 +5,12 @@ use Rattle.model.specs.declared.answer.Answer.{Answer}
 use Rattle.model.specs.declared.answer.Answer.TheVariants as answer
 use Rattle.model.specs.Limits.{max_cells, max_steps}
 use Rattle.model.specs.Job as model
-use Rattle.model.specs.Job.{bothWays, oneWay, lift, bay}
-use Rattle.model.specs.Text.{numbers_by, scaled_of, opens, floor_word, track_word, oneway_word, cart_word, call_word, bay_word}
+use Rattle.model.specs.Job.{lift, bay}
+use Rattle.model.specs.Text.{numbers_by, scaled_of, opens, floor_word, track_word, cart_word, call_word, bay_word}
 use Rattle.model.specs.ReadJob as read
-use Rattle.model.specs.ReadJob.{floor_line, track_line, cart_line, call_line}
+use Rattle.model.specs.ReadJob.{floorLine, trackLine, cartLine, call_line}
 use Rattle.reader.specs.declared.fill.Kind.{Kind}
-use Rattle.reader.specs.declared.fill.Kind.TheVariants.{Floor, Track, Oneway, Cart, Call, Bay}
+use Rattle.reader.specs.declared.fill.Kind.TheVariants.{Floor, Track, Cart, Call, Bay}
 use Rattle.reader.specs.declared.line.Fault.{Fault}
 use Rattle.reader.specs.declared.line.Fault.TheVariants.{Form, Number, Range, Room, Doubled}
 use Rattle.reader.specs.declared.line.Entry.{Entry}
@@ -25,10 +25,9 @@ use Rattle.job.specs.Arrays.{job_of, Sized, Long}
 use Rattle.job.specs.Bits.{bit_at, with_bit, pairs_below, pair_at}
 
 abbrev pub kind_of : Kind → read.Kind
-kind_of Floor = floor_line
-kind_of Track = track_line bothWays
-kind_of Oneway = track_line oneWay
-kind_of Cart = cart_line
+kind_of Floor = floorLine
+kind_of Track = trackLine
+kind_of Cart = cartLine
 kind_of Call = call_line lift
 kind_of Bay = call_line bay
 
@@ -49,11 +48,10 @@ abbrev pub word_of : List ℕ → Word
 word_of l =
     cond (opens floor_word l) (Opens Floor 6)
     (cond (opens track_word l) (Opens Track 6)
-    (cond (opens oneway_word l) (Opens Oneway 7)
     (cond (opens cart_word l) (Opens Cart 5)
     (cond (opens call_word l) (Opens Call 5)
     (cond (opens bay_word l) (Opens Bay 4)
-    Unknown)))))
+    Unknown))))
 
 -- n fields, and each a number
 abbrev pub two_of : Option (List ℕ) → Numbers
@@ -75,11 +73,10 @@ pub record SameCounts (c : Counts) (j : model.Job) : Type 0 where
   pub calls : c.calls ≡ length j.calls
 
 -- the arrays of a job while they are filled, with their counts, as a job
-abbrev pub held : Counts → List ℕ → List ℕ → List ℕ → List ℕ → List ℕ → List ℕ → List ℕ → Job
-held c senses from to starts kinds targets deadlines = record {
+abbrev pub held : Counts → List ℕ → List ℕ → List ℕ → List ℕ → List ℕ → List ℕ → Job
+held c from to starts kinds targets deadlines = record {
   cells = c.cells;
   tracks = c.tracks;
-  senses = senses;
   from = from;
   to = to;
   carts = c.carts;
@@ -92,9 +89,9 @@ held c senses from to starts kinds targets deadlines = record {
 
 -- The numbers are small enough for the table, and for bytes.
 abbrev pub Small : read.Kind → ℕ → ℕ → Type 0
-Small floor_line a b = a ≤ max_cells
-Small (track_line d) a b = (a < max_cells) × (b < max_cells)
-Small cart_line a b = a < max_cells
+Small floorLine a b = a ≤ max_cells
+Small trackLine a b = (a < max_cells) × (b < max_cells)
+Small cartLine a b = a < max_cells
 Small (call_line q) a b = (a < max_cells) × (b < max_steps)
 
 -- The arrays of a job can take a line: its numbers are small, and there is room.
@@ -121,21 +118,21 @@ abbrev pub table_size : ℕ
 table_size = call_row + max_cells
 
 abbrev pub place_of : read.Kind → ℕ → ℕ → ℕ
-place_of floor_line a b = 0
-place_of (track_line d) a b = pair_at a b
-place_of cart_line a b = cart_row + a
+place_of floorLine a b = 0
+place_of trackLine a b = pair_at a b
+place_of cartLine a b = cart_row + a
 place_of (call_line q) a b = call_row + a
 
 abbrev pub noted : List ℕ → read.Kind → ℕ → ℕ → List ℕ
-noted seen floor_line a b = seen
-noted seen (track_line d) a b = with_bit seen (place_of (track_line d) a b)
-noted seen cart_line a b = with_bit seen (place_of cart_line a b)
+noted seen floorLine a b = seen
+noted seen trackLine a b = with_bit seen (place_of trackLine a b)
+noted seen cartLine a b = with_bit seen (place_of cartLine a b)
 noted seen (call_line q) a b = with_bit seen (place_of (call_line q) a b)
 
 -- The table says which cells a track joins, and which cells have a cart, and which a call or bay.
 pub record Noted (seen : List ℕ) (j : model.Job) : Type 0 where
-  pub tracks : (a b : ℕ) → a < max_cells → b < max_cells → bit_at seen (place_of (track_line bothWays) a b) ≡ (read.leads a b j.tracks || read.leads b a j.tracks)
-  pub carts : (a : ℕ) → a < max_cells → bit_at seen (place_of cart_line a 0) ≡ read.member a j.carts
+  pub tracks : (a b : ℕ) → a < max_cells → b < max_cells → bit_at seen (place_of trackLine a b) ≡ (read.leads a b j.tracks || read.leads b a j.tracks)
+  pub carts : (a : ℕ) → a < max_cells → bit_at seen (place_of cartLine a 0) ≡ read.member a j.carts
   pub calls : (a : ℕ) → a < max_cells → bit_at seen (place_of (call_line lift) a 0) ≡ read.member a (map (λ q. q.cell) j.calls)
 
 -- Whether the numbers of a line pass a test. A line that has numbers passed the first two.

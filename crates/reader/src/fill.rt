@@ -1,8 +1,8 @@
 // Filling the arrays of a job line by line, and the table of what stands in them already.
 ghost use Rattle.std.specs.Prelude.{◌≡◌, ◌*◌, length};
-ghost use Rattle.model.specs.Job.{Sense, CallKind};
-ghost use Rattle.model.specs.ReadJob.{track_line, call_line, no_job};
-ghost use Rattle.job.specs.Arrays.{sense_of, call_kind, job_of, Sized};
+ghost use Rattle.model.specs.Job.{CallKind};
+ghost use Rattle.model.specs.ReadJob.{call_line, no_job};
+ghost use Rattle.job.specs.Arrays.{call_kind, job_of, Sized};
 ghost use Rattle.reader.specs.Lines.{kind_of, held, Small, Takes, Taken, place_of, noted, table_size};
 
 use job::bits;
@@ -32,7 +32,6 @@ pub const TABLE: usize = CALL_ROW + Limits::CELLS;
 pub enum Kind {
     Floor,
     Track,
-    Oneway,
     Cart,
     Call,
     Bay,
@@ -42,14 +41,12 @@ pub enum Kind {
 pub fn empty() -> Job
     ensures { (job_of result ≡ no_job) × Sized result }
 {
-    let senses = [0u8; Limits::TRACKS / 8];
     let wide = [0u8; Limits::TRACKS];
     let narrow = [0u8; Limits::CARTS];
     let calls = [0u8; Limits::CALLS];
     Job {
         cells: 0,
         tracks: 0,
-        senses,
         from: wide,
         to: wide,
         carts: 0,
@@ -59,16 +56,6 @@ pub fn empty() -> Job
         targets: calls,
         deadlines: calls,
     }
-}
-
-// Whether a track is one-way; of another line it says nothing.
-fn is_oneway(kind: Kind) -> bool
-    ensures { (d : Sense) → kind_of kind ≡ track_line d → sense_of result ≡ d }
-{
-    if let Kind::Oneway = kind {
-        return true;
-    }
-    false
 }
 
 // The byte that stands for the kind of a call; of another line it says nothing.
@@ -83,7 +70,6 @@ fn kind_byte(kind: Kind) -> u8
 
 // Puts the numbers of a line at the end of the arrays of its kind. Answers the counts with one line more.
 pub fn put_line(
-    senses: &mut [u8; Limits::TRACKS / 8],
     from: &mut [u8; Limits::TRACKS],
     to: &mut [u8; Limits::TRACKS],
     starts: &mut [u8; Limits::CARTS],
@@ -95,8 +81,8 @@ pub fn put_line(
     a: usize,
     b: usize,
 ) -> Counts
-    requires { Takes (held counts senses.old from.old to.old starts.old kinds.old targets.old deadlines.old) (kind_of kind) a b }
-    ensures { Taken (held counts senses.old from.old to.old starts.old kinds.old targets.old deadlines.old) (kind_of kind) a b (held result senses.new from.new to.new starts.new kinds.new targets.new deadlines.new) }
+    requires { Takes (held counts from.old to.old starts.old kinds.old targets.old deadlines.old) (kind_of kind) a b }
+    ensures { Taken (held counts from.old to.old starts.old kinds.old targets.old deadlines.old) (kind_of kind) a b (held result from.new to.new starts.new kinds.new targets.new deadlines.new) }
 {
     let mut more = counts;
     match kind {
@@ -104,9 +90,8 @@ pub fn put_line(
             more.cells = a;
             return more;
         }
-        Kind::Track | Kind::Oneway => {
+        Kind::Track => {
             let n = more.tracks;
-            bits::add_if(senses, n, is_oneway(kind));
             from[n] = a as u8;
             to[n] = b as u8;
             more.tracks = n + 1;
@@ -136,7 +121,7 @@ pub fn place(kind: Kind, a: usize, b: usize) -> usize
 {
     match kind {
         Kind::Floor => 0,
-        Kind::Track | Kind::Oneway => pair(a, b),
+        Kind::Track => pair(a, b),
         Kind::Cart => CART_ROW + a,
         Kind::Call | Kind::Bay => CALL_ROW + a,
     }

@@ -4,7 +4,7 @@ ghost use Rattle.std.proofs.Math.Option.{some};
 ghost use Rattle.model.specs.Limits.{max_cells};
 ghost use Rattle.model.specs.Job as model;
 ghost use Rattle.model.specs.Text.{fields_of, scaled_of};
-ghost use Rattle.model.specs.ReadJob.{track_line, may_follow, in_range, has_room, is_new, field_count, numbers_say, fields_say, line_says};
+ghost use Rattle.model.specs.ReadJob.{trackLine, may_follow, in_range, has_room, is_new, field_count, numbers_say, fields_say, line_says};
 ghost use Rattle.reader.specs.Lines.{kind_of, answer_to, said_by, word_of, first_fault, numbers_given, SameCounts, Noted, Small, passing, GoesBy, Asks, Sound, table_size};
 
 use crate::fill;
@@ -62,17 +62,17 @@ fn field_count(kind: Kind) -> usize
 {
     match kind {
         Kind::Floor | Kind::Cart => 1,
-        Kind::Track | Kind::Oneway | Kind::Call | Kind::Bay => 2,
+        Kind::Track | Kind::Call | Kind::Bay => 2,
     }
 }
 
-// FLOOR, then TRACK and ONEWAY, then CART, then CALL and BAY lines.
+// FLOOR, then TRACK, then CART, then CALL and BAY lines.
 fn may_follow(kind: Kind, counts: Counts) -> bool
     ensures { (j : model.Job) → SameCounts counts j → result ≡ may_follow j (kind_of kind) }
 {
     match kind {
         Kind::Floor => counts.cells == 0,
-        Kind::Track | Kind::Oneway => 0 < counts.cells && counts.carts == 0 && counts.calls == 0,
+        Kind::Track => 0 < counts.cells && counts.carts == 0 && counts.calls == 0,
         Kind::Cart => 0 < counts.cells && counts.calls == 0,
         Kind::Call | Kind::Bay => 0 < counts.cells,
     }
@@ -119,7 +119,7 @@ fn in_range(kind: Kind, counts: Counts, a: usize, b: usize) -> bool
 {
     match kind {
         Kind::Floor => 0 < a && a <= Limits::CELLS,
-        Kind::Track | Kind::Oneway => a < counts.cells && b < counts.cells,
+        Kind::Track => a < counts.cells && b < counts.cells,
         Kind::Cart => a < counts.cells,
         Kind::Call | Kind::Bay => a < counts.cells && b < Limits::STEPS,
     }
@@ -130,16 +130,16 @@ fn has_room(kind: Kind, counts: Counts) -> bool
 {
     match kind {
         Kind::Floor => true,
-        Kind::Track | Kind::Oneway => counts.tracks < Limits::TRACKS,
+        Kind::Track => counts.tracks < Limits::TRACKS,
         Kind::Cart => counts.carts < Limits::CARTS,
         Kind::Call | Kind::Bay => counts.calls < Limits::CALLS,
     }
 }
 
-// No track joins a and b yet, either way round and of either sense, and they are two cells.
+// No track joins a and b yet, either way round, and they are two cells.
 fn is_new_track(seen: &[u8], a: usize, b: usize) -> bool
     requires { (a < max_cells) × (b < max_cells) × (8 * length seen.now ≡ table_size) }
-    ensures { (j : model.Job) → Noted seen.now j → (d : model.Sense) → result ≡ is_new j (track_line d) a b }
+    ensures { (j : model.Job) → Noted seen.now j → result ≡ is_new j trackLine a b }
 {
     if a == b {
         return false;
@@ -153,7 +153,7 @@ fn is_new(kind: Kind, seen: &[u8], a: usize, b: usize) -> bool
 {
     match kind {
         Kind::Floor => true,
-        Kind::Track | Kind::Oneway => is_new_track(seen, a, b),
+        Kind::Track => is_new_track(seen, a, b),
         Kind::Cart => !bits::has(seen, fill::CART_ROW + a),
         Kind::Call | Kind::Bay => !bits::has(seen, fill::CALL_ROW + a),
     }
@@ -204,7 +204,7 @@ fn fields_say(kind: Kind, fields: &[u8], counts: Counts, seen: &[u8]) -> Entry
     }
 }
 
-// The word that opens the line, if it is one of the six.
+// The word that opens the line, if it is one of the five.
 fn word_of(line: &[u8]) -> Word
     ensures { result ≡ word_of line.now }
 {
@@ -218,12 +218,6 @@ fn word_of(line: &[u8]) -> Word
         return Word::Opens {
             kind: Kind::Track,
             size: 6,
-        };
-    }
-    if text::scan::opens_with(line, b"ONEWAY\t") {
-        return Word::Opens {
-            kind: Kind::Oneway,
-            size: 7,
         };
     }
     if text::scan::opens_with(line, b"CART\t") {

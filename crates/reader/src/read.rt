@@ -59,7 +59,6 @@ pub fn read(text: &[u8]) -> Reading
             line: 0,
         });
     }
-    let mut senses = [0u8; Limits::TRACKS / 8];
     let mut from = [0u8; Limits::TRACKS];
     let mut to = [0u8; Limits::TRACKS];
     let mut starts = [0u8; Limits::CARTS];
@@ -88,7 +87,6 @@ pub fn read(text: &[u8]) -> Reading
             return refused(verdict_on(entry, line));
         };
         counts = fill::put_line(
-            &mut senses,
             &mut from,
             &mut to,
             &mut starts,
@@ -121,7 +119,6 @@ pub fn read(text: &[u8]) -> Reading
     let job = Job {
         cells,
         tracks: counts.tracks,
-        senses,
         from,
         to,
         carts,

@@ -7,12 +7,11 @@ use std::time::{Duration, Instant, SystemTime};
 use harness::compare::{self, show};
 use harness::ffi::Library;
 use harness::gen::cases::{
-    changed_jobs, changed_sheets, choke_lists, doubled_points, other_lengths, other_orders, other_senses, right_sheets,
-    spare_carts, stores, whole_calls, wrong_plans, Case, Kind, Known,
+    changed_jobs, changed_sheets, choke_lists, doubled_points, other_lengths, other_orders, right_sheets, spare_carts,
+    stores, whole_calls, wrong_plans, Case, Kind, Known,
 };
 use harness::gen::early::{about_early_lifts, lifts_early};
 use harness::gen::map_cases::MAP_KINDS;
-use harness::gen::oneway::small_with_one_way;
 use harness::gen::orders;
 use harness::gen::sizes::{at_the_limits, medium};
 use harness::gen::small::{small, small_at_one_step};
@@ -34,7 +33,7 @@ soak [--seconds N] [--texts M] [--seed S] [--first T]
   --first T    from turn T on: with the seed of a run that found a difference, the turn it was found in";
 
 /// Damaged texts come from the first two.
-const KINDS: [(&str, Kind); 12] = [
+const KINDS: [(&str, Kind); 11] = [
     ("damaged jobs", changed_jobs),
     ("damaged sheets", changed_sheets),
     ("right sheets", right_sheets),
@@ -42,7 +41,6 @@ const KINDS: [(&str, Kind); 12] = [
     ("plans in other orders", other_orders),
     ("paths of other lengths", other_lengths),
     ("wrong SPARE lines", spare_carts),
-    ("sheets for other senses", other_senses),
     ("choke lists", choke_lists),
     ("doubled choke points", doubled_points),
     ("whole calls", whole_calls),
@@ -52,11 +50,10 @@ const KINDS: [(&str, Kind); 12] = [
 /// Makes a job.
 type Make = fn(&mut Rng) -> Job;
 
-const SIZES: [(&str, Make); 7] = [
+const SIZES: [(&str, Make); 6] = [
     ("small", small),
     ("small at one step", small_at_one_step),
     ("small with spare carts", small_with_spares),
-    ("small with one-way tracks", small_with_one_way),
     ("about early lifts", about_early_lifts),
     ("medium", medium),
     ("at the limits", at_the_limits),
@@ -64,10 +61,9 @@ const SIZES: [(&str, Make); 7] = [
 const SMALL: usize = 0;
 const SMALL_AT_ONE_STEP: usize = 1;
 const SMALL_WITH_SPARES: usize = 2;
-const SMALL_WITH_ONE_WAY: usize = 3;
-const ABOUT_EARLY_LIFTS: usize = 4;
-const MEDIUM: usize = 5;
-const AT_THE_LIMITS: usize = 6;
+const ABOUT_EARLY_LIFTS: usize = 3;
+const MEDIUM: usize = 4;
+const AT_THE_LIMITS: usize = 5;
 
 /// How many maps of each kind a turn tries: the damaged ones come last.
 const MAPS: [usize; MAP_KINDS.len()] = [2, 2, 12];
@@ -79,7 +75,6 @@ struct Tried {
     sizes: [usize; SIZES.len()],
     with_bays: usize,
     with_spares: usize,
-    with_one_way: usize,
     /// Jobs with calls of one step in another order than their cells.
     with_other_order: usize,
     /// Jobs planned with a cart that is lifted before its deadline.
@@ -159,14 +154,12 @@ impl Tried {
             (_, 1 | 6) => SMALL_AT_ONE_STEP,
             (_, 2 | 7) => ABOUT_EARLY_LIFTS,
             (_, 3 | 8) => SMALL_WITH_SPARES,
-            (_, 0 | 5) => SMALL_WITH_ONE_WAY,
             _ => SMALL,
         };
         self.sizes[size] += 1;
         let job = SIZES[size].1(&mut rng);
         self.with_bays += usize::from(job.has_bays());
         self.with_spares += usize::from(job.spares() > 0);
-        self.with_one_way += usize::from(job.has_one_way_tracks());
         self.with_other_order += usize::from(orders::differ(&job));
         let right = self.plan(&job.text(), store_least(&job), sheet_least(&job), &mut rng)?;
         let other = respelled(&job.text(), &mut rng);
@@ -180,7 +173,7 @@ impl Tried {
             Sheet::Cannot(chokes) => self.with_whole_calls += usize::from(has_whole_call(chokes)),
         }
         let known = match size {
-            SMALL | SMALL_AT_ONE_STEP | SMALL_WITH_SPARES | SMALL_WITH_ONE_WAY => Known::of(job),
+            SMALL | SMALL_AT_ONE_STEP | SMALL_WITH_SPARES => Known::of(job),
             _ => Known::by_sheet(job, right),
         };
         match size {
@@ -236,9 +229,10 @@ impl Tried {
         };
         let sizes = counted(&SIZES.map(|size| size.0), &self.sizes);
         println!("turns: {sizes}");
-        let (bays, spares, one_way) = (self.with_bays, self.with_spares, self.with_one_way);
-        println!("jobs: {bays} with bays, {spares} with spare carts, {one_way} with one-way tracks,");
-        println!("  {} with calls of one step in another order than their cells", self.with_other_order);
+        let (bays, spares, other_order) = (self.with_bays, self.with_spares, self.with_other_order);
+        println!(
+            "jobs: {bays} with bays, {spares} with spare carts, {other_order} with calls of one step in another order than their cells"
+        );
         println!("sheets: {} with early lifts, {} with whole calls", self.lifted_early, self.with_whole_calls);
         println!("cases: {}", counted(&KINDS.map(|kind| kind.0), &self.kinds));
         println!("maps: {}", counted(&MAP_KINDS.map(|kind| kind.0), &self.map_kinds));

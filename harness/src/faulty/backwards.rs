@@ -1,7 +1,6 @@
 //! Whether a choke list is true, backwards: from the calls, at each step at which they can be met, to the carts at step 0.
 
 use super::bays::Closed;
-use super::senses::steps;
 use super::Fault;
 use crate::model::job::{Call, End, Job};
 use crate::model::sheet::Choke;
@@ -10,14 +9,12 @@ use crate::model::sheet::Choke;
 pub fn stops_every_walk(job: &Job, chokes: &[Choke], fault: Fault) -> bool {
     let closed = Closed::by_bays(job, fault);
     let is_closed = |cell, step| fault != Fault::IgnoresBaysInLists && closed.at(cell, step);
-    let wrong = if let Fault::ReadsListsBy(senses) = fault { Some(senses) } else { None };
-    let steps = steps(job, wrong);
     let mut leads_on = vec![false; job.cells];
     if fault == Fault::StopsWalksOfSparesToo && job.spares() > 0 {
         leads_on.fill(true);
     }
     for step in (0..=job.last()).rev() {
-        leads_on = one_step_before(&steps, &leads_on);
+        leads_on = one_step_before(job, &leads_on);
         for (number, call) in job.calls.iter().enumerate() {
             let is_whole = chokes.contains(&Choke::Call(number));
             leads_on[call.cell] = match ends_here(call, step, is_whole, fault) {
@@ -53,10 +50,11 @@ fn takes_off(call: &Call, step: usize, is_whole: bool, fault: Fault) -> bool {
     }
 }
 
-fn one_step_before(steps: &[(usize, usize)], leads_on: &[bool]) -> Vec<bool> {
+fn one_step_before(job: &Job, leads_on: &[bool]) -> Vec<bool> {
     let mut before = leads_on.to_vec();
-    for &(from, to) in steps {
-        before[from] = before[from] || leads_on[to];
+    for &(a, b) in &job.tracks {
+        before[a] = before[a] || leads_on[b];
+        before[b] = before[b] || leads_on[a];
     }
     before
 }

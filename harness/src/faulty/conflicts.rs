@@ -1,7 +1,6 @@
 //! Whether paths and spare walks are a plan but for their order, by a table of who stands where at each step.
 
 use super::bays::Closed;
-use super::senses::{steps, Senses};
 use super::Fault;
 use crate::model::job::Job;
 use crate::model::sheet::{Path, Plan};
@@ -22,13 +21,7 @@ pub fn none(job: &Job, plan: Plan, fault: Fault) -> bool {
     // One step more than there is, for faults that let a walk be too long.
     let who = vec![None; (job.last() + 2) * job.cells];
     let closed = Closed::by_bays(job, fault);
-    let wrong = if let Fault::ReadsPlansBy(senses) = fault { Some(senses) } else { None };
-    let joined_for_spares = match fault {
-        Fault::LetsSparesGoAgainstSenses => joined(job, Some(Senses::Both)),
-        _ => joined(job, wrong),
-    };
-    let joined = joined(job, wrong);
-    let mut table = Table { joined, joined_for_spares, cells: job.cells, lines: &lines, who, closed, fault };
+    let mut table = Table { joined: joined(job), cells: job.cells, lines: &lines, who, closed, fault };
     let mut free = vec![true; job.carts.len()];
     ends && lines.iter().enumerate().all(|(i, line)| {
         let is_first = std::mem::replace(&mut free[line.cart], false);
@@ -69,17 +62,17 @@ fn crosses_a_lift(job: &Job, walk: &[usize]) -> bool {
     steps.any(|(step, &cell)| job.calls.iter().any(|c| !c.is_bay() && c.cell == cell && step <= c.deadline))
 }
 
-fn joined(job: &Job, wrong: Option<Senses>) -> Vec<bool> {
+fn joined(job: &Job) -> Vec<bool> {
     let mut joined = vec![false; job.cells * job.cells];
-    for (from, to) in steps(job, wrong) {
-        joined[from * job.cells + to] = true;
+    for &(a, b) in &job.tracks {
+        joined[a * job.cells + b] = true;
+        joined[b * job.cells + a] = true;
     }
     joined
 }
 
 struct Table<'a> {
     joined: Vec<bool>,
-    joined_for_spares: Vec<bool>,
     cells: usize,
     lines: &'a [Entry],
     /// Which line's cart is on the cell at the step.
@@ -102,10 +95,8 @@ impl Table<'_> {
     }
 
     fn is_step(&self, line: usize, from: usize, to: usize) -> bool {
-        let is_spare = self.lines[line].is_spare;
-        let joined = if is_spare { &self.joined_for_spares } else { &self.joined };
-        let jumps = self.fault == Fault::PassesJumpsOfSpares && is_spare;
-        jumps || from == to || joined[from * self.cells + to]
+        let jumps = self.fault == Fault::PassesJumpsOfSpares && self.lines[line].is_spare;
+        jumps || from == to || self.joined[from * self.cells + to]
     }
 
     fn is_closed(&self, line: usize, cell: usize, step: usize) -> bool {

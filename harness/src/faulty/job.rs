@@ -7,7 +7,7 @@ mod number;
 mod taken;
 
 use crate::model::answer::*;
-use crate::model::job::{Job, Track};
+use crate::model::job::{End, Job};
 use crate::model::limits;
 use number::Field;
 use taken::Taken;
@@ -75,63 +75,12 @@ pub enum JobFault {
     CountsBeforeRange,
     FindsDoubledBeforeCount,
     LimitsTextAsBefore,
-    // One-way tracks: their word and place.
-    RefusesOneWay,
-    TakesOneWayInSmallLetters,
-    TakesLongerWords,
-    TakesOneWayBeforeFloor,
-    TakesOneWayBehindCarts,
-    WantsOneWayBehindTracks,
-    WantsOneWayBeforeTracks,
-    TakesThirdFieldOfOneWay,
-    RefusesInOneWay,
-    // How many there are, and which of them twice.
-    CountsOneWayApart,
-    CountsNoOneWay,
-    FindsDoubledByWord,
-    FindsOneWayDoubledInOneSense,
-    PassesOneWayLoops,
-    LimitsTextToTracks,
-    // Their sense.
-    TakesOneWayForTrack,
-    TurnsOneWay,
-    SortsOneWay,
-    TakesTracksForOneWay,
-    KeepsSenseOn,
     // Nobody can tell these from the right reader: see `HARMLESS`.
     WrapsIn32Bits,
     SaturatesAt65535,
 }
 
-/// The faults about one-way tracks that a number or a line can tell.
-pub const ONE_WAY_JOB_FAULTS: &[JobFault] = &[
-    JobFault::RefusesOneWay,
-    JobFault::TakesOneWayInSmallLetters,
-    JobFault::TakesLongerWords,
-    JobFault::TakesOneWayBeforeFloor,
-    JobFault::TakesOneWayBehindCarts,
-    JobFault::WantsOneWayBehindTracks,
-    JobFault::WantsOneWayBeforeTracks,
-    JobFault::TakesThirdFieldOfOneWay,
-    JobFault::RefusesInOneWay,
-    JobFault::CountsOneWayApart,
-    JobFault::CountsNoOneWay,
-    JobFault::FindsDoubledByWord,
-    JobFault::FindsOneWayDoubledInOneSense,
-    JobFault::PassesOneWayLoops,
-    JobFault::LimitsTextToTracks,
-];
-
-/// Those that read another job: planner and check tell them by what they make of it.
-pub const SENSE_JOB_FAULTS: &[JobFault] = &[
-    JobFault::TakesOneWayForTrack,
-    JobFault::TurnsOneWay,
-    JobFault::SortsOneWay,
-    JobFault::TakesTracksForOneWay,
-    JobFault::KeepsSenseOn,
-];
-
-/// The other faults, without `None` and the harmless ones.
+/// The faults, without `None` and the harmless ones.
 pub const JOB_FAULTS: &[JobFault] = &[
     JobFault::ReadsNoExponent,
     JobFault::TakesSmallEOnly,
@@ -195,17 +144,12 @@ pub const JOB_FAULTS: &[JobFault] = &[
 /// readers with these give the right answer to every text.
 pub const HARMLESS: [JobFault; 2] = [JobFault::WrapsIn32Bits, JobFault::SaturatesAt65535];
 
-/// The longest text without an exponent, and the longest without a one-way track.
-const LONGEST_PLAIN: usize = 8586;
-const LONGEST_OF_TRACKS: usize = 12_237;
+/// The longest text without an exponent.
+const LONGEST_BEFORE: usize = 8586;
 
 /// The job, or the refusal, as the reader with the fault has it.
 pub fn read(text: &[u8], fault: JobFault) -> Result<Job, Refusal> {
-    let most = match fault {
-        JobFault::LimitsTextAsBefore => LONGEST_PLAIN,
-        JobFault::LimitsTextToTracks => LONGEST_OF_TRACKS,
-        _ => limits::TEXT,
-    };
+    let most = if fault == JobFault::LimitsTextAsBefore { LONGEST_BEFORE } else { limits::TEXT };
     if text.len() > most {
         return Err(refusal(TEXT_TOO_LONG));
     }
@@ -264,56 +208,32 @@ impl Pass {
         if self.fault == JobFault::TestsNumbersBeforeForm && fields.iter().any(|field| field.is_spoilt(self.fault)) {
             return Err(NO_NUMBER);
         }
-        let word = self.as_taken(word);
         let (rank, count) = match word.as_slice() {
             b"FLOOR" => (1, 1),
-            b"ONEWAY" if self.fault == JobFault::RefusesOneWay => return Err(BAD_LINE),
-            b"TRACK" | b"ONEWAY" => (2, 2),
+            b"TRACK" => (2, 2),
             b"CART" => (3, 1),
             b"CALL" | b"BAY" => (4, 2),
             _ => return Err(BAD_LINE),
         };
-        let has_count = fields.len() == count
-            || self.fault == JobFault::TakesThirdFieldOfOneWay && word == b"ONEWAY" && fields.len() == 3;
-        if !self.is_in_order(rank, &word) || !has_count {
+        let in_order = if rank == 1 { self.rank == 0 } else { self.rank > 0 && self.rank <= rank };
+        if !in_order || fields.len() != count {
             return Err(BAD_LINE);
         }
-        self.tests(rank, &word, &fields[..count])?;
+        let end = if word == b"BAY" { End::Bay } else { End::Lift };
+        self.tests(rank, end, &fields)?;
         (self.rank, self.line) = (rank, self.line + 1);
         Ok(())
     }
 
-    /// The word that the fault takes it for.
-    fn as_taken(&self, word: Vec<u8>) -> Vec<u8> {
-        match self.fault {
-            JobFault::TakesOneWayInSmallLetters if word.eq_ignore_ascii_case(b"ONEWAY") => b"ONEWAY".to_vec(),
-            JobFault::TakesLongerWords if word.starts_with(b"ONEWAY") => b"ONEWAY".to_vec(),
-            _ => word,
-        }
-    }
-
-    /// Whether the word may stand behind the lines before.
-    fn is_in_order(&self, rank: usize, word: &[u8]) -> bool {
-        let tracks = &self.taken.job.tracks;
-        match self.fault {
-            JobFault::TakesOneWayBeforeFloor if word == b"ONEWAY" && self.rank == 0 => true,
-            JobFault::TakesOneWayBehindCarts if word == b"ONEWAY" && self.rank == 3 => true,
-            JobFault::WantsOneWayBehindTracks if word == b"TRACK" && tracks.iter().any(Track::is_one_way) => false,
-            JobFault::WantsOneWayBeforeTracks if word == b"ONEWAY" && !tracks.iter().all(Track::is_one_way) => false,
-            _ if rank == 1 => self.rank == 0,
-            _ => self.rank > 0 && self.rank <= rank,
-        }
-    }
-
     /// 4 to 7, and the line is taken.
-    fn tests(&mut self, rank: usize, word: &[u8], fields: &[Field]) -> Result<(), u8> {
-        let (values, in_range) = self.values(rank, word, fields)?;
+    fn tests(&mut self, rank: usize, end: End, fields: &[Field]) -> Result<(), u8> {
+        let (values, in_range) = self.values(rank, end, fields)?;
         let spelled: Vec<&[u8]> = fields.iter().map(Field::spelled).collect();
         let doubled = match self.fault {
             JobFault::FindsDoubledBySpelling => self.taken.is_spelled_twice(rank, &spelled),
-            fault => self.taken.is_doubled(rank, word, &values, fault),
+            _ => self.taken.is_doubled(rank, &values),
         };
-        match (in_range, self.taken.has_room(rank, word, self.fault), doubled, self.fault) {
+        match (in_range, self.taken.has_room(rank), doubled, self.fault) {
             (_, false, _, JobFault::CountsBeforeRange) => return Err(TOO_MANY),
             (false, ..) => return Err(OUT_OF_RANGE),
             (_, _, true, JobFault::FindsDoubledBeforeCount) => return Err(DOUBLED),
@@ -321,15 +241,15 @@ impl Pass {
             (_, _, true, _) => return Err(DOUBLED),
             _ => (),
         }
-        self.taken.add(rank, word, &values, &spelled, self.fault);
+        self.taken.add(rank, end, &values, &spelled);
         Ok(())
     }
 
     /// The values of the fields, and whether all are in range.
-    fn values(&self, rank: usize, word: &[u8], fields: &[Field]) -> Result<(Vec<usize>, bool), u8> {
+    fn values(&self, rank: usize, end: End, fields: &[Field]) -> Result<(Vec<usize>, bool), u8> {
         let (mut values, mut in_range) = (Vec::new(), true);
         for (i, field) in fields.iter().enumerate() {
-            if field.has_letter() && refuses_in(self.fault, rank, word, i, fields.len()) {
+            if field.has_letter() && refuses_in(self.fault, rank, end, i, fields.len()) {
                 return Err(NO_NUMBER);
             }
             let value = field.value(self.fault).ok_or(NO_NUMBER)?;
@@ -345,14 +265,13 @@ impl Pass {
 }
 
 /// Whether the fault has an exponent refused in this field of a line of this kind.
-fn refuses_in(fault: JobFault, rank: usize, word: &[u8], field: usize, fields: usize) -> bool {
+fn refuses_in(fault: JobFault, rank: usize, end: End, field: usize, fields: usize) -> bool {
     match fault {
         JobFault::RefusesInFloor => rank == 1,
         JobFault::RefusesInTracks => rank == 2,
-        JobFault::RefusesInOneWay => word == b"ONEWAY",
         JobFault::RefusesInCarts => rank == 3,
-        JobFault::RefusesInCalls => word == b"CALL",
-        JobFault::RefusesInBays => word == b"BAY",
+        JobFault::RefusesInCalls => rank == 4 && end == End::Lift,
+        JobFault::RefusesInBays => rank == 4 && end == End::Bay,
         JobFault::RefusesInDeadlines => rank == 4 && field == 1,
         JobFault::RefusesInFirstField => field == 0,
         JobFault::RefusesInLastField => field + 1 == fields,

@@ -7,7 +7,7 @@ use crate::gen::Rng;
 
 const GUARD: usize = 64;
 const GUARD_TEXT: &[u8] =
-    b"\nONEWAY\t0\t1\nCALL\t0\t0\nBAY\t0\t0\nCHOKE\t0\t0\nCHOKE\tCALL\t0\nPATH\t0\t0\t0\nSPARE\t0\t0\nCART\t0\n0\t1\n.@\n..GT\nheight 1\nwidth 2\nmap\nO.e0\nE+1\n";
+    b"\nCALL\t0\t0\nBAY\t0\t0\nCHOKE\t0\t0\nCHOKE\tCALL\t0\nPATH\t0\t0\t0\nSPARE\t0\t0\nCART\t0\n0\t1\n.@\n..GT\nheight 1\nwidth 2\nmap\nO.e0\nE+1\n";
 
 pub struct Lent {
     bytes: Vec<u8>,

@@ -1,12 +1,10 @@
 //! What is tried on a job, mostly a small one: right plans, wrong ones, plans in other orders, paths of other lengths,
-//! SPARE lines, sheets for one-way tracks of another sense, choke lists, whole calls, damaged sheets, damaged jobs, short
-//! stores.
+//! SPARE lines, choke lists, whole calls, damaged sheets, damaged jobs, short stores.
 
 use super::bays::{spare_walks_over_bays, walks_over_bays};
 use super::damage::{changed, damaged, Damage};
-use super::oneway::{both_ways, one_turned_round, turned_round, without_one_way};
 use super::orders::{exchanged_at_one_step, ORDERS};
-use super::plans::{early_and_late_plans, plans, plans_by, plans_of};
+use super::plans::{early_and_late_plans, plans_by, plans_of};
 use super::spelled::respelled;
 use super::{lists, spare_lines, wrong, Rng};
 use crate::model::job::{Call, Job};
@@ -14,7 +12,7 @@ use crate::model::limits::{self, store_least};
 use crate::model::plan::{is_plan, keep_apart};
 use crate::model::reader;
 use crate::model::sheet::{Choke, Path, Plan, Sheet};
-use crate::model::walks::{all_walks, are_stopped, Walk};
+use crate::model::walks::{all_walks, Walk};
 
 /// One call of the check.
 pub struct Case {
@@ -32,15 +30,12 @@ pub struct Known {
     pub lists: Vec<Vec<Choke>>,
     /// What would be a plan if the bays closed nothing, and is none only because a cart stands on a closed cell.
     pub over_bays: Vec<Plan>,
-    /// What would be right if one-way tracks had another sense, and is wrong only because of the one they have.
-    pub of_other_senses: Vec<Sheet>,
 }
 
 impl Known {
     pub fn of(job: Job) -> Known {
         let (walks, lists, over_bays) = (all_walks(&job), lists::true_lists(&job), over_bays(&job));
-        let of_other_senses = of_other_senses(&job, &walks);
-        Known { walks, plans: early_and_late_plans(&job, 150), lists, over_bays, of_other_senses, job }
+        Known { walks, plans: early_and_late_plans(&job, 150), lists, over_bays, job }
     }
 
     /// What is known of a larger job by one right sheet of it. No walk is written out.
@@ -50,7 +45,7 @@ impl Known {
             Sheet::Plan(plan) => (vec![plan], Vec::new()),
             Sheet::Cannot(list) => (Vec::new(), vec![list]),
         };
-        Known { job, walks, plans, lists, over_bays: Vec::new(), of_other_senses: Vec::new() }
+        Known { job, walks, plans, lists, over_bays: Vec::new() }
     }
 
     /// A right sheet of the job: it has a plan or a true choke list, whichever it is.
@@ -85,25 +80,6 @@ fn over_bays(job: &Job) -> Vec<Plan> {
     all
 }
 
-/// With one-way tracks carrying both ways, all turned round, the first alone, and without them: the first so many plans and
-/// lists of each that are none of the job.
-fn of_other_senses(job: &Job, walks: &[Vec<Vec<Walk>>]) -> Vec<Sheet> {
-    if !job.has_one_way_tracks() {
-        return Vec::new();
-    }
-    let is_wrong = |sheet: &Sheet| match sheet {
-        Sheet::Plan(plan) => !is_plan(job, plan),
-        Sheet::Cannot(list) => !are_stopped(walks, list),
-    };
-    let wrong = |other: fn(Job) -> Job| {
-        let other = other(job.clone());
-        let plans = plans(&other, 100).into_iter().map(Sheet::Plan).filter(is_wrong);
-        let lists = lists::true_lists(&other).into_iter().map(Sheet::Cannot).filter(is_wrong);
-        plans.chain(lists.take(100)).collect::<Vec<Sheet>>()
-    };
-    [both_ways, turned_round, one_turned_round, without_one_way].into_iter().flat_map(wrong).collect()
-}
-
 /// A kind of cases: some of them for a job.
 pub type Kind = fn(&Known, &mut Rng) -> Vec<Case>;
 
@@ -113,7 +89,6 @@ pub const KINDS: &[Kind] = &[
     other_orders,
     other_lengths,
     spare_carts,
-    other_senses,
     choke_lists,
     doubled_points,
     whole_calls,
@@ -200,14 +175,6 @@ pub fn spare_carts(known: &Known, rng: &mut Rng) -> Vec<Case> {
         sheets.extend(spare_lines::out_of_the_form(&known.job, right, rng));
     }
     sheets.into_iter().map(|sheet| known.case(sheet, rng)).collect()
-}
-
-/// Sheets that would be right if one-way tracks had another sense, where there are any.
-pub fn other_senses(known: &Known, rng: &mut Rng) -> Vec<Case> {
-    if known.of_other_senses.is_empty() {
-        return Vec::new();
-    }
-    (0..8).map(|_| known.case(rng.pick(&known.of_other_senses).text(), rng)).collect()
 }
 
 /// True lists and untrue ones, as short as can be and longer, below the calls, as many as they are, and more.

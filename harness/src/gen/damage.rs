@@ -8,16 +8,13 @@ use crate::model::lines::{number, LF, TAB};
 pub type Damage = fn(&[u8], &mut Rng) -> Vec<u8>;
 
 const BYTES: [Damage; 6] = [changed_byte, lost_byte, added_byte, cut_off, trailing, repeated];
-const LINES: [Damage; 14] = [
+const LINES: [Damage; 11] = [
     lost_line,
     lost_cart,
     doubled_line,
     swapped_lines,
     other_word,
     other_end,
-    other_sense,
-    turned_track,
-    added_one_way,
     added_bay,
     other_choke,
     added_whole_call,
@@ -58,7 +55,7 @@ pub(super) fn changed_by(damage: Damage, text: &[u8], rng: &mut Rng) -> Vec<u8> 
 }
 
 /// Bytes that could stand in a text, and some that could not.
-const ANY: &[u8] = b"\t\t\n\n00123456789ABCFHKLNOPRTWYeE+-. \rx\0\xff";
+const ANY: &[u8] = b"\t\t\n\n00123456789ABCFHKLNOPRTYeE+-. \rx\0\xff";
 
 fn changed_byte(text: &[u8], rng: &mut Rng) -> Vec<u8> {
     with_other_byte(ANY, text, rng)
@@ -172,8 +169,8 @@ fn on_parts(text: &[u8], rng: &mut Rng, change: fn(&mut Vec<Vec<u8>>, &mut Rng))
 fn other_word(text: &[u8], rng: &mut Rng) -> Vec<u8> {
     on_parts(text, rng, |parts, rng| {
         let words = [
-            "FLOOR", "TRACK", "ONEWAY", "CART", "CALL", "BAY", "PLAN", "PATH", "SPARE", "CANNOT", "CHOKE", "", "Path",
-            "CARTS", "BAYS", "Oneway", "ONEWAYS",
+            "FLOOR", "TRACK", "CART", "CALL", "BAY", "PLAN", "PATH", "SPARE", "CANNOT", "CHOKE", "", "Path", "CARTS",
+            "BAYS",
         ];
         parts[0] = rng.pick(&words).as_bytes().to_vec();
     })
@@ -181,50 +178,14 @@ fn other_word(text: &[u8], rng: &mut Rng) -> Vec<u8> {
 
 /// A call that becomes a bay, or a bay that becomes a call: a job stays one. Other texts are left as they are.
 fn other_end(text: &[u8], rng: &mut Rng) -> Vec<u8> {
-    exchanged_words([b"CALL", b"BAY"], text, rng)
-}
-
-/// A track that becomes one-way, or a one-way track that carries both ways: a job stays one. Other texts are left as they are.
-fn other_sense(text: &[u8], rng: &mut Rng) -> Vec<u8> {
-    exchanged_words([b"TRACK", b"ONEWAY"], text, rng)
-}
-
-/// One of the two words put for the other in a line, if there is a line with one of them.
-fn exchanged_words([one, other]: [&[u8]; 2], text: &[u8], rng: &mut Rng) -> Vec<u8> {
     let mut lines = lines(text);
-    let has_one = |line: &[u8]| word(line) == Some(one) || word(line) == Some(other);
-    let either: Vec<usize> = (0..lines.len()).filter(|&at| has_one(&lines[at])).collect();
-    if !either.is_empty() {
-        let line = &mut lines[*rng.pick(&either)];
-        let (new, old) = if line.starts_with(one) { (other, one) } else { (one, other) };
-        line.splice(..old.len(), new.iter().copied());
+    let is_end = |line: &[u8]| matches!(word(line), Some(b"CALL" | b"BAY"));
+    let ends: Vec<usize> = (0..lines.len()).filter(|&at| is_end(&lines[at])).collect();
+    if !ends.is_empty() {
+        let line = &mut lines[*rng.pick(&ends)];
+        let (new, old): (&[u8], usize) = if line.starts_with(b"CALL") { (b"BAY", 4) } else { (b"CALL", 3) };
+        line.splice(..old, new.iter().copied());
     }
-    lines.concat()
-}
-
-/// A track with its cells exchanged, which turns a one-way track round: a job stays one. Other texts are left as they are.
-fn turned_track(text: &[u8], rng: &mut Rng) -> Vec<u8> {
-    let mut lines = lines(text);
-    let tracks: Vec<usize> = (0..lines.len()).filter(|&at| is_track(&lines[at])).collect();
-    if !tracks.is_empty() {
-        let line = &mut lines[*rng.pick(&tracks)];
-        let mut parts: Vec<&[u8]> = line.strip_suffix(&[LF]).unwrap_or(line).split(|&b| b == TAB).collect();
-        parts[1..].reverse();
-        *line = [parts.join(&TAB), vec![LF]].concat();
-    }
-    lines.concat()
-}
-
-/// Whether the line is a TRACK or a ONEWAY.
-fn is_track(line: &[u8]) -> bool {
-    matches!(word(line), Some(b"TRACK" | b"ONEWAY"))
-}
-
-/// A ONEWAY line more, mostly behind the first line, where it may stand.
-fn added_one_way(text: &[u8], rng: &mut Rng) -> Vec<u8> {
-    let mut lines = lines(text);
-    let at = if rng.once_in(3) { rng.below(lines.len() + 1) } else { lines.len().min(1) };
-    lines.insert(at, format!("ONEWAY\t{}\t{}\n", any_number(rng), any_number(rng)).into_bytes());
     lines.concat()
 }
 

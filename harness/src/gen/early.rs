@@ -6,7 +6,7 @@ use super::large::{late_star, moving, moving_to_bays, put_off};
 use super::renumbered::Numbers;
 use super::Rng;
 use crate::examples::{tabs, EARLY, EARLY_PLAN};
-use crate::model::job::{End, Job, Track};
+use crate::model::job::{End, Job};
 use crate::model::limits;
 use crate::model::reader;
 use crate::model::sheet::{self, Choke, Path, Sheet};
@@ -36,7 +36,7 @@ pub fn early_and_joined(rng: &mut Rng) -> (Job, Vec<Path>) {
     let (mut job, paths) = side_by_side(smallest(), some_beside(rng));
     for beside in smallest().0.cells..job.cells {
         if rng.once_in(2) {
-            job.tracks.push(Track::both(rng.below(smallest().0.cells), beside));
+            job.tracks.push((rng.below(smallest().0.cells), beside));
         }
     }
     some_numbers((job, paths), rng)
@@ -98,7 +98,7 @@ fn side_by_side((one, paths): (Job, Vec<Path>), (other, more): (Job, Vec<Path>))
     let (cells, carts, calls) = (one.cells, one.carts.len(), one.calls.len());
     let mut job = one;
     job.cells += other.cells;
-    job.tracks.extend(other.tracks.into_iter().map(|track| track.between(cells + track.from, cells + track.to)));
+    job.tracks.extend(other.tracks.into_iter().map(|(a, b)| (cells + a, cells + b)));
     job.carts.extend(other.carts.into_iter().map(|cell| cells + cell));
     job.calls.extend(other.calls.into_iter().map(|mut call| {
         call.cell += cells;

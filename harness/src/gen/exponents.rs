@@ -3,8 +3,6 @@
 use super::damage::damaged;
 use super::early::about_early_lifts;
 use super::large::{full_text, longest_text};
-use super::oneway::small_with_one_way;
-use super::oneway_texts::with_line;
 use super::places::{fields_over, places};
 use super::small::small;
 use super::spelled::{respelled, with_power, POWERS};
@@ -62,7 +60,11 @@ fn some_powers() -> Vec<Vec<u8>> {
 
 /// The longest text with a line put in at a place, counted from 1.
 pub fn longest_with(at: usize, line: &str) -> Vec<u8> {
-    with_line(&longest_text(), at, line)
+    let longest = longest_text();
+    let mut lines: Vec<&[u8]> = longest.split_inclusive(|&b| b == b'\n').collect();
+    let line = tabs(line);
+    lines.insert(at - 1, &line);
+    lines.concat()
 }
 
 /// The longest text spun out with lines of the last kind, the last one cut off, to so many bytes.
@@ -84,11 +86,7 @@ fn at_the_limits() -> Vec<Vec<u8>> {
 fn damaged_texts() -> Vec<Vec<u8>> {
     let mut rng = Rng::new(2);
     let mut text = |i: usize| {
-        let job = match i % 4 {
-            0 => about_early_lifts(&mut rng),
-            1 => small_with_one_way(&mut rng),
-            _ => small(&mut rng),
-        };
+        let job = if i.is_multiple_of(4) { about_early_lifts(&mut rng) } else { small(&mut rng) };
         let spelled = respelled(&job.text(), &mut rng);
         damaged(&spelled, &mut rng)
     };

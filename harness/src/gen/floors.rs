@@ -1,28 +1,28 @@
 //! Floors up to the limits, without carts and calls.
 
 use super::Rng;
-use crate::model::job::{Job, Track};
+use crate::model::job::Job;
 use crate::model::limits;
 
 /// A floor of rows and columns, neighbours joined; no cart yet.
 pub fn grid(rows: usize, columns: usize) -> Job {
     let cells = rows * columns;
-    let across = (0..cells).filter(|c| c % columns + 1 < columns).map(|c| Track::both(c, c + 1));
-    let down = (0..cells - columns).map(|c| Track::both(c, c + columns));
+    let across = (0..cells).filter(|c| c % columns + 1 < columns).map(|c| (c, c + 1));
+    let down = (0..cells - columns).map(|c| (c, c + columns));
     Job { cells, tracks: across.chain(down).collect(), ..Job::default() }
 }
 
 /// One cell in the middle, cell 0, and so many round it.
 pub fn star(round: usize) -> Job {
-    Job { cells: round + 1, tracks: (1..=round).map(|c| Track::both(0, c)).collect(), ..Job::default() }
+    Job { cells: round + 1, tracks: (1..=round).map(|c| (0, c)).collect(), ..Job::default() }
 }
 
 /// The floor with further tracks by chance, up to the limit.
 pub fn with_most_tracks(mut floor: Job, rng: &mut Rng) -> Job {
     while floor.tracks.len() < limits::TRACKS {
         let (a, b) = (rng.below(floor.cells), rng.below(floor.cells));
-        if a != b && !floor.tracks.iter().any(|track| track.joins(a, b)) {
-            floor.tracks.push(Track::both(a, b));
+        if a != b && !floor.tracks.contains(&(a, b)) && !floor.tracks.contains(&(b, a)) {
+            floor.tracks.push((a, b));
         }
     }
     floor
@@ -32,7 +32,7 @@ pub fn with_most_tracks(mut floor: Job, rng: &mut Rng) -> Job {
 pub fn ring() -> Job {
     let far = limits::CELLS - 100;
     let on = |i: usize| 100 + i % far;
-    let tracks = (0..limits::TRACKS).map(|i| Track::both(on(i), on(i % far + 1 + i / far))).collect();
+    let tracks = (0..limits::TRACKS).map(|i| (on(i), on(i % far + 1 + i / far))).collect();
     Job { cells: limits::CELLS, tracks, ..Job::default() }
 }
 

@@ -3,7 +3,6 @@
 use super::bays::some_bays;
 use super::floors::{line, ring, star};
 use super::lists::ends;
-use super::oneway::all_one_way;
 use super::spelled::at_full_length;
 use super::Rng;
 use crate::model::job::{Call, End, Job};
@@ -222,10 +221,9 @@ pub fn with_lost_call(mut job: Job) -> (Job, Vec<Choke>) {
     (job, chokes)
 }
 
-/// The longest text that is accepted without an exponent: a job at every limit, all of its tracks one-way, with three digits
-/// in every number.
+/// The longest text that is accepted without an exponent: a job at every limit, with three digits in every number.
 pub fn full_text() -> Vec<u8> {
-    standing(all_one_way(ring()), limits::CARTS, limits::DEADLINE).0.text()
+    standing(ring(), limits::CARTS, limits::DEADLINE).0.text()
 }
 
 /// The longest text that is accepted: the same with six bytes for every number.

@@ -32,8 +32,6 @@ pub fn places(cells: usize) -> Vec<Place> {
         place("FLOOR #\n", 1..CELLS + 1),
         on_floor("TRACK # 0", 0..cells),
         on_floor("TRACK 0 #", 0..cells),
-        on_floor("ONEWAY # 0", 0..cells),
-        on_floor("ONEWAY 0 #", 0..cells),
         on_floor("CART #", 0..cells),
         on_floor("CALL # 0", 0..cells),
         on_floor("CALL 0 #", 0..DEADLINE + 1),

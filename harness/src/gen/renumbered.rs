@@ -1,7 +1,7 @@
 //! A job with its cells, carts and calls in other places, and its sheets with it: the same but for the numbers.
 
 use super::Rng;
-use crate::model::job::{Call, Job, Track};
+use crate::model::job::{Call, Job};
 use crate::model::sheet::{Choke, Path, Plan, Spare};
 
 /// By the number that each had, the number that each has.
@@ -18,10 +18,11 @@ impl Numbers {
         Numbers { cells: any(job.cells), carts: any(job.carts.len()), calls: any(job.calls.len()) }
     }
 
-    /// The job, its tracks in any order too, each either way round, if it carries both ways.
+    /// The job, its tracks in any order too, each either way round.
     pub fn job(&self, job: &Job, rng: &mut Rng) -> Job {
-        let renumbered = |track: &Track| track.between(self.cells[track.from], self.cells[track.to]);
-        let mut tracks: Vec<Track> = job.tracks.iter().map(|track| either_way_round(renumbered(track), rng)).collect();
+        let either_way = |a: usize, b: usize, rng: &mut Rng| if rng.once_in(2) { (a, b) } else { (b, a) };
+        let mut tracks: Vec<(usize, usize)> =
+            job.tracks.iter().map(|&(a, b)| either_way(self.cells[a], self.cells[b], rng)).collect();
         rng.shuffle(&mut tracks);
         let carts = job.carts.iter().map(|&cell| self.cells[cell]).collect();
         let calls = job.calls.iter().map(|call| Call { cell: self.cells[call.cell], ..*call }).collect();
@@ -58,14 +59,6 @@ impl Numbers {
         let mut list: Vec<Choke> = list.iter().map(choke).collect();
         list.sort();
         list
-    }
-}
-
-/// The track with either of its cells first; a one-way track as it is.
-fn either_way_round(track: Track, rng: &mut Rng) -> Track {
-    match track.is_one_way() || rng.once_in(2) {
-        true => track,
-        false => track.turned(),
     }
 }
 

@@ -7,19 +7,18 @@ use super::large::{
     crowded_star, late_star, moving, moving_to_bays, moving_with_spares, put_off, put_off_with_spares, scattered,
     scattered_with_bays, shut_line, standing, with_lost_call,
 };
-use super::oneway::{all_one_way, one_way_along, some_one_way};
 use super::spares::{fewer_calls, one_cart_more};
 use super::Rng;
 use crate::model::job::Job;
 use crate::model::limits::{CARTS, DEADLINE};
 
-/// A job that has a plan, has none, or has one as chance has it. Half of them have bays, a third spare carts, a quarter one-way
-/// tracks, and some need an early lift or a whole call.
+/// A job that has a plan, has none, or has one as chance has it. Half of them have bays, a third spare carts, and some need
+/// an early lift or a whole call.
 pub fn medium(rng: &mut Rng) -> Job {
     let floor = some_floor(rng);
     let carts = rng.below(floor.cells.min(CARTS));
     let most = rng.below(24);
-    match rng.below(20) {
+    match rng.below(15) {
         0 => moving(floor, carts, 0, most, rng).0,
         1 => with_lost_call(moving(floor, carts, 0, most, rng).0).0,
         2 => scattered(floor, carts, most, rng),
@@ -34,21 +33,13 @@ pub fn medium(rng: &mut Rng) -> Job {
         11 => with_lost_call(moving_with_spares(floor, (carts, carts / 3), 0, most, rng).0).0,
         12 => fewer_calls(scattered(floor, carts, most, rng), rng),
         13 => fewer_calls(scattered_with_bays(floor, carts, most, rng), rng),
-        14 => one_cart_more(scattered_with_bays(floor, carts, most, rng), rng),
-        15 => {
-            let (job, plan) = moving_with_spares(floor, (carts, carts / 3), 0, most, rng);
-            one_way_along(job, &plan.walks(), rng)
-        }
-        16 => moving_to_bays(some_one_way(floor, rng), carts, 0, most, rng).0,
-        17 => with_lost_call(moving(some_one_way(floor, rng), carts, 0, most, rng).0).0,
-        18 => scattered(some_one_way(floor, rng), carts, most, rng),
-        _ => fewer_calls(scattered_with_bays(some_one_way(floor, rng), carts, most, rng), rng),
+        _ => one_cart_more(scattered_with_bays(floor, carts, most, rng), rng),
     }
 }
 
 /// The same at the limits, and the jobs with the longest sheet and the widest cell.
 pub fn at_the_limits(rng: &mut Rng) -> Job {
-    match rng.below(22) {
+    match rng.below(18) {
         0 => moving(with_most_tracks(grid(16, 16), rng), CARTS, 200, DEADLINE, rng).0,
         1 => with_lost_call(moving(grid(15, 17), CARTS - 1, 100, DEADLINE, rng).0).0,
         2 => scattered(with_most_tracks(grid(16, 16), rng), CARTS, DEADLINE, rng),
@@ -69,14 +60,7 @@ pub fn at_the_limits(rng: &mut Rng) -> Job {
         }
         15 => fewer_calls(scattered_with_bays(with_most_tracks(grid(16, 16), rng), CARTS, DEADLINE, rng), rng),
         16 => fewer_calls(all_bays(standing(ring(), CARTS, DEADLINE).0), rng),
-        17 => with_lost_call(fewer_calls(moving(grid(15, 17), CARTS - 1, 100, DEADLINE, rng).0, rng)).0,
-        18 => {
-            let floor = some_one_way(with_most_tracks(grid(16, 16), rng), rng);
-            moving_with_spares(floor, (CARTS, rng.below(CARTS)), 200, DEADLINE, rng).0
-        }
-        19 => scattered_with_bays(all_one_way(with_most_tracks(grid(16, 16), rng)), CARTS, DEADLINE, rng),
-        20 => with_lost_call(moving(some_one_way(grid(15, 17), rng), CARTS - 1, 100, DEADLINE, rng).0).0,
-        _ => in_any_order(standing(all_one_way(ring()), CARTS, DEADLINE).0, rng),
+        _ => with_lost_call(fewer_calls(moving(grid(15, 17), CARTS - 1, 100, DEADLINE, rng).0, rng)).0,
     }
 }
 

@@ -3,7 +3,7 @@
 use super::bays::some_bays;
 use super::spares::small_with_spares;
 use super::{orders, Rng};
-use crate::model::job::{Call, End, Job, Track};
+use crate::model::job::{Call, End, Job};
 
 /// About half of the jobs have bays, and a third spare carts.
 pub fn small(rng: &mut Rng) -> Job {
@@ -89,7 +89,7 @@ fn corridor(rng: &mut Rng) -> Job {
     }
     rng.shuffle(&mut calls);
     let carts = rng.sample(at + 1, calls.len()).into_iter().map(|i| name[i]).collect();
-    Job { cells, tracks: (1..cells).map(|i| Track::both(name[i - 1], name[i])).collect(), carts, calls }
+    Job { cells, tracks: (1..cells).map(|i| (name[i - 1], name[i])).collect(), carts, calls }
 }
 
 /// A bay now and then.
@@ -101,13 +101,13 @@ fn some_end(rng: &mut Rng) -> End {
 }
 
 /// From hardly any track to a track between every two cells, each either way round.
-pub(super) fn some_tracks(cells: usize, rng: &mut Rng) -> Vec<Track> {
+fn some_tracks(cells: usize, rng: &mut Rng) -> Vec<(usize, usize)> {
     let most = *rng.pick(&[1, 2, 3, 6]);
-    let mut tracks: Vec<Track> = (0..cells).flat_map(|a| (0..a).map(move |b| Track::both(a, b))).collect();
+    let mut tracks: Vec<(usize, usize)> = (0..cells).flat_map(|a| (0..a).map(move |b| (a, b))).collect();
     tracks.retain(|_| rng.below(6) < most);
     for track in &mut tracks {
         if rng.once_in(2) {
-            *track = track.turned();
+            *track = (track.1, track.0);
         }
     }
     rng.shuffle(&mut tracks);

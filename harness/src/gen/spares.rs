@@ -4,7 +4,7 @@ use super::floors::line;
 use super::renumbered::Numbers;
 use super::small::{small_with_bays, small_without_bays};
 use super::Rng;
-use crate::model::job::{Call, End, Job, Track};
+use crate::model::job::{Call, End, Job};
 
 /// Up to 6 cells, up to 5 carts, deadlines up to 4. Jobs are made until one has a spare cart.
 pub fn small_with_spares(rng: &mut Rng) -> Job {
@@ -56,7 +56,7 @@ pub fn one_cart_more(mut job: Job, rng: &mut Rng) -> Job {
 /// serve a call, so that no plan comes by it.
 pub fn one_cart_behind(mut job: Job, rng: &mut Rng) -> Job {
     if !job.carts.is_empty() && !rng.once_in(4) {
-        job.tracks.push(Track::both(*rng.pick(&job.carts), job.cells));
+        job.tracks.push((*rng.pick(&job.carts), job.cells));
     }
     job.carts.insert(rng.below(job.carts.len() + 1), job.cells);
     job.cells += 1;
@@ -92,7 +92,7 @@ fn in_the_way(rng: &mut Rng) -> Job {
     let carts = 2 + rng.below(job.cells - 1);
     job.carts = (0..carts.min(job.cells)).collect();
     if rng.once_in(2) {
-        job.tracks.push(Track::both(rng.below(job.cells), job.cells));
+        job.tracks.push((rng.below(job.cells), job.cells));
         job.cells += 1;
     }
     let calls = 1 + rng.below(job.carts.len() - 1);

@@ -1,6 +1,6 @@
 //! Whether a choke list is true, layer by layer: for jobs with more walks than can be written out.
 
-use super::job::{Job, Track};
+use super::job::Job;
 use super::sheet::Choke;
 
 /// Strictly rising, cells by step, then cell, and whole calls behind them by number: so none stands twice.
@@ -40,8 +40,9 @@ fn stopped_at(step: usize, chokes: &[Choke]) -> impl Iterator<Item = usize> + '_
 
 fn next_layer(job: &Job, layer: &[bool], step: usize) -> Vec<bool> {
     let mut next = layer.to_vec();
-    for (from, to) in job.tracks.iter().flat_map(Track::steps) {
-        next[to] |= layer[from];
+    for &(a, b) in &job.tracks {
+        next[a] |= layer[b];
+        next[b] |= layer[a];
     }
     for (cell, is_reached) in next.iter_mut().enumerate() {
         *is_reached = *is_reached && job.is_open(cell, step);

@@ -5,27 +5,10 @@ use super::lines::write;
 #[derive(Clone, Debug, Default, PartialEq, Eq)]
 pub struct Job {
     pub cells: usize,
-    pub tracks: Vec<Track>,
+    pub tracks: Vec<(usize, usize)>,
     /// Where each cart stands at step 0.
     pub carts: Vec<usize>,
     pub calls: Vec<Call>,
-}
-
-/// A TRACK line or a ONEWAY line: they are numbered, counted and limited together.
-#[derive(Clone, Copy, Debug, PartialEq, Eq, PartialOrd, Ord)]
-pub struct Track {
-    pub from: usize,
-    pub to: usize,
-    pub sense: Sense,
-}
-
-/// Which way a track carries carts.
-#[derive(Clone, Copy, Debug, PartialEq, Eq, PartialOrd, Ord)]
-pub enum Sense {
-    /// From either cell to the other.
-    Both,
-    /// From the first cell to the second only.
-    OneWay,
 }
 
 /// A CALL line or a BAY line: they are numbered, counted and limited together.
@@ -44,51 +27,6 @@ pub enum End {
     Lift,
     /// It parks there for the rest of the job, at the bay's very step.
     Bay,
-}
-
-impl Track {
-    pub fn both(from: usize, to: usize) -> Track {
-        Track { from, to, sense: Sense::Both }
-    }
-
-    pub fn one_way(from: usize, to: usize) -> Track {
-        Track { from, to, sense: Sense::OneWay }
-    }
-
-    pub fn is_one_way(&self) -> bool {
-        self.sense == Sense::OneWay
-    }
-
-    /// Whether it joins the two cells, whichever of them is its first, and whichever way it carries carts.
-    pub fn joins(&self, one: usize, other: usize) -> bool {
-        (self.from, self.to) == (one, other) || (self.to, self.from) == (one, other)
-    }
-
-    /// The steps along it, each from a cell to a cell. Walks, plans and choke lists all have the sense from here.
-    pub fn steps(&self) -> Vec<(usize, usize)> {
-        match self.sense {
-            Sense::Both => vec![(self.from, self.to), (self.to, self.from)],
-            Sense::OneWay => vec![(self.from, self.to)],
-        }
-    }
-
-    /// The same line with its cells in the other order: a one-way track carries carts the other way then.
-    pub fn turned(self) -> Track {
-        Track { from: self.to, to: self.from, ..self }
-    }
-
-    /// The same track between other cells.
-    pub fn between(self, from: usize, to: usize) -> Track {
-        Track { from, to, ..self }
-    }
-
-    /// The word of its line.
-    pub fn word(&self) -> &'static str {
-        match self.sense {
-            Sense::Both => "TRACK",
-            Sense::OneWay => "ONEWAY",
-        }
-    }
 }
 
 impl Call {
@@ -151,15 +89,12 @@ impl Job {
         order
     }
 
-    pub fn has_one_way_tracks(&self) -> bool {
-        self.tracks.iter().any(Track::is_one_way)
-    }
-
-    /// For each cell, the cells that one step leads to: itself, and those to which a track carries from it.
+    /// For each cell, the cells that one step leads to: itself, and those one track away.
     pub fn within_a_step(&self) -> Vec<Vec<usize>> {
         let mut near: Vec<Vec<usize>> = (0..self.cells).map(|cell| vec![cell]).collect();
-        for (from, to) in self.tracks.iter().flat_map(Track::steps) {
-            near[from].push(to);
+        for &(a, b) in &self.tracks {
+            near[a].push(b);
+            near[b].push(a);
         }
         near
     }
@@ -168,8 +103,8 @@ impl Job {
     pub fn text(&self) -> Vec<u8> {
         let mut out = Vec::new();
         write(&mut out, "FLOOR", &[self.cells]);
-        for track in &self.tracks {
-            write(&mut out, track.word(), &[track.from, track.to]);
+        for &(a, b) in &self.tracks {
+            write(&mut out, "TRACK", &[a, b]);
         }
         for &cell in &self.carts {
             write(&mut out, "CART", &[cell]);

@@ -3,7 +3,7 @@
 //! The text is split into lines first. Then each line has to be what belongs in its place.
 
 use super::answer::*;
-use super::job::{Job, Track};
+use super::job::Job;
 use super::limits;
 use super::lines::{number, LF};
 
@@ -74,8 +74,8 @@ pub fn floor(map: &Map) -> Job {
     for (row, column) in places(map) {
         let Some(cell) = at(row, column) else { continue };
         floor.cells += 1;
-        floor.tracks.extend(at(row, column + 1).map(|right| Track::both(cell, right)));
-        floor.tracks.extend(at(row + 1, column).map(|below| Track::both(cell, below)));
+        floor.tracks.extend(at(row, column + 1).map(|right| (cell, right)));
+        floor.tracks.extend(at(row + 1, column).map(|below| (cell, below)));
     }
     floor
 }

@@ -4,26 +4,25 @@
 //! what stands twice are matters of the values, however they are written.
 
 use super::answer::*;
-use super::job::{Call, End, Job, Sense, Track};
+use super::job::{Call, End, Job};
 use super::limits;
 use super::lines::{lines, scaled_numbers, Line};
 
-/// The kinds of lines. TRACK and ONEWAY lines are of one kind but for their sense, CALL and BAY lines but for how they
-/// end.
+/// The kinds of lines. CALL and BAY lines are of one kind but for how they end.
 #[derive(Clone, Copy, PartialEq)]
 enum Kind {
     Floor,
-    Track(Sense),
+    Track,
     Cart,
     Call(End),
 }
 
 impl Kind {
-    /// Lines stand in the order of these; TRACK and ONEWAY lines in any mixture, CALL and BAY lines too.
+    /// Lines stand in the order of these; CALL and BAY lines in any mixture.
     fn rank(self) -> usize {
         match self {
             Kind::Floor => 0,
-            Kind::Track(_) => 1,
+            Kind::Track => 1,
             Kind::Cart => 2,
             Kind::Call(_) => 3,
         }
@@ -71,8 +70,7 @@ fn take(job: &mut Job, before: Option<Kind>, line: &Line) -> Result<Kind, u8> {
 fn kind_in_form(before: Option<Kind>, line: &Line) -> Option<Kind> {
     let (kind, fields) = match line.word {
         b"FLOOR" => (Kind::Floor, 1),
-        b"TRACK" => (Kind::Track(Sense::Both), 2),
-        b"ONEWAY" => (Kind::Track(Sense::OneWay), 2),
+        b"TRACK" => (Kind::Track, 2),
         b"CART" => (Kind::Cart, 1),
         b"CALL" => (Kind::Call(End::Lift), 2),
         b"BAY" => (Kind::Call(End::Bay), 2),
@@ -88,7 +86,7 @@ fn kind_in_form(before: Option<Kind>, line: &Line) -> Option<Kind> {
 fn in_range(job: &Job, kind: Kind, n: &[usize]) -> bool {
     match kind {
         Kind::Floor => 1 <= n[0] && n[0] <= limits::CELLS,
-        Kind::Track(_) => n[0] < job.cells && n[1] < job.cells,
+        Kind::Track => n[0] < job.cells && n[1] < job.cells,
         Kind::Cart => n[0] < job.cells,
         Kind::Call(_) => n[0] < job.cells && n[1] <= limits::DEADLINE,
     }
@@ -97,7 +95,7 @@ fn in_range(job: &Job, kind: Kind, n: &[usize]) -> bool {
 fn has_room(job: &Job, kind: Kind) -> bool {
     match kind {
         Kind::Floor => true,
-        Kind::Track(_) => job.tracks.len() < limits::TRACKS,
+        Kind::Track => job.tracks.len() < limits::TRACKS,
         Kind::Cart => job.carts.len() < limits::CARTS,
         Kind::Call(_) => job.calls.len() < limits::CALLS,
     }
@@ -106,7 +104,10 @@ fn has_room(job: &Job, kind: Kind) -> bool {
 fn is_doubled(job: &Job, kind: Kind, n: &[usize]) -> bool {
     match kind {
         Kind::Floor => false,
-        Kind::Track(_) => n[0] == n[1] || job.tracks.iter().any(|track| track.joins(n[0], n[1])),
+        Kind::Track => {
+            let joined = |&(a, b): &(usize, usize)| (a, b) == (n[0], n[1]) || (b, a) == (n[0], n[1]);
+            n[0] == n[1] || job.tracks.iter().any(joined)
+        }
         Kind::Cart => job.carts.contains(&n[0]),
         Kind::Call(_) => job.calls.iter().any(|call| call.cell == n[0]),
     }
@@ -115,7 +116,7 @@ fn is_doubled(job: &Job, kind: Kind, n: &[usize]) -> bool {
 fn add(job: &mut Job, kind: Kind, n: &[usize]) {
     match kind {
         Kind::Floor => job.cells = n[0],
-        Kind::Track(sense) => job.tracks.push(Track { from: n[0], to: n[1], sense }),
+        Kind::Track => job.tracks.push((n[0], n[1])),
         Kind::Cart => job.carts.push(n[0]),
         Kind::Call(end) => job.calls.push(Call { cell: n[0], deadline: n[1], end }),
     }

@@ -46,13 +46,6 @@ fn walks_to_the_last_step(job: &Job, near: &[Vec<usize>], start: usize) -> Vec<W
     walks
 }
 
-/// The walk of each cart that stands still up to the last step, where no bay closes its cell before.
-pub fn standing_walks(job: &Job) -> Vec<Vec<Walk>> {
-    let is_open = |cell: usize| (0..=job.last()).all(|step| job.is_open(cell, step));
-    let still = |&cell: &usize| if is_open(cell) { vec![vec![cell; job.last() + 1]] } else { Vec::new() };
-    job.carts.iter().map(still).collect()
-}
-
 fn one_step_longer<'a>(job: &'a Job, near: &'a [Vec<usize>], walk: &'a [usize]) -> impl Iterator<Item = Walk> + 'a {
     let (here, step) = (walk[walk.len() - 1], walk.len());
     let open = near[here].iter().filter(move |&&next| job.is_open(next, step));

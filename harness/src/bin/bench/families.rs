@@ -4,7 +4,7 @@ use harness::gen::bays::with_bays;
 use harness::gen::floors::{grid, line, star};
 use harness::gen::large::{moving, moving_to_bays, scattered};
 use harness::gen::Rng;
-use harness::model::job::{Call, Job, Track};
+use harness::model::job::{Call, Job};
 use harness::model::limits::{CARTS, DEADLINE};
 
 use crate::floors::{aisles, clique, comb, rooms, sparse, two_hubs};
@@ -30,11 +30,11 @@ pub struct Family {
 }
 
 pub const OPEN_GRID: Family = Family { name: "open grid", make: |s, i, r| on(grid(s.side, s.side), s, i, r) };
-pub const SMALL_HALL: Family = Family { name: "small hall", make: |_, i, r| small_hall(grid, i, r) };
+pub const SMALL_HALL: Family = Family { name: "small hall", make: |_, i, r| small_hall(i, r) };
 pub const HALF_BAYS: Family =
     Family { name: "open grid, half bays", make: |s, i, r| to_bays_on(grid(s.side, s.side), s, i, r) };
 
-/// As many carts as calls, and all tracks both ways; `spares` and `oneway` have the others.
+/// As many carts as calls; `spares` has the others.
 pub const FAMILIES: [Family; 18] = [
     OPEN_GRID,
     Family { name: "bottleneck", make: |s, _, r| bottleneck(s, r) },
@@ -70,7 +70,7 @@ impl Family {
 }
 
 /// By turns: a plan is known; carts and calls anywhere; deadlines so tight that only just no plan exists, or just one.
-pub fn on(floor: Job, size: Size, i: usize, rng: &mut Rng) -> Job {
+fn on(floor: Job, size: Size, i: usize, rng: &mut Rng) -> Job {
     match i % 4 {
         0 => moving(floor, size.carts, 0, size.last, rng).0,
         1 => scattered(floor, size.carts, size.last, rng),
@@ -80,7 +80,7 @@ pub fn on(floor: Job, size: Size, i: usize, rng: &mut Rng) -> Job {
 }
 
 /// The same with bays for about half of the calls.
-pub fn to_bays_on(floor: Job, size: Size, i: usize, rng: &mut Rng) -> Job {
+fn to_bays_on(floor: Job, size: Size, i: usize, rng: &mut Rng) -> Job {
     match i % 4 {
         0 => moving_to_bays(floor, size.carts, 0, size.last, rng).0,
         1 => with_bays(scattered(floor, size.carts, size.last, rng), size.carts / 2, rng),
@@ -98,22 +98,16 @@ fn by_turns((some, none): (Job, Job), i: usize) -> Job {
 }
 
 /// 12 to 63 cells, a cart for about six of them, deadlines up to 8 to 50.
-pub fn small_hall(floor: fn(usize, usize) -> Job, i: usize, rng: &mut Rng) -> Job {
+fn small_hall(i: usize, rng: &mut Rng) -> Job {
     let (rows, columns) = (3 + rng.below(5), 4 + rng.below(6));
     let size = Size { side: columns, carts: rows * columns / 6, last: 8 + rng.below(43) };
-    on(floor(rows, columns), size, i, rng)
+    on(grid(rows, columns), size, i, rng)
 }
 
 /// The same job with its cells renumbered at random, its lines of each kind in another order.
 pub fn renumbered(job: &Job, rng: &mut Rng) -> Job {
     let name = rng.sample(job.cells, job.cells);
-    let mut track = |track: &Track| {
-        let new = track.between(name[track.from], name[track.to]);
-        match track.is_one_way() || rng.once_in(2) {
-            true => new,
-            false => new.turned(),
-        }
-    };
+    let mut track = |&(a, b): &(usize, usize)| if rng.once_in(2) { (name[a], name[b]) } else { (name[b], name[a]) };
     let mut new = Job {
         cells: job.cells,
         tracks: job.tracks.iter().map(&mut track).collect(),

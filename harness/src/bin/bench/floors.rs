@@ -2,13 +2,13 @@
 
 use harness::gen::floors::grid;
 use harness::gen::Rng;
-use harness::model::job::{Job, Track};
+use harness::model::job::Job;
 
 /// A square grid without the tracks for which `is_walled` holds.
 fn walled(side: usize, mut is_walled: impl FnMut((usize, usize), (usize, usize)) -> bool) -> Job {
     let mut floor = grid(side, side);
     let at = |cell: usize| (cell / side, cell % side);
-    floor.tracks.retain(|track| !is_walled(at(track.from), at(track.to)));
+    floor.tracks.retain(|&(a, b)| !is_walled(at(a), at(b)));
     floor
 }
 
@@ -40,25 +40,13 @@ pub fn comb(side: usize) -> Job {
     walled(side, |(row, column), (_, column_b)| column != column_b && row != 0)
 }
 
-/// Main aisles along the four walls, a ring that runs one way: to the right along the first row. Lanes both ways lead from
-/// the first row to the last.
-pub fn ring_of_aisles(rows: usize, columns: usize) -> Job {
-    let (bottom, right) = (rows - 1, columns - 1);
-    let at = |row: usize, column: usize| row * columns + column;
-    let across = (0..right).flat_map(|i| [(at(0, i), at(0, i + 1)), (at(bottom, i + 1), at(bottom, i))]);
-    let along = (0..bottom).flat_map(|i| [(at(i, right), at(i + 1, right)), (at(i + 1, 0), at(i, 0))]);
-    let ring = across.chain(along).map(|(from, to)| Track::one_way(from, to));
-    let lanes = (1..right).flat_map(|lane| (0..bottom).map(move |row| Track::both(at(row, lane), at(row + 1, lane))));
-    Job { cells: rows * columns, tracks: ring.chain(lanes).collect(), ..Job::default() }
-}
-
 /// Each cell joined to one before it, and so many tracks more.
 pub fn sparse(cells: usize, more: usize, rng: &mut Rng) -> Job {
-    let mut tracks: Vec<Track> = (1..cells).map(|c| Track::both(rng.below(c), c)).collect();
+    let mut tracks: Vec<(usize, usize)> = (1..cells).map(|c| (rng.below(c), c)).collect();
     while tracks.len() < cells - 1 + more {
         let (a, b) = (rng.below(cells), rng.below(cells));
-        if a < b && !tracks.contains(&Track::both(a, b)) {
-            tracks.push(Track::both(a, b));
+        if a < b && !tracks.contains(&(a, b)) {
+            tracks.push((a, b));
         }
     }
     Job { cells, tracks, ..Job::default() }
@@ -66,12 +54,12 @@ pub fn sparse(cells: usize, more: usize, rng: &mut Rng) -> Job {
 
 /// All cells joined to the first two.
 pub fn two_hubs(cells: usize) -> Job {
-    let tracks = (0..2).flat_map(|hub| (hub + 1..cells).map(move |c| Track::both(hub, c))).collect();
+    let tracks = (0..2).flat_map(|hub| (hub + 1..cells).map(move |c| (hub, c))).collect();
     Job { cells, tracks, ..Job::default() }
 }
 
 /// Every two cells joined.
 pub fn clique(cells: usize) -> Job {
-    let tracks = (0..cells).flat_map(|a| (a + 1..cells).map(move |b| Track::both(a, b))).collect();
+    let tracks = (0..cells).flat_map(|a| (a + 1..cells).map(move |b| (a, b))).collect();
     Job { cells, tracks, ..Job::default() }
 }

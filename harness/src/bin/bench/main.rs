@@ -14,7 +14,6 @@ mod families;
 mod floors;
 mod maps;
 mod measure;
-mod oneway;
 mod pairs;
 mod peers;
 mod placed;
@@ -30,9 +29,8 @@ use families::{renumbered, Size, FAMILIES, LIMITS, OPEN_GRID};
 use harness::gen::Rng;
 use harness::model::job::Job;
 use measure::{measure, Effort};
-use oneway::ONE_WAY_FAMILIES;
 use peers::Peer;
-use report::{Kind, Measured};
+use report::Measured;
 use spares::SPARE_FAMILIES;
 
 const FULL: Effort = Effort { rounds: 40, peer_rounds: 4 };
@@ -52,8 +50,6 @@ const WORDS: &str = "\
 - before: a former library's calls, where `./bench --before ARCHIVE` names one, on the jobs that it answers alike; its check gets its own sheet.
 - Families with spare carts, more carts than calls, have rows of their own above, and no part in the others. Peers serve their calls and leave out
   the spare carts. How these are kept out of the way is not told by a count of visits.
-- Families with one-way tracks have rows of their own too, and no before: a former library refuses their jobs. One-way ring of aisles: a hall with main
-  aisles along its walls, a ring that runs one way, and with side lanes both ways between its first row and its last. Small ones have 12 to 63 cells.
 - 56 spares: a job at the limits with 64 carts and 8 calls, one of them at the last step. As many lifts: the same job with 56 calls more, each due when
   a cart can be there. As many bays: 56 bays at the last step on the same cells, which have as many cells on the sheet as spare carts. Lifts are met
   early, and have far fewer.
@@ -82,11 +78,11 @@ fn main() {
         name: name.into(),
         jobs: jobs.iter().map(|job| measure(job, peers, before, effort)).collect(),
         has_bays: jobs.iter().any(Job::has_bays),
-        kind: Kind::of(jobs),
+        has_spares: jobs.iter().any(|job| job.carts.len() > job.calls.len()),
     };
 
     let mut families = Vec::new();
-    let all = FAMILIES.iter().chain(&SPARE_FAMILIES).chain(&ONE_WAY_FAMILIES);
+    let all = FAMILIES.iter().chain(&SPARE_FAMILIES);
     for family in all.filter(|f| after("--only").is_none_or(|name| f.name == name)) {
         eprintln!("{}", family.name);
         let plain = family.jobs(is_quick);
@@ -99,7 +95,7 @@ fn main() {
     let sizes: Vec<(Size, Measured)> = SIDES.into_iter().map(of_side).collect();
 
     eprintln!("spare carts beside calls");
-    let has_spares = families.iter().any(|family| family.kind == Kind::Spares);
+    let has_spares = families.iter().any(|family| family.has_spares);
     let pairs = if has_spares { pairs::measure(effort.rounds) } else { Vec::new() };
 
     eprintln!("maps");
@@ -136,7 +132,7 @@ fn of_side(side: usize) -> (Size, Measured) {
     let size = Size { side, carts: side * side / 4, last: side * side - 1 };
     let jobs: Vec<Job> = (0..20).map(|i| OPEN_GRID.job(size, i)).collect();
     let jobs = jobs.iter().map(|job| measure(job, &[], None, QUICK)).collect();
-    (size, Measured { name: String::new(), jobs, has_bays: false, kind: Kind::Common })
+    (size, Measured { name: String::new(), jobs, has_bays: false, has_spares: false })
 }
 
 fn listed(names: &[&str]) -> String {

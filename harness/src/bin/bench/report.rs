@@ -1,8 +1,6 @@
 //! What is printed: the ratios that are asked for, then the families, the spare carts, the maps, the job texts, and the
 //! growth.
 
-use harness::model::job::Job;
-
 use crate::collection::Filed;
 use crate::families::Size;
 use crate::maps;
@@ -16,27 +14,7 @@ pub struct Measured {
     pub name: String,
     pub jobs: Vec<Figures>,
     pub has_bays: bool,
-    pub kind: Kind,
-}
-
-/// Which rows a family has a part in: a kind that came later has its own, so that the others stay comparable.
-#[derive(Clone, Copy, PartialEq)]
-pub enum Kind {
-    Common,
-    Spares,
-    OneWay,
-}
-
-impl Kind {
-    pub fn of(jobs: &[Job]) -> Kind {
-        if jobs.iter().any(Job::has_one_way_tracks) {
-            Kind::OneWay
-        } else if jobs.iter().any(|job| job.spares() > 0) {
-            Kind::Spares
-        } else {
-            Kind::Common
-        }
-    }
+    pub has_spares: bool,
 }
 
 impl Measured {
@@ -102,7 +80,8 @@ impl OnFloor {
     }
 }
 
-/// Each ratio beside what is asked of it. `open_grid` has the jobs at the limits.
+/// Each ratio beside what is asked of it. `open_grid` has the jobs at the limits. Families with spare carts have rows of
+/// their own.
 pub fn ratios(
     families: &[Measured],
     open_grid: &Measured,
@@ -111,10 +90,11 @@ pub fn ratios(
     texts: &[Spelled],
     filed: Option<Filed>,
 ) {
-    let common = || families.iter().filter(|family| family.kind == Kind::Common);
-    let all = || common().flat_map(|family| &family.jobs);
-    let medians = |of: fn(&Figures) -> f64| common().map(move |family| family.median(of));
-    let without = |of: fn(&Figures) -> f64| common().filter(|f| !f.has_bays).map(move |family| family.median(of));
+    let of_kind = |has_spares: bool| families.iter().filter(move |family| family.has_spares == has_spares);
+    let all = || of_kind(false).flat_map(|family| &family.jobs);
+    let medians = |of: fn(&Figures) -> f64| of_kind(false).map(move |family| family.median(of));
+    let without = |of: fn(&Figures) -> f64| of_kind(false).filter(|f| !f.has_bays).map(move |family| family.median(of));
+    let with_spares = |of: fn(&Figures) -> f64| of_kind(true).map(move |family| family.median(of));
     let mut table = Table::new(&["ratio", "asked", "measured"]);
     let mut row = |name: &str, asked: &str, value: f64| table.row([name.into(), asked.into(), shown(value, 2)]);
     row("plan / baseline, geometric mean of the families", "at most 1.1", geometric_mean(medians(to_baseline)));
@@ -131,11 +111,15 @@ pub fn ratios(
     row("plan / plan before, geometric mean of the families", "", geometric_mean(medians(of_before)));
     row("plan / plan before, worst family", "", most(medians(of_before)));
     row("check / check before, geometric mean of the families", "", geometric_mean(medians(of_check_before)));
-    own_rows(families, Kind::Spares, "with spare carts", &mut row);
+    row("plan / baseline with spare carts, geometric mean", "", geometric_mean(with_spares(to_baseline)));
+    row("plan / baseline with spare carts, worst family", "", most(with_spares(to_baseline)));
+    row("best peer / plan with spare carts, geometric mean", "", geometric_mean(with_spares(of_peer)));
+    let jobs_with_spares = of_kind(true).flat_map(|family| &family.jobs);
+    row("best peer / plan with spare carts, worst job", "", least(jobs_with_spares.map(of_peer)));
+    row("check / plan with spare carts, worst family", "", most(with_spares(of_check)));
     let in_place = |of: fn(&pairs::Figures) -> f64| most(pairs.iter().map(|floor| floor.median(of)));
     row(&format!("plan with {SPARES} spares / as many bays, worst floor"), "at most 1", in_place(to_bays));
     row(&format!("plan with {SPARES} spares / as many lifts, worst floor"), "", in_place(to_lifts));
-    own_rows(families, Kind::OneWay, "with one-way tracks", &mut row);
     let map_ratios = || maps.iter().map(|f| f.map / f.baseline);
     row("map / baseline, geometric mean of the families", "", geometric_mean(map_ratios()));
     row("map / baseline, worst family", "at most 1.5", most(map_ratios()));
@@ -150,18 +134,6 @@ pub fn ratios(
         row(&format!("floors / calls and files, {jobs} jobs, all cores"), "at most 2", all);
     }
     table.print();
-}
-
-/// The rows of a kind that has its own.
-fn own_rows(families: &[Measured], kind: Kind, with: &str, row: &mut impl FnMut(&str, &str, f64)) {
-    let of_kind = || families.iter().filter(|family| family.kind == kind);
-    let jobs = || of_kind().flat_map(|family| &family.jobs);
-    let medians = |of: fn(&Figures) -> f64| of_kind().map(move |family| family.median(of));
-    row(&format!("plan / baseline {with}, geometric mean"), "", geometric_mean(medians(to_baseline)));
-    row(&format!("plan / baseline {with}, worst family"), "", most(medians(to_baseline)));
-    row(&format!("best peer / plan {with}, geometric mean"), "", geometric_mean(medians(of_peer)));
-    row(&format!("best peer / plan {with}, worst job"), "", least(jobs().map(of_peer)));
-    row(&format!("check / plan {with}, worst family"), "", most(medians(of_check)));
 }
 
 /// Ratios a family: the median, then the worst job.

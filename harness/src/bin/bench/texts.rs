@@ -124,7 +124,7 @@ fn is_read(packed: u64) -> bool {
     packed == pack(STORE_TOO_SHORT, 0)
 }
 
-/// The longest text without an exponent and without a one-way track, its lines of each kind in any order.
+/// The longest text without an exponent, its lines of each kind in any order.
 fn full(i: usize) -> Job {
     let mut rng = Rng::new(i as u64);
     let mut job = standing(ring(), CARTS, DEADLINE).0;

@@ -8,7 +8,7 @@ use harness::gen::floors::grid;
 use harness::gen::large::scattered;
 use harness::gen::Rng;
 use harness::model::answer::{unpack, PLAN};
-use harness::model::job::{Call, Job, Track};
+use harness::model::job::{Call, Job};
 use harness::model::limits::{sheet_least, store_least};
 
 use crate::families::Size;
@@ -145,8 +145,8 @@ pub fn shut_aisles(size: Size, rng: &mut Rng) -> (Job, Job) {
 /// to the gap from a cell where a cart has to be met at that step: in the first job the lifts have to take theirs earlier.
 pub fn gap_behind_lifts(size: Size, rng: &mut Rng) -> (Job, Job) {
     let floor = halves(size.side, rng);
-    let is_gap = |track: &&Track| track.to == track.from + 1 && track.to % size.side == size.side / 2;
-    let Track { from: gap, to: beyond, .. } = *floor.tracks.iter().find(is_gap).expect("a gap");
+    let is_gap = |&&(a, b): &&(usize, usize)| b == a + 1 && b % size.side == size.side / 2;
+    let (gap, beyond) = *floor.tracks.iter().find(is_gap).expect("a gap");
     let before: Vec<usize> = floor.within_a_step()[gap].iter().copied().filter(|&c| c != gap && c != beyond).collect();
     let (seed, met) = (rng.below(1 << 30) as u64, size.carts / 4 + rng.below(size.carts / 4));
     let due_at = |k: usize| {

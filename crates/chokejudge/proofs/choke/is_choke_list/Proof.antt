@@ -5,7 +5,7 @@ use Rattle.chokejudge.specs.ChokeLayers.{Parted}
 use Prim.Native.Nat.{◌<◌, ◌≤◌, ℕ}
 use mathlib.Core.Path.{◌∙◌, ◌≡◌, sym}
 use native.Mathlib.Omega.{arith}
-use Rattle.floor.proofs.JobTables.{calls_apart, near_of, onto_of, tracks-of, tracks_turned}
+use Rattle.floor.proofs.JobTables.{calls_apart, near_of, tracks-of}
 use Rattle.chokejudge.proofs.ChokeLayers.{calls_known, carts_known, chokes_right, chokes_wrong, closing_of, points_known}
 use Rattle.job.specs.Held.{chokes_to}
 use Rattle.chokejudge.proofs.OrderLaws.{climbs, in_order, parted}
@@ -34,18 +34,10 @@ returns c = denied (λ r. (then1→in-order c).in_order.ensures.1 (not-true _ c.
 count-cells-requires : tie.Need-count-cells-requires
 count-cells-requires c κs = enough (else1→start c).requires.5 (else1→start c).requires.1.calls (else1→start c).requires.4
 
-row-tables-requires : tie.Need-row-tables-requires
-row-tables-requires c κs =
-    let s = onset→start c in (
-      tracks-of s.args.t1 s.pre.0,
-      tracks_turned s.args.t1 s.pre.0,
-      s.pre.1.tracks,
-      s.pre.0.fit.few_cells,
-      search rules,
-      search rules,
-      search rules,
-      search rules,
-    )
+neighbours-requires : tie.Need-neighbours-requires
+neighbours-requires c κs =
+    let s = begin→start c in
+    (tracks-of s.args.t1 s.pre.0, s.pre.1.tracks, s.pre.0.fit.few_cells, search rules, search rules)
 
 -- the first test has shown the order, and by it the cells were counted
 order : (c : tie.Else1) → let a = (else1→start c).args in ChokesInOrder (chokes_to a.first.now a.second.now a.kinds.now a.n)
@@ -93,8 +85,7 @@ reaches-requires c κs =
       climbs a.first.now a.second.now a.kinds.now a.n f (reaches-arg2→count-cells c).count-cells.result m,
       (
         job_of a.t1,
-        near_of a.t1 (reaches-arg2→row-tables c).row-tables.ensures.0,
-        onto_of a.t1 (reaches-arg2→row-tables c).row-tables.ensures.1,
+        near_of a.t1 (reaches-arg2→neighbours c).neighbours.ensures,
         carts_known a.t1 p.0,
         points_known a.t1 p.0 a.first.now a.second.now a.kinds.now m p.6,
         p.0.fit.few_cells,
@@ -109,7 +100,7 @@ returns-2 c =
     let a = s.args in
     let p = s.pre in
     let m = split (reaches→count-cells c) in
-    let r = onto_of a.t1 (reaches→row-tables c).row-tables.ensures.1 in
+    let r = near_of a.t1 (reaches→neighbours c).neighbours.ensures in
     let h = (reaches→horizon c).horizon.ensures in
     let last = h.0 ∙ sym (last_deadline a.t1) in (
       λ e. chokes_right a.t1 p.0 a.first.now a.second.now a.kinds.now m p.6 r (reaches→call-tables c).call-tables.ensures.0
@@ -124,6 +115,5 @@ pub is-choke-list-spec : {M : Type 1} → statement M
 is-choke-list-spec =
     tie.close
     (tie.spec
-    in-order-requires returns count-cells-requires (λ c. search rules) (λ c. search rules) (λ c. search rules) (λ c. search rules) row-tables-requires (λ c. search rules)
-    (λ c. search rules) call-tables-requires horizon-requires (λ c. search rules) (λ c. search rules) (λ c. search rules) (λ c. search rules) (λ c. search rules) reaches-requires
-    returns-2)
+    in-order-requires returns count-cells-requires (λ c. search rules) (λ c. search rules) neighbours-requires (λ c. search rules) (λ c. search rules) call-tables-requires
+    horizon-requires (λ c. search rules) (λ c. search rules) (λ c. search rules) reaches-requires returns-2)

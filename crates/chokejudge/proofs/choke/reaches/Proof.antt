@@ -19,12 +19,12 @@ mod Places
 use Places.*
 
 abbrev invariant-loop : tie.invariant-loop
-invariant-loop near begin onto onset shut due starts carts targets calls last cells steps n latest before since₀ queue₀ head₀ tail₀ opens₀ end₀ t₀ since queue head tail opens end t =
-    (t ≤ last + 1) × Holding onto onset shut starts carts cells steps n t since queue head tail opens end
-    × Unmet (MetBy due shut) (Reached onto onset shut starts carts cells steps n) t
+invariant-loop near begin shut due starts carts targets calls last cells steps n latest before since₀ queue₀ head₀ tail₀ opens₀ end₀ t₀ since queue head tail opens end t =
+    (t ≤ last + 1) × Holding near begin shut starts carts cells steps n t since queue head tail opens end
+    × Unmet (MetBy due shut) (Reached near begin shut starts carts cells steps n) t
 
 abbrev decreases-loop : tie.decreases-loop
-decreases-loop near begin onto onset shut due starts carts targets calls last cells steps n latest before since₀ queue₀ head₀ tail₀ opens₀ end₀ t₀ since queue head tail opens end t = last + 1 - t
+decreases-loop near begin shut due starts carts targets calls last cells steps n latest before since₀ queue₀ head₀ tail₀ opens₀ end₀ t₀ since queue head tail opens end t = last + 1 - t
 
 place-requires : tie.Need-place-requires invariant-loop decreases-loop
 place-requires c κs = ((queue→start c).requires.0, record { cells = search rules; places = search rules; ends = omega arith })
@@ -39,7 +39,7 @@ loop-holds c =
     let a = (since4→start c).args in
     let p = (since4→start c).requires in (
       omega arith,
-      holding_first (first_open p.8 a.starts.now a.carts p.7.0.cells p.7.5 p.7.3) (zeros max_cells) (search rules) (search rules) (since4→place c).place.ensures
+      holding_first (first_open p.8 a.starts.now a.carts p.7.0.cells p.7.4 p.7.2) (zeros max_cells) (search rules) (search rules) (since4→place c).place.ensures
           (since4→close c).close.ensures,
       λ s v l. absurd (not-suc-le-zero l),
     )
@@ -88,7 +88,7 @@ grow-requires c κs =
       h.points,
       omega (arith, h.to.few, p.4),
       h.queued,
-      (p.7.0.cells, p.7.1.rows, p.7.2.rows, λ k b. p.7.4 k (omega (arith, h.to.few)), older_known h p.7.2 p.7.3),
+      (p.7.0.cells, p.7.1.rows, λ k b. p.7.3 k (omega (arith, h.to.few)), older_known h p.7.1 p.7.2),
     )
 
 close-requires-2 : tie.Need-close-requires-2 invariant-loop decreases-loop
@@ -120,7 +120,7 @@ loop-again c =
     let out = ((since10→has-bay c).has-bay.ensures key a.calls (p.1, (since10→chain c).chain.ensures)).1 (since10→else2 c).if2.false in
     let none = (since10→has-lift c).has-lift.ensures.1 (since10→else1 c).if1.false in (
       turned in_time,
-      holding_next h p.7.2 p.7.3 p.7.1 p.7.4 (still_open h a.due.now a.targets.now a.calls p.8 (soon in_time p.2) out) (since10→grow c).grow.ensures
+      holding_next h p.7.1 p.7.2 p.7.3 (still_open h a.due.now a.targets.now a.calls p.8 (soon in_time p.2) out) (since10→grow c).grow.ensures
           (since10→close2 c).close2.ensures,
       unmet_more h a.due.now a.targets.now a.calls p.8 (soon in_time p.2) out none l.inv.2,
     )

@@ -19,14 +19,14 @@ use Places.*
 
 -- what u leads to, where it is older
 abbrev Spreads : List ℕ → List ℕ → List ℕ → ℕ → ℕ → ℕ → Type 0
-Spreads onto onset l s u v = Older l s u × Side onto onset u v
+Spreads near begin l s u v = Older l s u × Side near begin u v
 
 abbrev invariant-loop : tie.invariant-loop
-invariant-loop onto onset shut since₀ queue₀ head end tail stamp at₀ i₀ since queue at i =
-    (head ≤ i) × (i ≤ end) × Grown shut stamp (Each queue₀ head i (Spreads onto onset since₀ stamp)) since₀ queue₀ tail since queue at × Roomy since queue at
+invariant-loop near begin shut since₀ queue₀ head end tail stamp at₀ i₀ since queue at i =
+    (head ≤ i) × (i ≤ end) × Grown shut stamp (Each queue₀ head i (Spreads near begin since₀ stamp)) since₀ queue₀ tail since queue at × Roomy since queue at
 
 abbrev decreases-loop : tie.decreases-loop
-decreases-loop onto onset shut since₀ queue₀ head end tail stamp at₀ i₀ since queue at i = end - i
+decreases-loop near begin shut since₀ queue₀ head end tail stamp at₀ i₀ since queue at i = end - i
 
 loop-holds : tie.Need-loop-init invariant-loop decreases-loop
 loop-holds c =
@@ -46,9 +46,9 @@ spread-requires : tie.Need-spread-requires invariant-loop decreases-loop
 spread-requires c κs = ((spread-arg2→start c).requires.0, (spread-arg2→loop c).loop.invariant.3)
 
 -- an older cell's row is what it spreads to
-spreads_as : (O : ℕ → Type 0) (onto onset : List ℕ) {row shut l queue l' queue' : List ℕ} {s u w n n' : ℕ} → u ≡ w → O u → row ≡ row_of onto onset u
-    → Grown shut s (λ x. In x row) l queue n l' queue' n' → Grown shut s (λ v. O w × Side onto onset w v) l queue n l' queue' n'
-spreads_as O onto onset e o f g = grown_as (λ v. (λ q. (rw e at o, rw (f, e) at q), λ q. rw (f, e) q.1)) g
+spreads_as : (O : ℕ → Type 0) (near begin : List ℕ) {row shut l queue l' queue' : List ℕ} {s u w n n' : ℕ} → u ≡ w → O u → row ≡ row_of near begin u
+    → Grown shut s (λ x. In x row) l queue n l' queue' n' → Grown shut s (λ v. O w × Side near begin w v) l queue n l' queue' n'
+spreads_as O near begin e o f g = grown_as (λ v. (λ q. (rw e at o, rw (f, e) at q), λ q. rw (f, e) q.1)) g
 
 loop-again : tie.Need-loop-preserved invariant-loop decreases-loop
 loop-again c =
@@ -59,11 +59,11 @@ loop-again c =
     let e : u.result ≡ get_or a.queue.now l.i 0 = u.ensures.0 ∙ g.front l.i (omega (arith, (joined1→start c).requires.3)) in
     let o = (joined1→is-older c).is-older.ensures in
     let O = Older a.since.now a.stamp in
-    let S = Spreads a.onto.now a.onset.now a.since.now a.stamp in
+    let S = Spreads a.near.now a.begin.now a.since.now a.stamp in
     let below = (joined1→in-loop c).loop-test.true in
     ⊎_elim
     (λ w. each_turn a.queue.now S l.inv.0 below g l.inv.3
-    (spreads_as O a.onto.now a.onset.now e ((older_same g u.result).0 (o.0 w.0.taken)) w.1.ensures w.4.ensures) w.9 w.10 w.11)
+    (spreads_as O a.near.now a.begin.now e ((older_same g u.result).0 (o.0 w.0.taken)) w.1.ensures w.4.ensures) w.9 w.10 w.11)
     (λ w. each_turn a.queue.now S l.inv.0 below g l.inv.3
     (grown_none a.stamp l.since l.queue l.at (λ v q. absurd (o.1 w.0.left ((older_same g u.result).1 (subst O (sym e) q.0))))) w.1 w.2 w.3)
     c.if1.branch

@@ -6,12 +6,13 @@ use mathlib.Core.List.{[], ◌∷◌}
 use native.Mathlib.Omega.{arith}
 use lib.ListN.{length, length-append}
 use Rattle.model.specs.Text.{line, floor_word, track_word}
-use Rattle.model.specs.Job.{bothWays, track}
+use Rattle.model.specs.Job.{track}
 use Rattle.model.specs.GridMap.{track_numbers}
+use Rattle.job.specs.Arrays.{track_at}
 use Rattle.job.proofs.UpTo.{up_suc}
 use Rattle.text.specs.Wrote.{Wrote}
 use Rattle.text.proofs.Wrote.{wrote_lines, wrote_more, wrote_none}
-use Rattle.gridmap.specs.CellPlaces.{aisle_at, tracks_in}
+use Rattle.gridmap.specs.CellPlaces.{tracks_in}
 use Rattle.gridmap.proofs.FloorLaws.{line_fits, track_lines}
 use borrow.Author.Rules.{rules}
 use Rattle.gridmap.proofs.floor.put_lines.Statement.{statement}
@@ -54,8 +55,8 @@ loop-again c =
     let w = (slice-known3→pair-line c).pair_line in (
       omega arith,
       w.kept.0 ∙ l.inv.1,
-      rw (up_suc (aisle_at s.from.now s.to.now) l.t, ← a.ensures.0, ← b.ensures.0)
-          (wrote_lines (λ t. track_word) track_numbers (tracks_in s.from.now s.to.now l.t) (track bothWays a.result b.result) l.inv.2 w.ensures),
+      rw (up_suc (track_at s.from.now s.to.now) l.t, ← a.ensures.0, ← b.ensures.0)
+          (wrote_lines (λ t. track_word) track_numbers (tracks_in s.from.now s.to.now l.t) (track a.result b.result) l.inv.2 w.ensures),
     )
 
 returns : tie.Need-returns invariant-loop decreases-loop

@@ -3,7 +3,7 @@ use mathlib.Core.Path.{sym}
 use mathlib.Core.List.{append-nil}
 use native.Mathlib.Omega.{arith}
 use borrow.Author.Rules.{rules}
-use Rattle.model.specs.Job.{bothWays, track}
+use Rattle.model.specs.Job.{track}
 use Rattle.job.proofs.UpTo.{up_set}
 use Rattle.gridmap.proofs.tracks.note.Statement.{statement}
 use Rattle.gridmap.proofs.tracks.note.Tie as tie
@@ -15,7 +15,7 @@ returns : tie.Need-returns
 returns c =
     let a = c.before.args in
     record {
-      tracks = rw c.if1.true (up_set (λ u v w. track bothWays u v) a.from.now a.to.now a.to.now a.t a.a a.b a.b (omega arith) (omega arith) (omega arith));
+      tracks = rw c.if1.true (up_set (λ u v w. track u v) a.from.now a.to.now a.to.now a.t a.a a.b a.b (omega arith) (omega arith) (omega arith));
       few = omega arith;
     }
 

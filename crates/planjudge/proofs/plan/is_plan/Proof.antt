@@ -6,6 +6,7 @@ use Rattle.planjudge.proofs.PlanLines.{Given, enough, known_call, known_cart}
 use Rattle.planjudge.proofs.PlanWalks.{plan_led, plan_stayed}
 use Rattle.planjudge.proofs.PlanRight.{right_ordered, right_rise, plan_clear, tests_right}
 use Rattle.planjudge.specs.PlanTests.{Fits}
+use Rattle.job.specs.Bits.{pairs_below}
 use Rattle.model.specs.Limits.{max_cells}
 use Rattle.job.proofs.BitLaws.{no_bits}
 use Rattle.job.proofs.Arrays.{last_deadline}
@@ -55,7 +56,7 @@ returns-2 : tie.Need-returns-2
 returns-2 c = denied (λ r. (then2→spares-rise c).spares-rise.ensures.1 (not-true _ c.if2.true) (right_rise (given (then2→shared-slice-known3 c)) r.1.1))
 
 mark-requires : tie.Need-mark-requires
-mark-requires c κs = ((table→start c).requires.1.tracks, ap (λ n. 8 * n) (length-replicate {A = ℕ} (max_cells * max_cells / 8) 0), no_bits (max_cells * max_cells / 8))
+mark-requires c κs = ((table→start c).requires.1.tracks, ap (λ n. 8 * n) (length-replicate {A = ℕ} (pairs_below max_cells / 8) 0), no_bits (pairs_below max_cells / 8))
 
 bays-requires : tie.Need-bays-requires
 bays-requires c κs =

@@ -1,12 +1,13 @@
--- `mark` marks the tracks. Invariant: the table's bit is set where a track below i leads, and nowhere else. The measure is the tracks left. Assumes nothing.
+-- `mark` marks the tracks. Invariant: the table's bit is set for each track below i, and for no other pair. The measure is the tracks left. Assumes nothing.
 use native.Mathlib.Omega.{arith}
-use Rattle.planjudge.proofs.PlanSteps.{arc_size, marks_none, marks_more}
+use Rattle.planjudge.proofs.PlanSteps.{marks_turn, marks_none}
 use Rattle.planjudge.specs.PlanTests.{Marks}
 use Prim.Native.Nat.{◌-◌, ◌*◌, ◌≤◌}
 use mathlib.Core.Path.{◌≡◌}
-use mathlib.Core.Bool.{true}
 use lib.ListN.{length}
 use Rattle.model.specs.Limits.{max_cells}
+use Rattle.job.specs.Bits.{pairs_below}
+use Rattle.job.proofs.Triangle.{pair_small}
 use borrow.Author.Rules.{rules}
 use Rattle.planjudge.proofs.plan.mark.Statement.{statement}
 use Rattle.planjudge.proofs.plan.mark.Tie as tie
@@ -14,37 +15,30 @@ mod Places
 use Places.*
 
 abbrev invariant-loop : tie.invariant-loop
-invariant-loop senses from to n table₀ i₀ table i = (i ≤ n) × (8 * length table ≡ max_cells * max_cells) × Marks senses from to i table
+invariant-loop from to n table₀ i₀ table i = (i ≤ n) × (8 * length table ≡ pairs_below max_cells) × Marks from to i table
 
 abbrev decreases-loop : tie.decreases-loop
-decreases-loop senses from to n table₀ i₀ table i = n - i
+decreases-loop from to n table₀ i₀ table i = n - i
 
 loop-holds : tie.Need-loop-init invariant-loop decreases-loop
 loop-holds c =
     let a = c.args in
-    (omega arith, c.requires.1, marks_none a.senses.now a.from.now a.to.now a.table.now c.requires.2)
+    (omega arith, c.requires.1, marks_none a.from.now a.to.now a.table.now c.requires.2)
 
-mark-arc-requires-2 : tie.Need-mark-arc-requires-2 invariant-loop decreases-loop
-mark-arc-requires-2 c κs =
-    let u = (runs-back→wide c).wide in
-    let v = (runs-back→wide2 c).wide2 in
-    let l = (runs-back→loop c).loop in
-    (v.ensures.1, u.ensures.1, arc_size true l.table u.result v.result (runs-back→mark-arc c).mark-arc.ensures l.inv.1)
+add-requires : tie.Need-add-requires invariant-loop decreases-loop
+add-requires c κs =
+    let u = (pair→wide c).wide in
+    let v = (pair→wide2 c).wide2 in
+    omega (arith, c.pair.ensures, pair_small u.result v.result u.ensures.1 v.ensures.1)
 
 loop-again : tie.Need-loop-preserved invariant-loop decreases-loop
 loop-again c =
-    let a = (mark-arc2→start c).args in
-    let u = (mark-arc2→wide c).wide in
-    let v = (mark-arc2→wide2 c).wide2 in
-    let l = (mark-arc2→loop c).loop in
-    let half = (mark-arc2→mark-arc c).mark-arc.ensures in
-    let back = (mark-arc2→runs-back c).runs-back in
-    let size = arc_size true l.table u.result v.result half l.inv.1 in (
-      omega arith,
-      arc_size back.result _ v.result u.result c.mark-arc2.ensures size,
-      marks_more a.senses.now a.from.now a.to.now l.i u.ensures.0 v.ensures.0 back.ensures u.ensures.1 v.ensures.1
-          half c.mark-arc2.ensures l.inv.1 l.inv.2,
-    )
+    let a = (add→start c).args in
+    let u = (add→wide c).wide.ensures in
+    let v = (add→wide2 c).wide2.ensures in
+    let l = (add→loop c).loop in
+    let (long, marks) = marks_turn a.from.now a.to.now l.i l.table u.0 v.0 (add→pair c).pair.ensures c.add.ensures u.1 v.1 l.inv.1 l.inv.2 in
+    (omega arith, long, marks)
 
 returns : tie.Need-returns invariant-loop decreases-loop
 returns c =
@@ -55,5 +49,5 @@ pub mark_spec : {M : Type 1} → statement M
 mark_spec =
     tie.close
     (tie.spec
-    invariant-loop decreases-loop loop-holds (λ c. search rules) (λ c κs. search rules) (λ c. search rules) (λ c κs. search rules) (λ c κs. search rules) (λ c κs. search rules)
-    mark-arc-requires-2 (λ c. search rules) (λ c. search rules) loop-again returns)
+    invariant-loop decreases-loop loop-holds (λ c. search rules) (λ c κs. search rules) (λ c. search rules) (λ c κs. search rules) (λ c κs. search rules) add-requires (λ c. search rules)
+    (λ c. search rules) loop-again returns)

@@ -7,7 +7,7 @@ mod Places
 use Places.*
 
 neighbours-requires : tie.Need-neighbours-requires
-neighbours-requires c κs = let s = neighbours-arg5→start c in (tracks-of s.args.t1 s.pre.0, s.pre.1.tracks, s.pre.0.fit.few_cells, s.pre.2, s.pre.3)
+neighbours-requires c κs = let s = neighbours-arg4→start c in (tracks-of s.args.t1 s.pre.0, s.pre.1.tracks, s.pre.0.fit.few_cells, s.pre.2, s.pre.3)
 
 deadlines-requires : tie.Need-deadlines-requires
 deadlines-requires c κs = let s = deadlines-arg3→start c in (calls_apart s.args.t1 s.pre.0, s.pre.1.calls, s.pre.4)

@@ -2,14 +2,15 @@
 use native.Mathlib.Omega.{arith}
 use mathlib.Core.Path.{◌≡◌, refl, ap, ◌∙◌}
 use mathlib.Core.List.{List, [], ◌∷◌}
+use mathlib.Core.Logic.{⊎_elim}
 use Prim.Native.Nat.{ℕ}
 use types.Run.{OneOf}
 use denote.Enum.Declared.{tag_of}
 use Rattle.reader.specs.declared.fill.Kind.{Kind}
+use Rattle.reader.specs.declared.fill.Kind.TheVariants.{Floor, Track, Cart, Call, Bay}
 use Rattle.job.specs.Bits.{with_bit}
 use Rattle.reader.specs.Lines.{kind_of, place_of, noted}
-use Rattle.reader.specs.contracts.fill.Kind.{enum, the_type}
-use Rattle.reader.proofs.Arms.{in_arm}
+use Rattle.reader.specs.contracts.fill.Kind.{the_type}
 use Rattle.reader.proofs.Noted.{place_small}
 use borrow.Author.Rules.{rules}
 use Rattle.reader.proofs.fill.note.Statement.{statement}
@@ -17,10 +18,12 @@ use Rattle.reader.proofs.fill.note.Tie as tie
 mod Places
 use Places.*
 
-set_at_place : (seen : List ℕ) (a b : ℕ) (k : Kind) → OneOf (1 ∷ 2 ∷ 3 ∷ 4 ∷ 5 ∷ []) (tag_of the_type k) → with_bit seen (place_of (kind_of k) a b) ≡ noted seen (kind_of k) a b
-set_at_place seen a b k =
-    in_arm enum (λ k. with_bit seen (place_of (kind_of k) a b) ≡ noted seen (kind_of k) a b) (1 ∷ 2 ∷ 3 ∷ 4 ∷ 5 ∷ []) k
-    (λ v. refl, (λ v. refl, (λ v. refl, (λ v. refl, λ v. refl))))
+set_at_place : (seen : List ℕ) (a b : ℕ) (k : Kind) → OneOf (1 ∷ 2 ∷ 3 ∷ 4 ∷ []) (tag_of the_type k) → with_bit seen (place_of (kind_of k) a b) ≡ noted seen (kind_of k) a b
+set_at_place seen a b Floor h = absurd (⊎_elim (λ e. omega arith) (⊎_elim (λ e. omega arith) (⊎_elim (λ e. omega arith) (λ e. omega arith))) h)
+set_at_place seen a b Track h = refl
+set_at_place seen a b Cart h = refl
+set_at_place seen a b Call h = refl
+set_at_place seen a b Bay h = refl
 
 add-requires : tie.Need-add-requires
 add-requires c κs =

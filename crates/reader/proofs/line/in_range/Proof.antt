@@ -1,17 +1,9 @@
 -- `in_range` makes the tests of `inRange` in their order, with the cells of the job that the counts are of. Assumes nothing.
 use borrow.Author.Tests.{lt-ltb, le-ltb}
 use borrow.Author.Rules.{rules}
-use Rattle.model.specs.ReadJob.{track_line, call_line}
-use Rattle.reader.proofs.Tests.{IsLine, tracked, called}
+use Rattle.reader.proofs.Tests.{called}
 use Rattle.reader.proofs.line.in_range.Statement.{statement}
 use Rattle.reader.proofs.line.in_range.Tie as tie
-
--- In the arm of tracks and in that of calls: whose line it is.
-told_track : (c : tie.At-match-keys2) → IsLine track_line c.before.args.kind
-told_track c = tracked c.before.args.kind c.match.keys2
-
-told_call : (c : tie.At-match-keys4) → IsLine call_line c.before.args.kind
-told_call c = called c.before.args.kind c.match.keys4
 
 returns : tie.Need-returns
 returns c = λ j k. rw c.before.enum_told.given.1 (simp (lt-ltb _ _ c.if1.true))
@@ -20,19 +12,19 @@ returns-2 : tie.Need-returns-2
 returns-2 c = λ j k. rw c.before.enum_told.given.1 (simp (le-ltb _ _ c.if1.false))
 
 returns-3 : tie.Need-returns-3
-returns-3 c = λ j k. rw ((told_track c.before.before.before).1, ← k.cells) (simp (lt-ltb _ _ c.before.if2.true))
+returns-3 c = λ j k. rw (c.before.before.before.enum-told2.given.1, ← k.cells) (simp (lt-ltb _ _ c.before.if2.true))
 
 returns-4 : tie.Need-returns-4
-returns-4 c = λ j k. rw ((told_track c.before.before).1, ← k.cells) (simp (le-ltb _ _ c.if2.false))
+returns-4 c = λ j k. rw (c.before.before.enum-told2.given.1, ← k.cells) (simp (le-ltb _ _ c.if2.false))
 
 returns-5 : tie.Need-returns-5
-returns-5 c = λ j k. rw (c.before.enum-told2.given.1, ← k.cells)
+returns-5 c = λ j k. rw (c.before.enum-told3.given.1, ← k.cells)
 
 returns-6 : tie.Need-returns-6
-returns-6 c = λ j k. rw ((told_call c.before.before).1, ← k.cells) (simp (lt-ltb _ _ c.if3.true))
+returns-6 c = λ j k. rw ((called c.before.before.before.args.kind c.before.before.match.keys4).1, ← k.cells) (simp (lt-ltb _ _ c.if3.true))
 
 returns-7 : tie.Need-returns-7
-returns-7 c = λ j k. rw ((told_call c.before.before).1, ← k.cells) (simp (le-ltb _ _ c.if3.false))
+returns-7 c = λ j k. rw ((called c.before.before.before.args.kind c.before.before.match.keys4).1, ← k.cells) (simp (le-ltb _ _ c.if3.false))
 
 pub in-range-spec : {M : Type 1} → statement M
-in-range-spec = tie.close (tie.spec (λ c. search rules) (λ c. search rules) returns returns-2 returns-3 returns-4 returns-5 returns-6 returns-7)
+in-range-spec = tie.close (tie.spec (λ c. search rules) (λ c. search rules) (λ c. search rules) returns returns-2 returns-3 returns-4 returns-5 returns-6 returns-7)

@@ -5,7 +5,7 @@ use native.Mathlib.Omega.{arith}
 use borrow.Author.Rules.{rules}
 use Rattle.model.specs.ReadJob.{Kind}
 use Rattle.reader.specs.Lines.{kind_of, Small}
-use Rattle.reader.proofs.Tests.{tracked, called}
+use Rattle.reader.proofs.Tests.{called}
 use Rattle.reader.proofs.line.is_new.Statement.{statement}
 use Rattle.reader.proofs.line.is_new.Tie as tie
 mod Places
@@ -16,16 +16,13 @@ small : (c : tie.Start) {k : Kind} → kind_of c.args.kind ≡ k → Small k c.a
 small c e = subst (λ k. Small k c.args.a c.args.b) e c.requires.0
 
 is-new-track-requires : tie.Need-is-new-track-requires
-is-new-track-requires c κs =
-    let p = match-keys2→start c in
-    let s = small p (tracked p.args.kind c.match.keys2).1 in
-    (s.0, s.1, p.pre.1)
+is-new-track-requires c κs = let s = small (enum-told2→start c) (ap kind_of c.enum-told2.given.1) in (s.0, s.1, (enum-told2→start c).requires.1)
 
 add-has : tie.Need-overflow-add-has
-add-has c = let s = small (enum-told2→start c) (ap kind_of c.enum-told2.given.1) in omega arith
+add-has c = let s = small (enum-told3→start c) (ap kind_of c.enum-told3.given.1) in omega arith
 
 has-requires : tie.Need-has-requires
-has-requires c κs = let s = small (enum-told2→start c) (ap kind_of c.enum-told2.given.1) in omega arith
+has-requires c κs = let s = small (enum-told3→start c) (ap kind_of c.enum-told3.given.1) in omega arith
 
 add-has-2 : tie.Need-overflow-add-has-2
 add-has-2 c = let s = small (match-keys4→start c) (called (match-keys4→start c).args.kind c.match.keys4).1 in omega arith
@@ -37,14 +34,14 @@ returns : tie.Need-returns
 returns c = λ j m. rw c.enum_told.given.1
 
 returns-2 : tie.Need-returns-2
-returns-2 c = λ j m. let (d, e) = tracked (is-new-track→start c).args.kind (is-new-track→match-keys2 c).match.keys2 in rw e (c.is-new-track.ensures j m d)
+returns-2 c = λ j m. rw (is-new-track→enum-told2 c).enum-told2.given.1 (c.is-new-track.ensures j m)
 
 returns-3 : tie.Need-returns-3
 returns-3 c =
     λ j m.
     let a = (has→start c).args.a in
-    let s = small (has→start c) (ap kind_of (has→enum-told2 c).enum-told2.given.1) in
-    rw (has→enum-told2 c).enum-told2.given.1 (ap not (c.has.ensures ∙ m.carts a s))
+    let s = small (has→start c) (ap kind_of (has→enum-told3 c).enum-told3.given.1) in
+    rw (has→enum-told3 c).enum-told3.given.1 (ap not (c.has.ensures ∙ m.carts a s))
 
 returns-4 : tie.Need-returns-4
 returns-4 c =
@@ -58,4 +55,4 @@ pub is-new-spec : {M : Type 1} → statement M
 is-new-spec =
     tie.close
     (tie.spec
-    (λ c. search rules) is-new-track-requires (λ c. search rules) add-has has-requires add-has-2 has-requires-2 returns returns-2 returns-3 returns-4)
+    (λ c. search rules) (λ c. search rules) is-new-track-requires (λ c. search rules) add-has has-requires add-has-2 has-requires-2 returns returns-2 returns-3 returns-4)

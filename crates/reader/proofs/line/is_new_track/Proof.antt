@@ -12,7 +12,7 @@ mod Places
 use Places.*
 
 returns : tie.Need-returns
-returns c = λ j m d. simp (eq-eqb _ _ c.if1.true)
+returns c = λ j m. simp (eq-eqb _ _ c.if1.true)
 
 has-requires : tie.Need-has-requires
 has-requires c κs =
@@ -21,7 +21,7 @@ has-requires c κs =
 
 returns-2 : tie.Need-returns-2
 returns-2 c =
-    λ j m d.
+    λ j m.
     let s = has→start c in
     rw (c.has.ensures, (has→pair c).pair.ensures)
     (simp (ne_eqb _ _ (has→else1 c).if1.false) (ap not (m.tracks s.args.a s.args.b s.pre.0 s.pre.1)))

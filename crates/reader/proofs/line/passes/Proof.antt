@@ -1,23 +1,29 @@
 -- `passes` makes the test that it is told: each arm is the clause of `passing` for its test. Only the table's test asks for small numbers, and
 -- has them. Assumes nothing.
+use native.Mathlib.Omega.{arith}
 use Prim.Native.Nat.{ℕ}
 use mathlib.Core.Path.{◌≡◌, refl}
 use mathlib.Core.List.{[], ◌∷◌}
 use mathlib.Core.Bool.{true}
+use mathlib.Core.Logic.{⊎_elim}
 use types.Run.{OneOf}
 use denote.Enum.Declared.{tag_of}
 use Rattle.model.specs.Job as model
 use Rattle.model.specs.ReadJob as read
 use Rattle.reader.specs.declared.line.Fault.{Fault}
+use Rattle.reader.specs.declared.line.Fault.TheVariants.{Form, Number, Range, Room, Doubled}
 use Rattle.reader.specs.Lines.{passing}
-use Rattle.reader.specs.contracts.line.Fault.{enum, the_type}
-use Rattle.reader.proofs.Arms.{in_arm}
+use Rattle.reader.specs.contracts.line.Fault.{the_type}
 use borrow.Author.Rules.{rules}
 use Rattle.reader.proofs.line.passes.Statement.{statement}
 use Rattle.reader.proofs.line.passes.Tie as tie
 
 first_two : (j : model.Job) (f : Fault) (k : read.Kind) (a b : ℕ) → OneOf (0 ∷ 1 ∷ []) (tag_of the_type f) → true ≡ passing j f k a b
-first_two j f k a b = in_arm enum (λ f. true ≡ passing j f k a b) (0 ∷ 1 ∷ []) f (λ v. refl, λ v. refl)
+first_two j Form k a b h = refl
+first_two j Number k a b h = refl
+first_two j Range k a b h = absurd (⊎_elim (λ e. omega arith) (λ e. omega arith) h)
+first_two j Room k a b h = absurd (⊎_elim (λ e. omega arith) (λ e. omega arith) h)
+first_two j Doubled k a b h = absurd (⊎_elim (λ e. omega arith) (λ e. omega arith) h)
 
 is-new-requires : tie.Need-is-new-requires
 is-new-requires c κs = rw c.enum-told3.given.1 at c.before.before.before.requires

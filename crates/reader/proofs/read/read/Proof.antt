@@ -23,18 +23,18 @@ mod Places
 use Places.*
 
 abbrev invariant-loop : tie.invariant-loop
-invariant-loop text senses₀ from₀ to₀ starts₀ kinds₀ targets₀ deadlines₀ counts₀ seen₀ at₀ line₀ senses from to starts kinds targets deadlines counts seen at line =
-    ReadSoFar text (held counts senses from to starts kinds targets deadlines) seen at line
+invariant-loop text from₀ to₀ starts₀ kinds₀ targets₀ deadlines₀ counts₀ seen₀ at₀ line₀ from to starts kinds targets deadlines counts seen at line =
+    ReadSoFar text (held counts from to starts kinds targets deadlines) seen at line
 
 abbrev decreases-loop : tie.decreases-loop
-decreases-loop text senses₀ from₀ to₀ starts₀ kinds₀ targets₀ deadlines₀ counts₀ seen₀ at₀ line₀ senses from to starts kinds targets deadlines counts seen at line = length text - at
+decreases-loop text from₀ to₀ starts₀ kinds₀ targets₀ deadlines₀ counts₀ seen₀ at₀ line₀ from to starts kinds targets deadlines counts seen at line = length text - at
 
 -- The text, and the job so far.
 abbrev wholeText : tie.At-loop invariant-loop decreases-loop → List ℕ
 wholeText h = (loop→start h).args.text.now
 
 abbrev jobAt : tie.At-loop invariant-loop decreases-loop → Job
-jobAt h = held h.loop.counts h.loop.senses h.loop.from h.loop.to h.loop.starts h.loop.kinds h.loop.targets h.loop.deadlines
+jobAt h = held h.loop.counts h.loop.from h.loop.to h.loop.starts h.loop.kinds h.loop.targets h.loop.deadlines
 
 returns : tie.Need-returns invariant-loop decreases-loop
 returns c = turned_back c.refused.ensures (too_long (refused→start c).args.text.now (refused→then1 c).if1.true) (omega arith) (omega arith)
@@ -88,19 +88,15 @@ put-line-requires c κs =
     let i = (head (known-told→entry-of k)).loop.inv in
     record { sized = i.sized; long = i.long; small = small; room = room }
 
-slice-aggregate-note : tie.Need-slice-aggregate-note invariant-loop decreases-loop
-slice-aggregate-note c = omega (arith, (seen2→loop c).loop.invariant.table)
-
 note-requires : tie.Need-note-requires invariant-loop decreases-loop
-note-requires c κs = ((sound (seen2→known-told c)).0, (seen2→loop c).loop.invariant.table)
+note-requires c κs =
+    let k = seen2→known-told c in
+    ((sound k).0, (head (known-told→entry-of k)).loop.inv.table)
 
 add-line : tie.Need-overflow-add-line invariant-loop decreases-loop
 add-line c =
     let i = (seen3→loop c).loop.invariant in
     omega (arith, i.lines, i.within, i.short)
-
-loop-less : tie.Need-loop-smaller invariant-loop decreases-loop
-loop-less c = omega (arith, (seen3→in-loop c).loop-test.true, (seen3→next c).next.ensures.1)
 
 loop-again : tie.Need-loop-preserved invariant-loop decreases-loop
 loop-again c =
@@ -114,8 +110,7 @@ loop-again c =
     let r = p.put-line in
     so_far_next l.inv _ _ e.next.ensures (omega (arith, (entry-of→else2 m).if2.left)) m.entry_of.result (line_said m)
     v.0.0 v.0.1.0 v.0.1.1.0
-    (held r.result r.last.0 r.last.1.0 r.last.1.1.0 r.last.1.1.1.0 r.last.1.1.1.1.0 r.last.1.1.1.1.1.0
-    r.last.1.1.1.1.1.1.0)
+    (held r.result r.last.0 r.last.1.0 r.last.1.1.0 r.last.1.1.1.0 r.last.1.1.1.1.0 r.last.1.1.1.1.1.0)
     (seen3→note c).note.new.0 v.1 (sound k).0 r.ensures (seen3→note c).note.ensures
 
 returns-4 : tie.Need-returns-4 invariant-loop decreases-loop
@@ -138,5 +133,5 @@ read_spec =
     tie.close
     (tie.spec
     invariant-loop decreases-loop (λ c κs. search rules) returns loop-holds (λ c κs. search rules) (λ c κs. search rules) returns-2 (λ c. search rules) entry-of-requires (λ c. search rules)
-    (λ c. search rules) (λ c κs. search rules) (λ c κs. search rules) returns-3 put-line-requires slice-aggregate-note note-requires add-line loop-less loop-again
+    (λ c. search rules) (λ c κs. search rules) (λ c κs. search rules) returns-3 put-line-requires (λ c. search rules) note-requires add-line (λ c. search rules) loop-again
     (λ c κs. search rules) returns-4 (λ c κs. search rules) returns-5 returns-6)

@@ -1,10 +1,10 @@
 -- The earlier places that the proof of `reaches` names: `x→y c` is what is known at y, seen from the place x.
 -- Made of the code by proof-names, which reads the lists below when the code has changed.
 -- All places in the code's order, each behind the one in front of it; where it is behind another, `X<Y` names that:
--- Start After-shared-slice-known After-shared-slice-known2 After-shared-slice-known3 After-shared-slice-known4 After-shared-slice-known5 After-shared-slice-known6
--- After-shared-slice-known7 After-chain-arg After-latest After-before2 After-chain After-latest2 After-before3 After-since After-queue After-place After-since2 After-queue2
--- After-since3 After-close After-since4 At-loop In-loop After-loop<At-loop After-since5<In-loop After-queue3 After-has-lift Then1 Else1<After-has-lift After-latest3 After-before4
--- After-since6 After-has-bay Then2 Else2<After-has-bay After-since7 After-queue4 After-grow After-since8 After-queue5 After-since9 After-close2 After-since10
+-- Start After-shared-slice-known After-shared-slice-known2 After-shared-slice-known3 After-shared-slice-known4 After-shared-slice-known5 After-chain-arg After-latest After-before2
+-- After-chain After-latest2 After-before3 After-since After-queue After-place After-since2 After-queue2 After-since3 After-close After-since4 At-loop In-loop After-loop<At-loop
+-- After-since5<In-loop After-queue3 After-has-lift Then1 Else1<After-has-lift After-latest3 After-before4 After-since6 After-has-bay Then2 Else2<After-has-bay After-since7
+-- After-queue4 After-grow After-since8 After-queue5 After-since9 After-close2 After-since10
 -- The needs, each with its place:
 -- slice-aggregate-chain@After-latest slice-aggregate-chain-2@After-before2 chain-requires@After-before2 slice-aggregate-place@After-since slice-aggregate-place-2@After-queue
 -- place-requires@After-queue slice-aggregate-close@After-since3 close-requires@After-since3 loop-holds@After-since4 add-next@In-loop slice-aggregate-has-lift@After-since5
@@ -16,7 +16,7 @@ use Rattle.chokejudge.proofs.choke.reaches.Tie as tie
 
 module _ {Inv : tie.invariant-loop} {μ : tie.decreases-loop} where
   abbrev pub queue→start : tie.After-queue Inv μ → tie.Start Inv μ
-  queue→start c = c.before.before.before.before.before.before.before.before.before.before.before.before.before.before.before
+  queue→start c = c.before.before.before.before.before.before.before.before.before.before.before.before.before
 
   abbrev pub since3→place : tie.After-since3 Inv μ → tie.After-place Inv μ
   since3→place c = c.before.before.before

@@ -1,15 +1,14 @@
 -- The earlier places that the proof of `grow` names: `x→y c` is what is known at y, seen from the place x.
 -- Made of the code by proof-names, which reads the lists below when the code has changed.
 -- All places in the code's order, each behind the one in front of it; where it is behind another, `X<Y` names that:
--- Start After-shared-slice-known After-shared-slice-known2 After-shared-slice-known3 After-shared-slice-known4 After-shared-slice-known5 After-slice-known After-slice-known2
--- After-rejoin-arg After-rejoin-arg2 After-rejoin After-since After-slice-known3 After-queue After-slice-known4 After-advance-arg After-advance-arg2 After-advance After-since2
--- After-slice-known5 After-queue2 After-slice-known6
+-- Start After-shared-slice-known After-shared-slice-known2 After-shared-slice-known3 After-slice-known After-slice-known2 After-rejoin-arg After-rejoin-arg2 After-rejoin
+-- After-since After-slice-known3 After-queue After-slice-known4 After-advance-arg After-advance-arg2 After-advance After-since2 After-slice-known5 After-queue2 After-slice-known6
 -- The needs, each with its place:
 -- rejoin-requires@After-rejoin-arg2 advance-requires@After-advance-arg2 same-length@After-slice-known6 same-length-2@After-slice-known6 returns@After-slice-known6
 use Rattle.chokejudge.proofs.layer.grow.Tie as tie
 
 abbrev pub rejoin-arg2→start : tie.After-rejoin-arg2 → tie.Start
-rejoin-arg2→start c = c.before.before.before.before.before.before.before.before.before
+rejoin-arg2→start c = c.before.before.before.before.before.before.before
 
 abbrev pub advance-arg2→rejoin : tie.After-advance-arg2 → tie.After-rejoin
 advance-arg2→rejoin c = c.before.before.before.before.before.before

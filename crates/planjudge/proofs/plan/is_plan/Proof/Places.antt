@@ -2,8 +2,8 @@
 -- Made of the code by proof-names, which reads the lists below when the code has changed.
 -- All places in the code's order, each behind the one in front of it; where it is behind another, `X<Y` names that:
 -- Start After-shared-slice-known After-shared-slice-known2 After-shared-slice-known3 After-shared-slice-known4 After-job After-in-order-arg After-in-order-arg2 After-in-order
--- Then1 Else1<After-in-order After-spares-rise Then2 Else2<After-spares-rise After-job2 After-mark-arg After-mark-arg2 After-mark-arg3 After-table After-mark After-job3
--- After-bays-arg After-bays-arg2 After-bays-arg3 After-shut After-bays After-shut2 After-table2 After-shut3 After-job4 After-all-lead-arg After-all-lead-arg2 After-all-lead Then3
+-- Then1 Else1<After-in-order After-spares-rise Then2 Else2<After-spares-rise After-job2 After-mark-arg After-mark-arg2 After-table After-mark After-job3 After-bays-arg
+-- After-bays-arg2 After-bays-arg3 After-shut After-bays After-shut2 After-table2 After-shut3 After-job4 After-all-lead-arg After-all-lead-arg2 After-all-lead Then3
 -- Else3<After-all-lead After-table3 After-shut4 After-job5 After-all-stay-arg After-all-stay Then4 Else4<After-all-stay After-job6 After-horizon-arg After-horizon After-all-clear
 -- The needs, each with its place:
 -- in-order-requires@After-in-order-arg2 returns@Then1 spares-rise-requires@Else1 returns-2@Then2 mark-requires@After-table slice-aggregate-bays@After-shut bays-requires@After-shut
@@ -39,10 +39,10 @@ abbrev pub then2→shared-slice-known3 : tie.Then2 → tie.After-shared-slice-kn
 then2→shared-slice-known3 c = else1→shared-slice-known3 c.before.before
 
 abbrev pub table→start : tie.After-table → tie.Start
-table→start c = else1→start c.before.before.before.before.before.before.before
+table→start c = else1→start c.before.before.before.before.before.before
 
 abbrev pub shut→shared-slice-known3 : tie.After-shut → tie.After-shared-slice-known3
-shut→shared-slice-known3 c = else1→shared-slice-known3 c.before.before.before.before.before.before.before.before.before.before.before.before.before
+shut→shared-slice-known3 c = else1→shared-slice-known3 c.before.before.before.before.before.before.before.before.before.before.before.before
 
 abbrev pub shut→start : tie.After-shut → tie.Start
 shut→start c = shared-slice-known3→start (shut→shared-slice-known3 c)
@@ -117,7 +117,7 @@ abbrev pub all-clear→mark : tie.After-all-clear → tie.After-mark
 all-clear→mark c = (all-clear→bays c).before.before.before.before.before.before
 
 abbrev pub all-clear→else2 : tie.After-all-clear → tie.Else2
-all-clear→else2 c = (all-clear→mark c).before.before.before.before.before.before
+all-clear→else2 c = (all-clear→mark c).before.before.before.before.before
 
 abbrev pub all-clear→spares-rise : tie.After-all-clear → tie.After-spares-rise
 all-clear→spares-rise c = (all-clear→else2 c).before

@@ -3,13 +3,12 @@
 -- All places in the code's order, each behind the one in front of it; where it is behind another, `X<Y` names that:
 -- Start After-shared-slice-known After-opens-with-arg After-opens-with Then1 Else1<After-opens-with After-opens-with-arg2 After-opens-with2 Then2 Else2<After-opens-with2
 -- After-opens-with-arg3 After-opens-with3 Then3 Else3<After-opens-with3 After-opens-with-arg4 After-opens-with4 Then4 Else4<After-opens-with4 After-opens-with-arg5
--- After-opens-with5 Then5 Else5<After-opens-with5 After-opens-with-arg6 After-opens-with6 Then6 Else6<After-opens-with6
+-- After-opens-with5 Then5 Else5<After-opens-with5
 -- The needs, each with its place:
 -- slice-aggregate-opens-with@After-opens-with-arg opens-with-requires@After-opens-with-arg returns@Then1 slice-aggregate-opens-with-2@After-opens-with-arg2
 -- opens-with-requires-2@After-opens-with-arg2 returns-2@Then2 slice-aggregate-opens-with-3@After-opens-with-arg3 opens-with-requires-3@After-opens-with-arg3 returns-3@Then3
 -- slice-aggregate-opens-with-4@After-opens-with-arg4 opens-with-requires-4@After-opens-with-arg4 returns-4@Then4 slice-aggregate-opens-with-5@After-opens-with-arg5
--- opens-with-requires-5@After-opens-with-arg5 returns-5@Then5 slice-aggregate-opens-with-6@After-opens-with-arg6 opens-with-requires-6@After-opens-with-arg6 returns-6@Then6
--- returns-7@Else6
+-- opens-with-requires-5@After-opens-with-arg5 returns-5@Then5 returns-6@Else5
 use Rattle.reader.proofs.line.word_of.Tie as tie
 
 abbrev pub then1→opens-with : tie.Then1 → tie.After-opens-with
@@ -30,14 +29,14 @@ then2→opens-with2 c = c.before
 abbrev pub then2→else1 : tie.Then2 → tie.Else1
 then2→else1 c = (then2→opens-with2 c).before.before
 
+abbrev pub then2→start : tie.Then2 → tie.Start
+then2→start c = else1→start (then2→else1 c)
+
 abbrev pub else2→opens-with2 : tie.Else2 → tie.After-opens-with2
 else2→opens-with2 c = c.before
 
-abbrev pub else2→else1 : tie.Else2 → tie.Else1
-else2→else1 c = (else2→opens-with2 c).before.before
-
 abbrev pub else2→start : tie.Else2 → tie.Start
-else2→start c = else1→start (else2→else1 c)
+else2→start c = else1→start c.before.before.before
 
 abbrev pub then3→opens-with3 : tie.Then3 → tie.After-opens-with3
 then3→opens-with3 c = c.before
@@ -45,14 +44,17 @@ then3→opens-with3 c = c.before
 abbrev pub then3→else2 : tie.Then3 → tie.Else2
 then3→else2 c = (then3→opens-with3 c).before.before
 
+abbrev pub then3→else1 : tie.Then3 → tie.Else1
+then3→else1 c = (then3→else2 c).before.before.before
+
+abbrev pub then3→start : tie.Then3 → tie.Start
+then3→start c = else2→start (then3→else2 c)
+
 abbrev pub else3→opens-with3 : tie.Else3 → tie.After-opens-with3
 else3→opens-with3 c = c.before
 
-abbrev pub else3→else2 : tie.Else3 → tie.Else2
-else3→else2 c = (else3→opens-with3 c).before.before
-
 abbrev pub else3→start : tie.Else3 → tie.Start
-else3→start c = else2→start (else3→else2 c)
+else3→start c = else2→start c.before.before.before
 
 abbrev pub then4→opens-with4 : tie.Then4 → tie.After-opens-with4
 then4→opens-with4 c = c.before
@@ -60,14 +62,20 @@ then4→opens-with4 c = c.before
 abbrev pub then4→else3 : tie.Then4 → tie.Else3
 then4→else3 c = (then4→opens-with4 c).before.before
 
+abbrev pub then4→else2 : tie.Then4 → tie.Else2
+then4→else2 c = (then4→else3 c).before.before.before
+
+abbrev pub then4→else1 : tie.Then4 → tie.Else1
+then4→else1 c = (then4→else2 c).before.before.before
+
+abbrev pub then4→start : tie.Then4 → tie.Start
+then4→start c = else3→start (then4→else3 c)
+
 abbrev pub else4→opens-with4 : tie.Else4 → tie.After-opens-with4
 else4→opens-with4 c = c.before
 
-abbrev pub else4→else3 : tie.Else4 → tie.Else3
-else4→else3 c = (else4→opens-with4 c).before.before
-
 abbrev pub else4→start : tie.Else4 → tie.Start
-else4→start c = else3→start (else4→else3 c)
+else4→start c = else3→start c.before.before.before
 
 abbrev pub then5→opens-with5 : tie.Then5 → tie.After-opens-with5
 then5→opens-with5 c = c.before
@@ -75,23 +83,32 @@ then5→opens-with5 c = c.before
 abbrev pub then5→else4 : tie.Then5 → tie.Else4
 then5→else4 c = (then5→opens-with5 c).before.before
 
+abbrev pub then5→else3 : tie.Then5 → tie.Else3
+then5→else3 c = (then5→else4 c).before.before.before
+
+abbrev pub then5→else2 : tie.Then5 → tie.Else2
+then5→else2 c = (then5→else3 c).before.before.before
+
+abbrev pub then5→else1 : tie.Then5 → tie.Else1
+then5→else1 c = (then5→else2 c).before.before.before
+
+abbrev pub then5→start : tie.Then5 → tie.Start
+then5→start c = else4→start (then5→else4 c)
+
 abbrev pub else5→opens-with5 : tie.Else5 → tie.After-opens-with5
 else5→opens-with5 c = c.before
 
 abbrev pub else5→else4 : tie.Else5 → tie.Else4
 else5→else4 c = (else5→opens-with5 c).before.before
 
+abbrev pub else5→else3 : tie.Else5 → tie.Else3
+else5→else3 c = (else5→else4 c).before.before.before
+
+abbrev pub else5→else2 : tie.Else5 → tie.Else2
+else5→else2 c = (else5→else3 c).before.before.before
+
+abbrev pub else5→else1 : tie.Else5 → tie.Else1
+else5→else1 c = (else5→else2 c).before.before.before
+
 abbrev pub else5→start : tie.Else5 → tie.Start
 else5→start c = else4→start (else5→else4 c)
-
-abbrev pub then6→opens-with6 : tie.Then6 → tie.After-opens-with6
-then6→opens-with6 c = c.before
-
-abbrev pub then6→else5 : tie.Then6 → tie.Else5
-then6→else5 c = (then6→opens-with6 c).before.before
-
-abbrev pub else6→opens-with6 : tie.Else6 → tie.After-opens-with6
-else6→opens-with6 c = c.before
-
-abbrev pub else6→else5 : tie.Else6 → tie.Else5
-else6→else5 c = (else6→opens-with6 c).before.before

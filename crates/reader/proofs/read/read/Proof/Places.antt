@@ -3,8 +3,8 @@
 -- All places in the code's order, each behind the one in front of it; where it is behind another, `X<Y` names that:
 -- Start After-shared-slice-known Then1 After-refused Else1<After-shared-slice-known At-loop In-loop After-loop<At-loop After-at<In-loop After-next Then2 After-refused2
 -- Else2<After-next After-seen After-entry-of At-match-keys1 After-entry After-known-told At-match-keys2<After-entry-of After-enum-told After-verdict-on After-refused3
--- After-senses<After-known-told After-from After-to After-starts After-kinds After-targets After-deadlines After-put-line After-seen2 After-note After-seen3 Then3<After-loop
--- After-refused4 Else3<After-loop Then4 After-refused5 Else4<Else3
+-- After-from<After-known-told After-to After-starts After-kinds After-targets After-deadlines After-put-line After-seen2 After-note After-seen3 Then3<After-loop After-refused4
+-- Else3<After-loop Then4 After-refused5 Else4<Else3
 -- The needs, each with its place:
 -- refused-requires@Then1 returns@After-refused loop-holds@Else1 next-requires@After-at refused-requires-2@Then2 returns-2@After-refused2 slice-aggregate-entry-of@After-seen
 -- entry-of-requires@After-seen enum-known-entry@At-match-keys1 enum-told@At-match-keys2 verdict-on-requires@After-enum-told refused-requires-3@After-verdict-on
@@ -65,7 +65,7 @@ module _ {Inv : tie.invariant-loop} {μ : tie.decreases-loop} where
   refused3→entry-of c = (refused3→enum-told c).before.before
 
   abbrev pub deadlines→known-told : tie.After-deadlines Inv μ → tie.After-known-told Inv μ
-  deadlines→known-told c = c.before.before.before.before.before.before.before
+  deadlines→known-told c = c.before.before.before.before.before.before
 
   abbrev pub put-line→known-told : tie.After-put-line Inv μ → tie.After-known-told Inv μ
   put-line→known-told c = deadlines→known-told c.before
@@ -73,23 +73,14 @@ module _ {Inv : tie.invariant-loop} {μ : tie.decreases-loop} where
   abbrev pub seen2→known-told : tie.After-seen2 Inv μ → tie.After-known-told Inv μ
   seen2→known-told c = put-line→known-told c.before
 
-  abbrev pub seen2→loop : tie.After-seen2 Inv μ → tie.At-loop Inv μ
-  seen2→loop c = (seen2→known-told c).before.before.before.before.before.before.before.before.before
-
   abbrev pub seen3→note : tie.After-seen3 Inv μ → tie.After-note Inv μ
   seen3→note c = c.before
 
   abbrev pub seen3→put-line : tie.After-seen3 Inv μ → tie.After-put-line Inv μ
   seen3→put-line c = (seen3→note c).before.before
 
-  abbrev pub seen3→next : tie.After-seen3 Inv μ → tie.After-next Inv μ
-  seen3→next c = (seen3→put-line c).before.before.before.before.before.before.before.before.before.before.before.before.before.before
-
-  abbrev pub seen3→in-loop : tie.After-seen3 Inv μ → tie.In-loop Inv μ
-  seen3→in-loop c = (seen3→next c).before.before
-
   abbrev pub seen3→loop : tie.After-seen3 Inv μ → tie.At-loop Inv μ
-  seen3→loop c = (seen3→in-loop c).before
+  seen3→loop c = entry-of→loop c.before.before.before.before.before.before.before.before.before.before.before.before.before
 
   abbrev pub refused4→then3 : tie.After-refused4 Inv μ → tie.Then3 Inv μ
   refused4→then3 c = c.before
