@@ -1,4 +1,6 @@
 // A guess that only saves time: over the floor alone, along a shortest way from a call's cell to a free cart, where to look first.
+#![tactic(auto)]
+
 ghost use Rattle.std.specs.Prelude.{◌≡◌, ◌<◌, ◌≤◌, length};
 ghost use Rattle.model.specs.Limits.{max_cells};
 ghost use Rattle.floor.specs.Tables.{Cells, Rows};

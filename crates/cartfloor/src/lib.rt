@@ -1,4 +1,6 @@
 // The calls that the controller makes, and what planner and check share.
+#![tactic(auto)]
+
 pub mod check;
 pub mod map;
 pub mod plan;

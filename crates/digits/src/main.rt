@@ -1,4 +1,6 @@
 // Prints the table of digits as it stands in the code: an entry a line, in hexadecimal.
+#![tactic(auto)]
+
 use libc::STDOUT_FILENO;
 use text::digits;
 

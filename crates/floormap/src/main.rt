@@ -1,4 +1,6 @@
 // Turns the grid map on standard input into a floor: writes its FLOOR and TRACK lines, or one line that says why the map is refused.
+#![tactic(auto)]
+
 use gridmap::{floor, read};
 use libc::{STDIN_FILENO, STDOUT_FILENO};
 

@@ -1,4 +1,6 @@
 // Plans the job on standard input: writes the sheet, or one line that says why the job is refused.
+#![tactic(auto)]
+
 use libc::{STDIN_FILENO, STDOUT_FILENO};
 use model::Limits;
 use model::answer::{Answer, number};

@@ -1,4 +1,6 @@
 // Grid maps: read, and their floors written as FLOOR and TRACK lines.
+#![tactic(auto)]
+
 pub mod floor;
 pub mod head;
 pub mod letters;

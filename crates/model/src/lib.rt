@@ -1,4 +1,6 @@
 // The limits and the answers that every layer takes from here. The definitions of a job, a plan, a choke list and the texts are in specs/.
+#![tactic(auto)]
+
 pub mod answer;
 pub mod bytes;
 

@@ -1,5 +1,7 @@
 // Reads examples on standard input and writes for each its label and what the reader answers: the number and line of a refusal, or "accepted".
 // An example is a line of `%` and a label, and then the job, up to the next `%`.
+#![tactic(auto)]
+
 ghost use Rattle.std.specs.Prelude.{◌≡◌, ◌≤◌, length};
 
 use libc::{STDIN_FILENO, STDOUT_FILENO};

@@ -1,4 +1,6 @@
 // Lines that the programs write: a word and two numbers, their digits from the table.
+#![tactic(auto)]
+
 ghost use Rattle.std.specs.Prelude.{◌<◌, ◌≤◌, length};
 
 use libc::STDOUT_FILENO;

@@ -1,4 +1,6 @@
 // Sheets, read: paths and the walks of spare carts, or choke points, in the written form, or the first bad line.
+#![tactic(auto)]
+
 ghost use Rattle.std.specs.Prelude.{◌≡◌, List, [], ℕ, ◌+◌, ◌-◌, ◌*◌, ◌≤◌, ◌<◌, length, take, drop};
 ghost use Rattle.model.specs.Limits.{max_cells, max_carts, max_calls, max_steps};
 ghost use Rattle.model.specs.Job as model;

@@ -1,4 +1,6 @@
 // A sheet judged: read, then its paths and spare carts, or its choke points, held against the job. It works in locals.
+#![tactic(auto)]
+
 ghost use Rattle.model.specs.Ready.{Ready};
 ghost use Rattle.model.specs.ReadSheet.{read_sheet};
 ghost use Rattle.model.specs.Promises.{Judged};

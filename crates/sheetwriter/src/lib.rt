@@ -1,4 +1,6 @@
 // Sheets, written into a lent buffer.
+#![tactic(auto)]
+
 ghost use Rattle.std.specs.Prelude.{◌≡◌, true, ◌+◌, ◌-◌, ◌*◌, ◌<◌, ◌≤◌, length};
 ghost use Rattle.model.specs.Limits.{max_calls};
 ghost use Rattle.model.specs.Lists.{In};

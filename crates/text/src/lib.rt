@@ -1,4 +1,6 @@
 // Lines, words and numbers: read from a text, and written into a buffer.
+#![tactic(auto)]
+
 pub mod digits;
 pub mod exponent;
 pub mod lines;

@@ -5,7 +5,7 @@ ghost use Rattle.text.specs.Scan.{line_of};
 
 use crate::scan;
 
-#[derive(Drop)]
+#[derive(Clone, Copy)]
 pub struct Lines<'a> {
     pub text: &'a [u8],
     pub at: usize,
