@@ -1,4 +1,3 @@
-pub mod Owned
 pub mod Steps
 pub mod LineLaws
 pub mod Numbers

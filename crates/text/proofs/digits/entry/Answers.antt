@@ -1,0 +1,11 @@
+-- `digits::entry` meets its contract: what the test says of the whole table holds at the entry that is read. Assumes nothing.
+use native.Mathlib.Omega.{arith}
+use Rattle.text.specs.DigitTable.{packed}
+use Rattle.text.proofs.Table.{at_each}
+use borrow.Author.Rules.{rules}
+use Rattle.text.proofs.digits.entry.Goals as goal
+
+pub returns : goal.returns
+returns c =
+    let s = c in
+    at_each packed s.args.table.now s.requires.0.right s.args.n (omega (arith, s.requires.0.thousand))
