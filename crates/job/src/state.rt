@@ -12,7 +12,7 @@ pub const CELL: u8 = 0;
 pub const WHOLE: u8 = 1;
 
 // The first `tracks` entries of `from` and `to` are the tracks, and so for carts and calls. Of a call: its kind, its cell and its deadline.
-#[derive(Drop)]
+#[derive(Clone, Copy)]
 pub struct Job {
     pub cells: usize,
     pub tracks: usize,

@@ -2,7 +2,6 @@
 use native.Mathlib.Omega.{arith}
 use Rattle.text.specs.DigitTable.{packed}
 use Rattle.text.proofs.Table.{at_each}
-use borrow.Author.Rules.{rules}
 use Rattle.text.proofs.digits.entry.Goals as goal
 
 pub returns : goal.returns

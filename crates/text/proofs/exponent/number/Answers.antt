@@ -1,6 +1,5 @@
 -- `number` reads the number that is the field at `at`, with an exponent or without: the digits there, and then the rest of the field. No loop. Assumes nothing.
 use mathlib.Core.Path.{◌≡◌, sym, ◌∙◌}
-use borrow.Author.Rules.{rules}
 use Rattle.text.specs.declared.scan.Scan.TheVariants.{Value}
 use Rattle.text.specs.Scan.{digits_at}
 use Rattle.text.proofs.FieldDigits.{digits_small, scaled_rest, scaled_without}

@@ -1,6 +1,5 @@
 -- `past_plus` answers the place behind a plus, or its own: past the text's end there is none, and else the byte at that place decides. Assumes nothing.
 use native.Mathlib.Omega.{arith}
-use borrow.Author.Rules.{rules}
 use Rattle.text.proofs.Powers.{plus_missing, plus_past, plus_there}
 use Rattle.text.proofs.exponent.past_plus.Goals as goal
 

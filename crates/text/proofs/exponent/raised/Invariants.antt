@@ -1,9 +1,6 @@
 -- `raised` multiplies by ten as often as the power says. Invariant: so far it is ten to the power of the turns made, times the value. Assumes nothing.
-use Prim.Native.Nat.{◌+◌, ◌-◌, ◌*◌, ◌^◌, ◌≤◌}
-use mathlib.Core.Path.{◌∙◌, ◌≡◌, ap}
-use native.Mathlib.Omega.{arith}
-use borrow.Author.Rules.{rules}
-use Rattle.text.proofs.Powers.{power_more}
+use Prim.Native.Nat.{◌-◌, ◌*◌, ◌^◌, ◌≤◌}
+use mathlib.Core.Path.{◌≡◌}
 use Rattle.text.proofs.exponent.raised.Given as goal
 
 abbrev pub invariant-loop : goal.invariant-loop

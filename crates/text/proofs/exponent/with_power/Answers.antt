@@ -5,8 +5,6 @@ use mathlib.Core.Path.{◌≡◌, sym, ap, ◌∙◌}
 use mathlib.Core.Bool.{true, false}
 use native.Mathlib.Omega.{arith}
 use lib.ListN.{length, get_or, drop}
-use borrow.Author.Rules.{rules}
-use borrow.Author.Tests.{not-false, not-true}
 use Rattle.model.specs.Text.{is_mark}
 use Rattle.model.specs.ReadJob.{is_empty}
 use Rattle.text.specs.declared.scan.Scan.TheVariants.{Value}
@@ -66,8 +64,7 @@ returns-then-next-from c =
 
 pub raised-requires : goal.raised-requires
 raised-requires c =
-    let a = c.args in
-    (
+    let a = c.args in (
       c.requires,
       power_small a.s.now a.at a.value (on (goal.at.raised-requires c).Else-field_ends) (marked (goal.at.raised-requires c).Else-not-mark) c.past_plus-from.result c.past_plus-from.ensures c.in-Value.power c.in-Value.next
           (digit (goal.at.raised-requires c).In-Value)

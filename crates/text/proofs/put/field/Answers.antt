@@ -1,5 +1,4 @@
 -- `put::field` meets its contract: the tab and the numeral are one piece, by `wrote_more`. Assumes nothing.
-use borrow.Author.Rules.{rules}
 use Rattle.text.proofs.Wrote.{wrote_more}
 use Rattle.text.proofs.put.field.Goals as goal
 

@@ -1,13 +1,11 @@
 -- `put::fields` meets its contract. The loop's invariant: the fields of the first i bytes are written, and take at most 4 bytes each, so that what
 -- is left of 4 · n has room for the rest. The measure is the number of fields that are left. Assumes nothing.
-use Rattle.text.specs.Wrote.{Wrote}
-use Prim.Native.Nat.{◌*◌, ◌+◌, ◌-◌, ◌<◌, ◌≤◌}
+use Prim.Native.Nat.{◌<◌}
 use mathlib.Core.Path.{◌∙◌, ◌≡◌, refl}
 use native.Mathlib.Omega.{arith}
-use Rattle.model.specs.Text.{fields}
 use Rattle.model.proofs.Room.{numeral_short}
 use Rattle.text.proofs.Wrote.{fields_suc, wrote_more, wrote_none}
-use lib.ListN.{length, take}
+use lib.ListN.{length}
 use borrow.Author.Rules.{rules}
 use Rattle.text.proofs.put.fields.Goals as goal
 

@@ -2,7 +2,6 @@
 use mathlib.Core.List.{[], ◌∷◌}
 use native.Mathlib.Omega.{arith}
 use Rattle.text.proofs.Wrote.{fields_one, head_long, wrote_line}
-use borrow.Author.Rules.{rules}
 use Rattle.text.proofs.put.head.Goals as goal
 
 pub word-p-requires : goal.word-p-requires

@@ -1,6 +1,5 @@
 -- `put::leading` meets its contract, by its test. Assumes nothing.
 use native.Mathlib.Omega.{arith}
-use borrow.Author.Rules.{rules}
 use Rattle.text.proofs.Wrote.{wrote_none}
 use Rattle.text.proofs.put.leading.Goals as goal
 

@@ -6,7 +6,6 @@ use native.Mathlib.Omega.{arith}
 use Rattle.model.specs.Text.{digit}
 use Rattle.text.proofs.Table.{ones, tens, hundreds, numeral_pieces, pieces_long}
 use Rattle.text.proofs.Wrote.{wrote_more}
-use borrow.Author.Rules.{rules}
 use Rattle.text.proofs.put.number.Goals as goal
 use Rattle.text.proofs.put.number.Goals.{After-digit, After-digit-2, After-digit-3}
 

@@ -1,7 +1,6 @@
 -- `put::pair` meets its contract: its three pieces are one, and what is left of its length after a piece is room for the next. Assumes nothing.
 use native.Mathlib.Omega.{arith}
 use Rattle.text.proofs.Wrote.{pair_long, wrote_pair}
-use borrow.Author.Rules.{rules}
 use Rattle.text.proofs.put.pair.Goals as goal
 
 pub word-p-requires : goal.word-p-requires

@@ -2,7 +2,6 @@
 use mathlib.Core.List.{[], ◌∷◌}
 use native.Mathlib.Omega.{arith}
 use Rattle.text.proofs.Wrote.{line_of, pair_long, pair_line_long, wrote_more}
-use borrow.Author.Rules.{rules}
 use Rattle.text.proofs.put.pair_line.Goals as goal
 
 pub pair-p-requires : goal.pair-p-requires

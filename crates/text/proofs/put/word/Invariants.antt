@@ -1,15 +1,9 @@
 -- `put::word` meets its contract. The loop's invariant: the first i of the bytes are written, and the buffer keeps its length; a turn writes one
 -- more. The measure is what is left of the bytes. Assumes nothing.
 use Rattle.text.specs.Wrote.{Wrote}
-use Prim.Native.Nat.{◌+◌, ◌-◌, ◌<◌, ◌≤◌}
-use mathlib.Core.Path.{◌≡◌, refl}
-use native.Mathlib.Nat.{add_assoc, add-zero}
-use native.Mathlib.Numerals.{add-one}
-use native.Mathlib.Omega.{arith}
-use lib.ListN.{length, length-set, take}
-use borrow.Author.Rules.{rules}
-use lib.Seq.{take_all, take-suc}
-use Rattle.text.proofs.Wrote.{wrote_more, wrote_none, wrote_one}
+use Prim.Native.Nat.{◌+◌, ◌-◌, ◌≤◌}
+use mathlib.Core.Path.{◌≡◌}
+use lib.ListN.{length, take}
 use Rattle.text.proofs.put.word.Given as goal
 
 abbrev pub invariant-loop-i : goal.invariant-loop-i

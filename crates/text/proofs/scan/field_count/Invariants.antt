@@ -1,13 +1,9 @@
 -- `field_count` counts the fields. Invariant: n and the fields from `i` on make one more than all the fields, since the field at `i` is counted
 -- on both sides; n is at most `i + 1`. The measure is what is left of the text. Assumes nothing.
-use Prim.Native.Nat.{◌+◌, ◌-◌, ◌<◌, ◌≤◌}
+use Prim.Native.Nat.{◌+◌, ◌-◌, ◌≤◌}
 use mathlib.Core.Path.{◌≡◌}
-use native.Mathlib.Omega.{arith}
-use Rattle.text.proofs.Steps.{count_end, count_byte, count_tab}
 use lib.ListN.{drop, length}
 use Rattle.model.specs.Text.{fields_of}
-use borrow.Author.Rules.{rules}
-use mathlib.Core.Logic.{⊎_elim}
 use Rattle.text.proofs.scan.field_count.Given as goal
 
 abbrev pub invariant-loop-i : goal.invariant-loop-i

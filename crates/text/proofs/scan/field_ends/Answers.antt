@@ -1,7 +1,6 @@
 -- `field_ends` says whether nothing of the field is left: past the text's end it has ended, and else a tab ends it. Assumes nothing.
 use mathlib.Core.Path.{◌∙◌}
 use native.Mathlib.Omega.{arith}
-use borrow.Author.Rules.{rules}
 use borrow.Author.Tests.{le-leb}
 use Rattle.text.proofs.FieldDigits.{ends_past, ends_tab}
 use Rattle.text.proofs.scan.field_ends.Goals as goal

@@ -1,6 +1,5 @@
 -- `line_before` hands out the part from `at` up to one before the place behind the line: the line without its line feed. Assumes nothing.
 use native.Mathlib.Omega.{arith}
-use borrow.Author.Rules.{rules}
 use Rattle.text.proofs.LineLaws.{line_part, line_bound}
 use Rattle.text.proofs.scan.line_before.Goals as goal
 

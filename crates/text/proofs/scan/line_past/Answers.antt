@@ -1,6 +1,5 @@
 -- `line_past` is one behind where the line ends, and the end is within the text, so the sum fits. Assumes nothing.
 use native.Mathlib.Omega.{arith}
-use borrow.Author.Rules.{rules}
 use Rattle.text.proofs.LineLaws.{line_bound}
 use Rattle.text.proofs.scan.line_past.Goals as goal
 

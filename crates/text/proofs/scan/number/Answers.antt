@@ -1,7 +1,5 @@
 -- `number` reads the number that is the field at `at`: the digits there, if the field ends behind them. No loop. Assumes nothing.
 use mathlib.Core.Path.{◌≡◌, sym, ◌∙◌}
-use borrow.Author.Rules.{rules}
-use borrow.Author.Tests.{not-false, not-true}
 use Rattle.text.specs.declared.scan.Scan.TheVariants.{Value}
 use Rattle.text.specs.Scan.{digits_at}
 use Rattle.text.proofs.FieldDigits.{number_ends, number_goes_on, number_without}

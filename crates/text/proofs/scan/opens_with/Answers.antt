@@ -1,11 +1,7 @@
 -- `opens_with` compares a word with the start of a text. Invariant: the rest of the text starts with the rest of the word just where the whole
 -- starts with the whole. The measure is what is left of the word. Assumes nothing.
-use mathlib.Core.Path.{◌≡◌, sym, ◌∙◌}
-use Prim.Native.Nat.{◌-◌}
+use mathlib.Core.Path.{sym, ◌∙◌}
 use native.Mathlib.Omega.{arith}
-use lib.ListN.{length, drop}
-use borrow.Author.Rules.{rules}
-use Rattle.model.specs.Text.{starts_with}
 use Rattle.text.proofs.Steps.{starts_end, starts_short, starts_differ, starts_step}
 use Rattle.text.proofs.scan.opens_with.Goals as goal
 

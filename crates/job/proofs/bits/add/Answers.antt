@@ -8,15 +8,11 @@ use lib.ListN.{get_or, set}
 use lib.Pow.{shl_exact}
 use Rattle.job.specs.Bits.{with_bit}
 use borrow.Author.Rules.{rules}
-use Rattle.job.proofs.bits.add.Statement.{statement}
-use Rattle.job.proofs.bits.add.Tie as tie
+use Rattle.job.proofs.bits.add.Goals as goal
 
-returns : tie.Need-returns
+pub returns : goal.returns
 unfolding with_bit
 returns c =
-    let a = c.before.args in
+    let a = c.args in
     let k = a.i % 8 in
     ap (λ n. set a.table.now (a.i / 8) (bit_or (get_or a.table.now (a.i / 8) 0) n)) (shl_exact 1 k 8 (omega arith) (omega arith) ∙ one-mul (2 ^ k))
-
-pub add_spec : {M : Type 1} → statement M
-add_spec = tie.close (tie.spec (λ c. search rules) (λ c. search rules) (λ c. search rules) (λ c. search rules) (λ c. search rules) returns)

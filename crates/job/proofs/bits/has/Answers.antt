@@ -6,14 +6,10 @@ use lib.Dec.{eqb}
 use lib.ListN.{get_or}
 use Rattle.job.specs.Bits.{bit_at}
 use borrow.Author.Rules.{rules}
-use Rattle.job.proofs.bits.has.Statement.{statement}
-use Rattle.job.proofs.bits.has.Tie as tie
+use Rattle.job.proofs.bits.has.Goals as goal
 
-returns : tie.Need-returns
+pub returns : goal.returns
 unfolding bit_at
 returns c =
-    let a = c.before.args in
+    let a = c.args in
     ap (λ n. eqb n 1) (and_mask (get_or a.table.now (a.i / 8) 0 / 2 ^ (a.i % 8)) 1)
-
-pub has-spec : {M : Type 1} → statement M
-has-spec = tie.close (tie.spec (λ c. search rules) (λ c. search rules) (λ c. search rules) returns)

@@ -7,8 +7,7 @@ use native.Mathlib.Nat.{mul-le-mul}
 use Rattle.model.specs.Limits.{max_cells, max_tracks, max_steps}
 use Rattle.job.proofs.Arrays.{tracks_count}
 use borrow.Author.Rules.{rules}
-use Rattle.job.proofs.size.store_least.Statement.{statement}
-use Rattle.job.proofs.size.store_least.Tie as tie
+use Rattle.job.proofs.size.store_least.Goals as goal
 
 small : (n cells tracks : ℕ) → n < max_steps → cells ≤ max_cells → tracks ≤ max_tracks
     → (n + 1) * 32 * (cells + 2 * tracks) ≤ max_steps * 32 * (max_cells + 2 * max_tracks)
@@ -17,22 +16,18 @@ small n cells tracks a b c =
     let y : cells + 2 * tracks ≤ max_cells + 2 * max_tracks = omega arith in
     mul-le-mul x y
 
-mul-result-3 : tie.Need-overflow-mul-result-3
-mul-result-3 c =
-    let n = c.before.before.last_step in
-    let j = c.before.before.before.args.job in
+pub overflow_mul-result-3 : goal.overflow_mul-result-3
+overflow_mul-result-3 c =
+    let n = c.last_step-steps in
+    let j = c.args.job in
     omega (arith, small n.result j.cells j.tracks (omega arith) (omega arith) (omega arith))
 
-add-result-2 : tie.Need-overflow-add-result-2
-add-result-2 c =
-    let n = c.before.before.last_step in
-    let j = c.before.before.before.args.job in
+pub overflow_add-result-2 : goal.overflow_add-result-2
+overflow_add-result-2 c =
+    let n = c.last_step-steps in
+    let j = c.args.job in
     omega (arith, small n.result j.cells j.tracks (omega arith) (omega arith) (omega arith))
 
-returns : tie.Need-returns
+pub returns : goal.returns
 returns c =
-    let s = c.before.before.before in
-    rw (tracks_count s.args.job, ← c.before.before.last_step.ensures.0) refl
-
-pub store-least-spec : {M : Type 1} → statement M
-store-least-spec = tie.close (tie.spec (λ c κs. search rules) (λ c. search rules) (λ c. search rules) (λ c. search rules) (λ c. search rules) mul-result-3 add-result-2 returns)
+    rw (tracks_count c.args.job, ← c.last_step-steps.ensures.0) refl
