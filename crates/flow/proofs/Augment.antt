@@ -1,6 +1,6 @@
 -- A flow with a way added is a flow, with one start more and one end more. What the way does at a node is looked at once, by four views: of the
 -- node's new next link, of its new prev link, of what follows the arrival there, and of what precedes the departure. Assumes nothing.
-use mathlib.Core.Path.{◌≡◌, ◌∙◌}
+use mathlib.Core.Path.{◌≡◌, sym, ◌∙◌, subst}
 use mathlib.Core.List.{List, ◌∷◌}
 use mathlib.Core.Logic.{◌⊎◌, inl, inr, ⊎_elim, ◌↔◌}
 use Rattle.model.specs.Lists.{In}
@@ -103,7 +103,7 @@ module _ {N : Type 0} (dec : Discrete N) {G : Graph N} {next prev : N → Link N
   prior v = go (dec_in dec v (s ∷ ats hs))
     where
       on : (u w : N) → On s hs u w v → Residual G next prev (arr w) (dep v) → Prior v
-      on u w o (inl (e, f)) = through (inr (rw e (on_via s hs u w v o))) (rw e f)
+      on u w o (inl (e, f)) = through (inr (subst (λ y. In y (vias hs)) (sym e) (on_via s hs u w v o))) (rw e f)
       on u w o (inr f) = back w (inr (on_via s hs u w v o)) f
 
       met : (u : N) × (w : N) × On s hs u w v → Prior v
@@ -120,7 +120,7 @@ module _ {N : Type 0} (dec : Discrete N) {G : Graph N} {next prev : N → Link N
       same : (In u (s ∷ ats hs) → ⊥) → prev w ≡ to u → After w → prev' w ≡ to u
       same k r (unmet k') = prev_kept dec prev s hs w k' ∙ r
       same k r (through i f) = nope (cc (ok.off_prev w f))
-      same k r (back x i f) = absurd (k (let e : x ≡ u = cc in rw e at i))
+      same k r (back x i f) = absurd (k (let e : x ≡ u = cc in subst (λ y. In y (s ∷ ats hs)) e i))
 
       go : Next u → prev' w ≡ to u
       go (kept k f) = same k (ok.forth u w (cc)) (after w)
@@ -134,7 +134,7 @@ module _ {N : Type 0} (dec : Discrete N) {G : Graph N} {next prev : N → Link N
       same : (In w (s ∷ vias hs) → ⊥) → next u ≡ to w → Prior u → next' u ≡ to w
       same k r (unmet k') = next_kept dec next s hs u k' ∙ r
       same k r (through i f) = nope (cc)
-      same k r (back w' i f) = absurd (k (let e : w' ≡ w = cc (ok.back u w' f) in rw e at i))
+      same k r (back w' i f) = absurd (k (let e : w' ≡ w = cc (ok.back u w' f) in subst (λ y. In y (s ∷ vias hs)) e i))
 
       go : Prev w → next' u ≡ to w
       go (kept k f) = same k (ok.back u w (cc)) (prior u)

@@ -1,5 +1,5 @@
 -- The links that a way sets: those of its hops, of its start and of its last node; every other link stays. Assumes nothing.
-use mathlib.Core.Path.{◌≡◌, refl, ◌∙◌}
+use mathlib.Core.Path.{◌≡◌, refl, ◌∙◌, subst}
 use mathlib.Core.List.{List, [], ◌∷◌}
 use mathlib.Core.Logic.{inl, inr}
 use Rattle.model.specs.Lists.{In, NoDup}
@@ -33,14 +33,14 @@ module _ {N : Type 0} (dec : Discrete N) where
     pub next_last : (s : N) (hs : List (Hop N)) → NoDup (s ∷ ats hs) → next_by dec s hs link (last_at s hs) ≡ end
     next_last s [] nd = upd_same dec link s end s refl
     next_last s (k ∷ hs) nd =
-        upd_other dec (next_by dec k.at hs link) s (join dec s k.via) (last_at k.at hs) (λ e. nd.0 (rw e at (last_in k.at hs)))
+        upd_other dec (next_by dec k.at hs link) s (join dec s k.via) (last_at k.at hs) (λ e. nd.0 (subst (λ y. In y (k.at ∷ ats hs)) e (last_in k.at hs)))
         ∙ next_last k.at hs nd.1
 
     pub next_hop : (s : N) (hs : List (Hop N)) (v w x : N) → NoDup (s ∷ ats hs) → On s hs v w x → next_by dec s hs link v ≡ join dec v w
     next_hop s [] v w x nd o = absurd o
     next_hop s (k ∷ hs) v w x nd (inl (e, f, g)) = rw (e, f) (upd_same dec (next_by dec k.at hs link) s (join dec s k.via) s refl)
     next_hop s (k ∷ hs) v w x nd (inr o) =
-        upd_other dec (next_by dec k.at hs link) s (join dec s k.via) v (λ e. nd.0 (rw e at (on_from k.at hs v w x o)))
+        upd_other dec (next_by dec k.at hs link) s (join dec s k.via) v (λ e. nd.0 (subst (λ y. In y (k.at ∷ ats hs)) e (on_from k.at hs v w x o)))
         ∙ next_hop k.at hs v w x nd.1 o
 
     back_kept : (s : N) (hs : List (Hop N)) (v : N) → (In v (vias hs) → ⊥) → back_by dec s hs link v ≡ link v
