@@ -1,13 +1,14 @@
 // Prints the table of digits as it stands in the code: an entry a line, in hexadecimal.
 #![tactic(auto)]
 
-use libc::STDOUT_FILENO;
+use std::io;
 use text::digits;
 
-fn main() {
+fn main(rt: HostRuntime) -> io::Result<()> {
     let table = digits::table();
     for n in 0..1000 {
-        io::print_hex(STDOUT_FILENO, digits::entry(&table, n) as u64, 3);
-        io::write_all(STDOUT_FILENO, b"\n");
+        let entry = digits::entry(&table, n);
+        println!(rt; "{entry:03x}")?;
     }
+    Ok(())
 }
