@@ -4,16 +4,11 @@ use Prim.Native.Nat.{ℕ, zero, suc, ◌+◌, ◌*◌, ◌-◌, ◌≤◌, ◌<�
 use mathlib.Core.Path.{◌≡◌, refl, ap, ◌∙◌}
 use mathlib.Core.List.{List, [], ◌∷◌, ◌++◌}
 use native.Mathlib.Omega.{arith}
-use native.Mathlib.Numerals.{add-one}
-use lib.ListN.{length, get_or, take, drop, set, get_or-append, length-append, length-set}
-use lib.Seq.{drop_at, length-take-le, get_or-set_same, get_or-set_other, take-append-le, get_or_at}
+use lib.ListN.{length, get_or, take, drop, set, length-set}
+use lib.Seq.{drop_at, length-take-le, get_or-set_same, get_or-set_other, take-append-le}
 use borrow.Author.Count.{below_more}
 use borrow.Rule.Slice.PartMut.{mid_len, same_len_mid}
 use Rattle.model.specs.Limits.{max_calls, max_steps}
-use Rattle.model.specs.Lists.{In}
-use Rattle.model.specs.Plan.{Path}
-use Rattle.model.proofs.Decide.{dec_eq}
-use Rattle.model.proofs.Lists.{in_get_or, in_place}
 use Rattle.job.specs.Held.{path_at, paths_to, Room}
 use Rattle.job.proofs.UpTo.{up_more}
 

@@ -7,7 +7,6 @@ use lib.Bits.{bit_or}
 use lib.ListN.{get_or, set}
 use lib.Pow.{shl_exact}
 use Rattle.job.specs.Bits.{with_bit}
-use borrow.Author.Rules.{rules}
 use Rattle.job.proofs.bits.add.Goals as goal
 
 pub returns : goal.returns

@@ -5,7 +5,6 @@ use lib.Bits.{and_mask}
 use lib.Dec.{eqb}
 use lib.ListN.{get_or}
 use Rattle.job.specs.Bits.{bit_at}
-use borrow.Author.Rules.{rules}
 use Rattle.job.proofs.bits.has.Goals as goal
 
 pub returns : goal.returns

@@ -4,7 +4,6 @@ use native.Mathlib.Omega.{arith}
 use borrow.Author.Tests.{lt-ltb, le-ltb}
 use Rattle.model.specs.Limits.{max_cells}
 use Rattle.job.proofs.Triangle.{row_ends}
-use borrow.Author.Rules.{rules}
 use Rattle.job.proofs.bits.pair.Goals as goal
 
 pub overflow_mul-result : goal.overflow_mul-result

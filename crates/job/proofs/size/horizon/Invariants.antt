@@ -1,7 +1,5 @@
 -- `size::horizon` meets its contract. The loop's invariant: `last` is the largest of the first k deadlines. The measure is the number of deadlines that
 -- are left. Assumes nothing.
-use native.Mathlib.Omega.{arith}
-use mathlib.Core.Logic.{⊎_elim}
 use Prim.Native.Nat.{ℕ, ◌≤◌, ◌<◌, ◌-◌}
 use mathlib.Core.Path.{◌≡◌}
 use mathlib.Core.List.{List}
@@ -9,8 +7,6 @@ use lib.ListN.{get_or}
 use Rattle.model.specs.Limits.{max_steps}
 use Rattle.model.specs.Job.{lift, Call, call, latest}
 use Rattle.job.specs.Arrays.{up_to}
-use Rattle.job.proofs.Arrays.{latest_suc}
-use borrow.Author.Rules.{rules}
 use Rattle.job.proofs.size.horizon.Given as goal
 
 -- a call of which only the deadline matters

@@ -6,7 +6,6 @@ use native.Mathlib.Omega.{arith}
 use Rattle.model.specs.Limits.{max_carts, max_steps}
 use Rattle.job.proofs.Arrays.{carts_count}
 use native.Mathlib.Nat.{mul-le-mul}
-use borrow.Author.Rules.{rules}
 use Rattle.job.proofs.size.sheet_least.Goals as goal
 
 small : (n carts : ℕ) → n < max_steps → carts ≤ max_carts → carts * (4 * (n + 1) + 16) ≤ max_carts * (4 * max_steps + 16)

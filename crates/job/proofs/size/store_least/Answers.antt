@@ -6,7 +6,6 @@ use native.Mathlib.Omega.{arith}
 use native.Mathlib.Nat.{mul-le-mul}
 use Rattle.model.specs.Limits.{max_cells, max_tracks, max_steps}
 use Rattle.job.proofs.Arrays.{tracks_count}
-use borrow.Author.Rules.{rules}
 use Rattle.job.proofs.size.store_least.Goals as goal
 
 small : (n cells tracks : ℕ) → n < max_steps → cells ≤ max_cells → tracks ≤ max_tracks
