@@ -7,8 +7,7 @@ use model::bytes::clear;
 use reader::read::Verdict;
 use sheetjudge::judge_sheet;
 
-#[unsafe(no_mangle)]
-pub extern "C" fn cartfloor_check(text: &[u8], store: &mut [u8], sheet: &[u8]) -> u64
+pub fn cartfloor_check(text: &[u8], store: &mut [u8], sheet: &[u8]) -> u64
     ensures { Checked text.now store.old sheet.now store.new result }
 {
     let lent = store.len();

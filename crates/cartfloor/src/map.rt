@@ -33,8 +33,7 @@ fn write_floor(places: &[usize], width: usize, cells: usize, text: &mut [u8]) ->
     256 * n as u64
 }
 
-#[unsafe(no_mangle)]
-pub extern "C" fn cartfloor_map(map: &[u8], text: &mut [u8]) -> u64
+pub fn cartfloor_map(map: &[u8], text: &mut [u8]) -> u64
     ensures { Mapped map.now text.old text.new result }
 {
     let mut places = [0usize; Limits::CELLS];

@@ -8,8 +8,7 @@ use model::bytes::clear;
 use planner::plan::plan_job;
 use reader::read::Verdict;
 
-#[unsafe(no_mangle)]
-pub extern "C" fn cartfloor_plan(text: &[u8], store: &mut [u8], sheet: &mut [u8]) -> u64
+pub fn cartfloor_plan(text: &[u8], store: &mut [u8], sheet: &mut [u8]) -> u64
     ensures { Planned text.now store.old sheet.old store.new sheet.new result }
 {
     let lent = store.len();

@@ -2,26 +2,28 @@
 #![tactic(auto)]
 
 use gridmap::{floor, read};
-use libc::{STDIN_FILENO, STDOUT_FILENO};
+use report::input::read_full;
+use std::io;
+use std::io::Write;
 
-fn write_floor(map: &[u8]) {
+fn write_floor<W: Write>(out: &mut W, map: &[u8]) -> io::Result<()> {
     let mut text = [0u8; floor::MOST];
     let r = cartfloor::map::cartfloor_map(map, &mut text);
     let value = r / 256;
     if 0 < r % 256 {
-        report::refused(r % 256, value);
-        return;
+        return report::refused(out, r % 256, value);
     }
     // A text is never longer than its buffer.
     if value <= floor::MOST as u64 {
         let n = value as usize;
-        io::write_all(STDOUT_FILENO, &text[0..n]);
+        out.write_all(&text[0..n])?;
     }
+    Ok(())
 }
 
 // The first bytes of a text, one more than the longest map has, get the answer of the whole (model/proofs/MapPrefix.antt).
-fn main() {
+fn main(rt: HostRuntime) -> io::Result<()> {
     let mut input = [0u8; read::MOST + 1];
-    let n = io::read_full(STDIN_FILENO, &mut input);
-    write_floor(&input[0..n]);
+    let n = read_full(&mut rt.stdin(), &mut input)?;
+    write_floor(&mut rt.stdout(), &input[0..n])
 }

@@ -4,9 +4,11 @@
 
 ghost use Rattle.std.specs.Prelude.{◌≡◌, ◌≤◌, length};
 
-use libc::{STDIN_FILENO, STDOUT_FILENO};
 use model::answer::number;
 use reader::read::Verdict;
+use report::input::read_full;
+use std::io;
+use std::io::Write;
 
 // Where the first such byte from `at` on stands, or the end.
 fn find(s: &[u8], at: usize, b: u8) -> usize
@@ -23,21 +25,17 @@ fn find(s: &[u8], at: usize, b: u8) -> usize
     i
 }
 
-fn example(label: &[u8], text: &[u8]) {
-    io::write_all(STDOUT_FILENO, label);
+fn example<W: Write>(out: &mut W, label: &[u8], text: &[u8]) -> io::Result<()> {
+    out.write_all(label)?;
     let reading = reader::read::read(text);
     let verdict = reading.verdict;
     match verdict {
-        Verdict::Accepted => {
-            io::write_all(STDOUT_FILENO, b"\taccepted\n");
-        }
-        Verdict::Refused { answer, line } => {
-            report::line(b"", number(answer), line as u64);
-        }
+        Verdict::Accepted => out.write_all(b"\taccepted\n"),
+        Verdict::Refused { answer, line } => report::line(out, b"", number(answer), line as u64),
     }
 }
 
-fn examples(s: &[u8])
+fn examples<W: Write>(out: &mut W, s: &[u8]) -> io::Result<()>
     requires { length s.now ≤ 131072 }
 {
     let mut at = 0;
@@ -45,17 +43,18 @@ fn examples(s: &[u8])
         let from = at + 1;
         let e = find(s, from, 10);
         if s.len() <= e {
-            return;
+            return Ok(());
         }
         let start = e + 1;
         let end = find(s, start, 37);
-        example(&s[from..e], &s[start..end]);
+        example(out, &s[from..e], &s[start..end])?;
         at = end;
     }
+    Ok(())
 }
 
-fn main() {
+fn main(rt: HostRuntime) -> io::Result<()> {
     let mut input = [0u8; 131072];
-    let n = io::read_full(STDIN_FILENO, &mut input);
-    examples(&input[0..n]);
+    let n = read_full(&mut rt.stdin(), &mut input)?;
+    examples(&mut rt.stdout(), &input[0..n])
 }
