@@ -10,7 +10,6 @@ use lib.Dec.{eqb}
 use lib.ListN.{length}
 use Rattle.model.specs.Job.{Job}
 use Rattle.model.specs.Choke.{Point, point}
-use Rattle.model.proofs.Basics.{nope}
 use Rattle.flow.specs.Flow.{Link, off, end, to}
 use Rattle.flow.proofs.Flow.{flow_same}
 use Rattle.network.specs.Graph.{top, Inside}

@@ -1,7 +1,7 @@
 -- Rides that follow a flow back from the calls, and from the last step, are a plan. Two that stand on one node are on one cell at every step before, and so start on one cell, which has one
 -- cart. Each path is a line of the flow, from its call's node to where that is met and down to step 0, so that two with one cart, which start on one cell, are of one call.
 -- A trade is a trade of links, which a calm flow does not have. Assumes nothing.
-use Prim.Native.Nat.{ℕ, zero, suc, ◌+◌, ◌-◌, ◌<◌, ◌≤◌}
+use Prim.Native.Nat.{ℕ, zero, suc, ◌+◌, ◌<◌, ◌≤◌}
 use mathlib.Core.Path.{◌≡◌, refl, sym, ◌∙◌, ap, subst}
 use mathlib.Core.List.{List, [], ◌∷◌, ◌++◌, map}
 use mathlib.Core.Logic.{◌⊎◌, inl, inr}

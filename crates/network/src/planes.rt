@@ -30,7 +30,7 @@ pub const LEADS: u8 = 1;
 pub const MEETS: u8 = 2;
 
 // How many cells the floor has, the layer of the calls, which is the step behind the last, and how many nodes: each cell at each step and in that layer.
-#[derive(Drop)]
+#[derive(Clone, Copy)]
 pub struct Grid {
     pub cells: usize,
     pub top: usize,
@@ -38,7 +38,7 @@ pub struct Grid {
 }
 
 // A cell at a step, or a call, which is its cell in the layer of the calls.
-#[derive(Drop)]
+#[derive(Clone, Copy)]
 pub struct Node {
     pub cell: usize,
     pub step: usize,

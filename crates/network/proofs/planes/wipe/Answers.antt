@@ -5,11 +5,9 @@ use mathlib.Core.List.{List, ◌++◌}
 use native.Mathlib.Nat.{mul-le-mul_right, suc-mul}
 use native.Mathlib.Omega.{arith}
 use lib.ListN.{length, get_or, drop, replicate, length-append, length-drop, length-replicate, get_or-replicate, get_or-append}
-use borrow.Author.Rules.{rules}
 use Rattle.network.specs.declared.planes.Grid.{Grid}
 use Rattle.network.specs.Store.{at, Spacious, Blank}
-use Rattle.network.proofs.planes.wipe.Statement.{statement}
-use Rattle.network.proofs.planes.wipe.Tie as tie
+use Rattle.network.proofs.planes.wipe.Goals as goal
 
 module _ (g : Grid) (s t : List ℕ) (room : Spacious g s) (e : t ≡ replicate (2 * g.nodes) 0 ++ drop (2 * g.nodes) s) where
   abbrev k : ℕ
@@ -27,12 +25,5 @@ module _ (g : Grid) (s t : List ℕ) (room : Spacious g s) (e : t ≡ replicate 
     ap length e ∙ simp (length-append, length-replicate, length-drop) (omega arith),
   )
 
-returns : tie.Need-returns
-returns c =
-    let cleared = c.before.before in
-    let lent = cleared.before.before in
-    let start = lent.before.before in
-    wiped start.args.grid start.args.store.now _ start.requires cleared.clear.ensures
-
-pub wipe-spec : {M : Type 1} → statement M
-wipe-spec = tie.close (tie.spec (λ c. search rules) (λ c κs. search rules) (λ c. search rules) returns)
+pub returns : goal.returns
+returns c = wiped c.args.grid c.args.store.now _ c.requires c.clear.ensures
