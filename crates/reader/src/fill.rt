@@ -11,7 +11,7 @@ use job::state::{BAY, Job, LIFT};
 use model::Limits;
 
 // How much of the arrays of a job is filled, as its lines are read.
-#[derive(Drop)]
+#[derive(Clone, Copy)]
 pub struct Counts {
     pub cells: usize,
     pub tracks: usize,
@@ -28,7 +28,7 @@ pub const CALL_ROW: usize = CART_ROW + Limits::CELLS;
 pub const TABLE: usize = CALL_ROW + Limits::CELLS;
 
 // What a line is about, by its word.
-#[derive(Drop)]
+#[derive(Clone, Copy)]
 pub enum Kind {
     Floor,
     Track,

@@ -15,7 +15,7 @@ use model::answer::Answer;
 use text::scan::Scan;
 
 // The first test that a line fails.
-#[derive(Drop)]
+#[derive(Clone, Copy)]
 pub enum Fault {
     Form,
     Number,
@@ -25,7 +25,7 @@ pub enum Fault {
 }
 
 // What a line says: a fault, or its kind and numbers.
-#[derive(Drop)]
+#[derive(Clone, Copy)]
 pub enum Entry {
     Wrong(Fault),
     Right { kind: Kind, a: usize, b: usize },
