@@ -1,6 +1,6 @@
 -- A line at a place of a text, byte by byte: its bytes stand there and a line feed behind them (`Ended`), and what stands there so is a line if no line feed is among its bytes.
 -- So a byte that fits no line shows that no line there says anything. A size from 1 to 64 is one digit or two. Assumes nothing.
-use Prim.Native.Nat.{ℕ, suc, ◌+◌, ◌*◌, ◌/◌, ◌%◌, ◌≤◌, ◌<◌}
+use Prim.Native.Nat.{ℕ, suc, ◌+◌, ◌/◌, ◌%◌, ◌≤◌, ◌<◌}
 use mathlib.Core.Path.{◌≡◌, refl, sym, ap, ◌∙◌}
 use mathlib.Core.List.{List, [], ◌∷◌, ◌++◌, append-nil}
 use mathlib.Core.Option.{Option, none, some}

@@ -6,7 +6,6 @@ use mathlib.Core.List.{List, [], ◌∷◌, ◌++◌}
 use mathlib.Core.Option.{some}
 use mathlib.Core.Bool.{Bool, true, false, ◌&&◌}
 use native.Mathlib.Omega.{arith}
-use native.Mathlib.Numerals.{add-one}
 use native.Mathlib.Nat.{add-mul, one-mul, mul-le-mul}
 use lib.Dec.{eqb}
 use lib.ListN.{length, get_or, take, drop, length-append, length-drop, get_or-append, get_or-eq_default}
@@ -16,7 +15,7 @@ use Rattle.model.specs.Limits.{max_cells, max_side}
 use Rattle.model.specs.Text.{lines_of}
 use Rattle.model.specs.FirstBad.{rest_says}
 use Rattle.model.specs.GridMap.{Drawn, bad, drawn, is_cell, is_letter, all_letters, row_line, cell_at, row_cells, map_cells, cell_number}
-use Rattle.model.proofs.Basics.{nope, and_left, and_right, and_both}
+use Rattle.model.proofs.Basics.{nope, and_left, and_right}
 use Rattle.model.proofs.Read.{cond_some}
 use Rattle.model.proofs.Written.{free}
 use Rattle.model.proofs.Decide.{dec-lt, dec_eq}

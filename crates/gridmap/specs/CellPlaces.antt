@@ -1,5 +1,5 @@
 -- Where the cells of a map stand, and the tracks that are found from that.
-use Rattle.std.specs.Prelude.{ℕ, suc, ◌+◌, ◌*◌, ◌≤◌, ◌<◌, ◌≡◌, List, [], ◌∷◌, ◌++◌, Bool, true, cond, length, get_or}
+use Rattle.std.specs.Prelude.{ℕ, suc, ◌+◌, ◌*◌, ◌≤◌, ◌<◌, ◌≡◌, List, [], ◌∷◌, ◌++◌, Bool, true, cond, get_or}
 use Rattle.model.specs.Limits.{max_cells, max_tracks, max_side}
 use Rattle.model.specs.Job.{Track, track}
 use Rattle.model.specs.GridMap.{cell_at, map_cells, cell_number, tracks_of}
