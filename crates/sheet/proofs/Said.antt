@@ -195,13 +195,13 @@ pub head_unlike : (calls : ℕ) (l : List ℕ) → opens plan_word l ≡ false �
 head_unlike calls l e r q = (λ j ls n. ap (λ x. head_goes j x ls) q ∙ goes j ls n, rw q (cannot_known calls (only_of (numbers_after cannot_word l))))
   where
     goes : (j : Job) (ls : Lines) → length j.calls ≡ calls → head_goes j (cannot_head calls (only_of (numbers_after cannot_word l))) ls ≡ head_says j (more l ls)
-    goes j ls n = rw (← n, e) (cannot_goes j ls (only_of (numbers_after cannot_word l)) ∙ sym (count-only _ _ (numbers_after cannot_word l)))
+    goes j ls n = rw (← n, e) (cannot_goes j ls (only_of (numbers_after cannot_word l)) ∙ sym (count-only (λ n. ltb n (length j.calls)) (λ n. rest_says bad (choke_line j) cannot [] n 2 ls) (numbers_after cannot_word l)))
 
 module _ (l : List ℕ) (e : opens plan_word l ≡ true) {m : Option ℕ} (only : m ≡ only_of (numbers_after plan_word l)) where
   plan_says : (j : Job) (ls : Lines) → head_says j (more l ls) ≡ count_only (λ n. eqb n (length j.calls)) (λ n. lines_due bad (path_line j) (spares_say j) [] n 2 ls) m
   plan_says j ls =
       rw e
-      (count-only _ _ (numbers_at l 5)
+      (count-only (λ n. eqb n (length j.calls)) (λ n. lines_due bad (path_line j) (spares_say j) [] n 2 ls) (numbers_at l 5)
       ∙ ap (count_only (λ n. eqb n (length j.calls)) (λ n. lines_due bad (path_line j) (spares_say j) [] n 2 ls)) (sym (only ∙ ap only_of (past (plan_word ++ (9 ∷ [])) l e))))
 
   pub head_few : (calls : ℕ) → m ≡ none → HeadSaid calls l H.Bad

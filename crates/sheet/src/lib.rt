@@ -21,7 +21,7 @@ use model::bytes::wide;
 use text::scan::Scan;
 
 // What a sheet is, by its form.
-#[derive(Drop)]
+#[derive(Clone, Copy)]
 pub enum Form {
     Bad { line: usize },
     Plan,
@@ -29,7 +29,7 @@ pub enum Form {
 }
 
 // The first two numbers behind a word with its tab, and the place after them.
-#[derive(Drop)]
+#[derive(Clone, Copy)]
 enum Two {
     Missing,
     Both {
@@ -39,7 +39,7 @@ enum Two {
     },
 }
 
-#[derive(Drop)]
+#[derive(Clone, Copy)]
 enum PathLine {
     Bad,
     Good {
@@ -49,20 +49,20 @@ enum PathLine {
     },
 }
 
-#[derive(Drop)]
+#[derive(Clone, Copy)]
 enum SpareLine {
     Bad,
     Good { cart: usize },
 }
 
 // A choke point by the bytes that hold it.
-#[derive(Drop)]
+#[derive(Clone, Copy)]
 enum ChokeLine {
     Bad,
     Good { kind: u8, first: u8, second: u8 },
 }
 
-#[derive(Drop)]
+#[derive(Clone, Copy)]
 enum Head {
     Bad,
     Plan,
