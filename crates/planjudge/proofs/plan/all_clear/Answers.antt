@@ -1,12 +1,8 @@
 -- `all_clear` decides whether the carts are in nobody's way at each step up to h. Invariant: they are not below t. The measure is the steps left.
 -- Assumes nothing.
-use Rattle.planjudge.specs.PlanTests.{Clear}
-use Prim.Native.Nat.{◌+◌, ◌-◌, ◌<◌, ◌≤◌, ℕ}
 use borrow.Author.Count.{below_more}
 use Rattle.job.proofs.Tested.{denied, told}
 use native.Mathlib.Omega.{arith}
-use borrow.Author.Rules.{rules}
-use borrow.Author.Tests.{not-false, not-true}
 use Rattle.planjudge.proofs.plan.all_clear.Goals as goal
 
 pub loop-t-init : goal.loop-t-init

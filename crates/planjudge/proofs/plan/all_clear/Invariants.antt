@@ -2,11 +2,6 @@
 -- Assumes nothing.
 use Rattle.planjudge.specs.PlanTests.{Clear}
 use Prim.Native.Nat.{◌+◌, ◌-◌, ◌<◌, ◌≤◌, ℕ}
-use borrow.Author.Count.{below_more}
-use Rattle.job.proofs.Tested.{denied, told}
-use native.Mathlib.Omega.{arith}
-use borrow.Author.Rules.{rules}
-use borrow.Author.Tests.{not-false, not-true}
 use Rattle.planjudge.proofs.plan.all_clear.Given as goal
 
 abbrev pub invariant-loop-t : goal.invariant-loop-t

@@ -1,15 +1,12 @@
 -- `all_stay` decides whether each spare cart's line is a walk from its cart's cell. Invariant: those below k are. The measure is the lines left.
 -- Assumes nothing.
-use Prim.Native.Nat.{ℕ, ◌-◌, ◌<◌, ◌≤◌}
 use mathlib.Core.Path.{◌≡◌, ◌∙◌, sym, ap, subst}
 use native.Mathlib.Omega.{arith}
 use lib.ListN.{get_or}
-use borrow.Author.Rules.{rules}
 use borrow.Author.Count.{below_more}
-use borrow.Author.Tests.{not-false, not-true}
 use Rattle.job.specs.Held.{Decides}
 use Rattle.job.proofs.Tested.{denied, told}
-use Rattle.planjudge.specs.PlanTests.{cell_of, Walks}
+use Rattle.planjudge.specs.PlanTests.{Walks}
 use Rattle.planjudge.proofs.plan.all_stay.Goals as goal
 use Rattle.planjudge.proofs.plan.all_stay.Goals.{After-walks, After-wide}
 

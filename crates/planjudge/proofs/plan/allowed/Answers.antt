@@ -2,8 +2,7 @@
 use Prim.Native.Nat.{◌+◌}
 use native.Mathlib.Omega.{arith}
 use lib.ListN.{get_or}
-use borrow.Author.Rules.{rules}
-use borrow.Author.Tests.{ltb-true, ltb-false, not-false, not-true}
+use borrow.Author.Tests.{ltb-true, ltb-false}
 use Rattle.job.proofs.Tested.{denied}
 use Rattle.planjudge.proofs.plan.allowed.Goals as goal
 

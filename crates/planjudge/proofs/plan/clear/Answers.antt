@@ -3,7 +3,6 @@ use Rattle.planjudge.specs.PlanTests.{Unshared}
 use Rattle.job.proofs.Tested.{denied, same_answer}
 use Rattle.model.specs.Limits.{max_cells, max_carts}
 use lib.ListN.{get_or-replicate, length-replicate}
-use borrow.Author.Tests.{not-false, not-true}
 use Prim.Native.Nat.{ℕ}
 use Rattle.planjudge.proofs.plan.clear.Goals as goal
 

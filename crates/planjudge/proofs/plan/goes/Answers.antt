@@ -6,7 +6,6 @@ use native.Mathlib.Omega.{arith}
 use Rattle.job.proofs.Triangle.{pair_small}
 use Rattle.job.proofs.Tested.{told}
 use Rattle.planjudge.proofs.PlanSteps.{no_go}
-use borrow.Author.Rules.{rules}
 use Rattle.planjudge.proofs.plan.goes.Goals as goal
 
 pub returns-then-u-v : goal.returns-then-u-v

@@ -2,15 +2,12 @@
 -- Assumes nothing.
 use Rattle.job.specs.Held.{Decides}
 use Rattle.floor.specs.Order.{SoonerIn}
-use Prim.Native.Nat.{◌+◌, ◌-◌, ◌<◌, ℕ, ◌≤◌}
+use Prim.Native.Nat.{◌+◌}
 use native.Mathlib.Omega.{arith}
 use borrow.Author.Count.{below_more}
 use lib.ListN.{get_or}
 use Rattle.job.proofs.Tested.{denied, told}
 use Rattle.planjudge.proofs.PlanSteps.{at_both}
-use Rattle.model.specs.Limits.{max_carts}
-use borrow.Author.Rules.{rules}
-use borrow.Author.Tests.{not-false, not-true}
 use Rattle.planjudge.proofs.plan.in_order.Goals as goal
 use Rattle.planjudge.proofs.plan.in_order.Goals.{After-sooner}
 

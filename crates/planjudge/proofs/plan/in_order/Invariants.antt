@@ -1,16 +1,9 @@
 -- `in_order` decides whether the calls of the paths are in order. Invariant: those below k stand before the next. The measure is the paths left.
 -- Assumes nothing.
-use Rattle.job.specs.Held.{Decides}
 use Rattle.floor.specs.Order.{SoonerIn}
 use Prim.Native.Nat.{◌+◌, ◌-◌, ◌<◌, ℕ, ◌≤◌}
-use native.Mathlib.Omega.{arith}
-use borrow.Author.Count.{below_more}
 use lib.ListN.{get_or}
-use Rattle.job.proofs.Tested.{denied, told}
-use Rattle.planjudge.proofs.PlanSteps.{at_both}
 use Rattle.model.specs.Limits.{max_carts}
-use borrow.Author.Rules.{rules}
-use borrow.Author.Tests.{not-false, not-true}
 use Rattle.planjudge.proofs.plan.in_order.Given as goal
 
 abbrev pub invariant-loop-k : goal.invariant-loop-k

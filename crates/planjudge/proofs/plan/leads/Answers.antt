@@ -1,7 +1,6 @@
 -- `leads` decides whether a path leads from one cell to another: by its first cell, its last and the steps between. Assumes nothing.
 use mathlib.Core.Path.{◌∙◌, sym}
 use Rattle.job.proofs.Tested.{denied, same_answer}
-use borrow.Author.Rules.{rules}
 use Rattle.planjudge.proofs.plan.leads.Goals as goal
 
 pub returns-then-cell-a : goal.returns-then-cell-a

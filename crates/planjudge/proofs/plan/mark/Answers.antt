@@ -1,14 +1,8 @@
 -- `mark` marks the tracks. Invariant: the table's bit is set for each track below i, and for no other pair. The measure is the tracks left. Assumes nothing.
 use native.Mathlib.Omega.{arith}
 use Rattle.planjudge.proofs.PlanSteps.{marks_turn, marks_none}
-use Rattle.planjudge.specs.PlanTests.{Marks}
-use Prim.Native.Nat.{◌-◌, ◌*◌, ◌≤◌}
 use mathlib.Core.Path.{◌≡◌}
-use lib.ListN.{length}
-use Rattle.model.specs.Limits.{max_cells}
-use Rattle.job.specs.Bits.{pairs_below}
 use Rattle.job.proofs.Triangle.{pair_small}
-use borrow.Author.Rules.{rules}
 use Rattle.planjudge.proofs.plan.mark.Goals as goal
 
 pub loop-i-init : goal.loop-i-init

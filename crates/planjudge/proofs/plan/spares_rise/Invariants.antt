@@ -1,12 +1,8 @@
 -- `spares_rise` decides whether the spare carts' numbers rise. Invariant: those below k are smaller than the next. The measure is the lines left.
 -- Assumes nothing.
 use Prim.Native.Nat.{ℕ, ◌+◌, ◌-◌, ◌<◌, ◌≤◌}
-use native.Mathlib.Omega.{arith}
 use lib.ListN.{get_or}
-use borrow.Author.Rules.{rules}
-use borrow.Author.Count.{below_more}
 use Rattle.model.specs.Limits.{max_carts}
-use Rattle.job.proofs.Tested.{denied, told}
 use Rattle.planjudge.proofs.plan.spares_rise.Given as goal
 
 abbrev pub invariant-loop-k : goal.invariant-loop-k

@@ -7,7 +7,6 @@ use Rattle.job.proofs.Tested.{by_equal, denied}
 use Rattle.planjudge.proofs.PlanSteps.{Facing, facing, trades_of}
 use Rattle.planjudge.specs.PlanTests.{cell_of, Trades}
 use lib.ListN.{get_or}
-use borrow.Author.Rules.{rules}
 use Rattle.planjudge.proofs.plan.trades.Goals as goal
 use Rattle.planjudge.proofs.plan.trades.Goals.{After-wide-m}
 

@@ -1,14 +1,10 @@
 -- `untraded` decides whether no cart trades places from a step to the next. Invariant: none of a line below k does. The measure is the lines left.
 -- Assumes nothing.
-use Rattle.planjudge.specs.PlanTests.{Trades}
-use Prim.Native.Nat.{◌-◌, ◌<◌, ◌≤◌, ℕ}
 use mathlib.Core.Path.{◌≡◌}
 use borrow.Author.Count.{below_more}
 use Rattle.job.proofs.Tested.{denied, told}
 use native.Mathlib.Omega.{arith}
 use lib.ListN.{get_or}
-use borrow.Author.Rules.{rules}
-use mathlib.Core.Logic.{⊎_elim}
 use Rattle.planjudge.proofs.plan.untraded.Goals.{then-t-wide+else-trades, else-t-wide}
 use Rattle.planjudge.proofs.plan.untraded.Goals as goal
 

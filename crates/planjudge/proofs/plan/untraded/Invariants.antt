@@ -2,13 +2,7 @@
 -- Assumes nothing.
 use Rattle.planjudge.specs.PlanTests.{Trades}
 use Prim.Native.Nat.{◌-◌, ◌<◌, ◌≤◌, ℕ}
-use mathlib.Core.Path.{◌≡◌}
-use borrow.Author.Count.{below_more}
-use Rattle.job.proofs.Tested.{denied, told}
-use native.Mathlib.Omega.{arith}
 use lib.ListN.{get_or}
-use borrow.Author.Rules.{rules}
-use mathlib.Core.Logic.{⊎_elim}
 use Rattle.planjudge.proofs.plan.untraded.Given as goal
 
 abbrev pub invariant-loop-k : goal.invariant-loop-k

@@ -1,13 +1,11 @@
 -- `walks` decides whether a line is a walk. Invariant: its steps below t are allowed. The measure is the steps left. Assumes nothing.
 use Rattle.job.specs.Held.{Decides}
 use Rattle.planjudge.specs.PlanTests.{Allowed, cell_of}
-use Prim.Native.Nat.{◌+◌, ◌-◌, ◌<◌, ◌≤◌, ℕ}
+use Prim.Native.Nat.{◌+◌}
 use borrow.Author.Count.{below_more}
 use Rattle.job.proofs.Tested.{denied, told}
 use Rattle.planjudge.proofs.PlanSteps.{at_both}
 use native.Mathlib.Omega.{arith}
-use borrow.Author.Rules.{rules}
-use borrow.Author.Tests.{not-false, not-true}
 use Rattle.planjudge.proofs.plan.walks.Goals as goal
 use Rattle.planjudge.proofs.plan.walks.Goals.{After-allowed}
 
