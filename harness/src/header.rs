@@ -133,7 +133,7 @@ pub fn assert_rows(folder: &str, name: &str, rows: &[Row]) {
 /// Where the library is.
 pub fn library() -> String {
     let library = format!("{ROOT}/target/staticlib/libcartfloor.a");
-    assert!(Path::new(&library).is_file(), "there is no {library}: `rt staticlib cartfloor` builds it");
+    assert!(Path::new(&library).is_file(), "there is no {library}: `rt lib` in crates/cartfloor_c builds it");
     library
 }
 

@@ -12,13 +12,13 @@ const FLOORMAP: &str = concat!(env!("CARGO_MANIFEST_DIR"), "/../target/bin/floor
 
 /// Where the planning program is.
 pub fn floorplan() -> &'static str {
-    assert!(Path::new(FLOORPLAN).is_file(), "there is no {FLOORPLAN}: `rt check floorplan` builds it");
+    assert!(Path::new(FLOORPLAN).is_file(), "there is no {FLOORPLAN}: `./floorplan` builds it");
     FLOORPLAN
 }
 
 /// Where the program is that reads maps.
 pub fn floormap() -> &'static str {
-    assert!(Path::new(FLOORMAP).is_file(), "there is no {FLOORMAP}: `rt check floormap` builds it");
+    assert!(Path::new(FLOORMAP).is_file(), "there is no {FLOORMAP}: `./floormap` builds it");
     FLOORMAP
 }
 

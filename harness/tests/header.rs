@@ -123,64 +123,64 @@ const LINES: &[(&str, &str)] = &[
     ("Answers", "number WrongSheet = 12"),
     ("Answers", "number BadMap = 13"),
     ("Answers", "number NoFloor = 14"),
-    ("Limits", "maxCells = 256"),
-    ("Limits", "maxTracks = 512"),
-    ("Limits", "maxCarts = 64"),
-    ("Limits", "maxCalls = 64"),
+    ("Limits", "max_cells = 256"),
+    ("Limits", "max_tracks = 512"),
+    ("Limits", "max_carts = 64"),
+    ("Limits", "max_calls = 64"),
     // A deadline is below this.
-    ("Limits", "maxSteps = 256"),
-    ("Limits", "maxSide = 64"),
-    ("Limits", "maxText = 16384"),
-    ("Job", "storeLeast j = (horizon j + 1) * 32 * (j .cells + 2 * length (j .tracks)) + 4096"),
-    ("Job", "sheetLeast j = length (j .carts) * (4 * (horizon j + 1) + 16) + 64"),
+    ("Limits", "max_steps = 256"),
+    ("Limits", "max_side = 64"),
+    ("Limits", "max_text = 16384"),
+    ("Job", "store_least j = (horizon j + 1) * 32 * (j.cells + 2 * length j.tracks) + 4096"),
+    ("Job", "sheet_least j = length j.carts * (4 * (horizon j + 1) + 16) + 64"),
     ("ReadJob", READ_BY),
-    ("ReadJob", "readJob s = readBy scaledOf s"),
+    ("ReadJob", "read_job s = read_by scaled_of s"),
     ("ReadJob", FIELDS_SAY),
     ("ReadJob", "(wrong BadLine)))))"),
-    ("ReadJob", "linesSay number j n cut = refused BadLine n"),
-    ("ReadJob", "numbersSay j k none = wrong NoNumber"),
+    ("ReadJob", "lines_say number j n cut = refused BadLine n"),
+    ("ReadJob", "numbers_say j k none = wrong NoNumber"),
     ("ReadJob", NUMBERS_SAY),
     ("ReadJob", WHOLE_JOB),
-    ("Contracts", WITH_STORE),
-    ("Contracts", WITH_ROOM),
-    ("Contracts", WRITTEN_PLAN),
-    ("Contracts", WRITTEN_CANNOT),
-    ("Contracts", "Told (refused a l) r b = (r ≡ number a + 256 * l) × (b ≡ [])"),
-    ("Contracts", "Decided (refused a l) sheet r = r ≡ number a + 256 * l"),
-    ("Contracts", "Judged j (bad l) r = r ≡ number answer.BadSheet + 256 * l"),
-    ("Contracts", JUDGED_PLAN),
-    ("Contracts", JUDGED_CANNOT),
-    ("Contracts", "textAnswer (refused a l) = number a + 256 * l"),
-    ("Contracts", "textAnswer (accepted b) = 256 * length b"),
-    ("GridMap", "isCell b = member b (bytes \".G\")"),
-    ("GridMap", "isWall b = member b (bytes \"@OT\")"),
-    ("GridMap", "lineDue bad (wordLine (bytes \"type octile\")) 1 (linesOf s) (λ _ ls₁."),
-    ("GridMap", "lineDue bad (sizeLine (bytes \"height \")) 2 ls₁ (λ h ls₂."),
-    ("GridMap", "lineDue bad (sizeLine (bytes \"width \")) 3 ls₂ (λ w ls₃."),
-    ("GridMap", "lineDue bad (wordLine (bytes \"map\")) 4 ls₃ (λ _ ls₄."),
-    ("GridMap", "restSays bad (rowLine w) drawn [] h 5 ls₄))))"),
-    ("GridMap", "tracksAt m r c = cond (cellAt m r c) (trackTo m r c r (suc c) ++ trackTo m r c (suc r) c) []"),
-    ("GridMap", "floorText room (bad l) = refused BadMap l"),
-    ("GridMap", "floorText room (drawn m) = cond (ltb 0 (mapCells m) && leb (mapCells m) maxCells)"),
+    ("Promises", WITH_STORE),
+    ("Promises", WITH_ROOM),
+    ("Promises", WRITTEN_PLAN),
+    ("Promises", WRITTEN_CANNOT),
+    ("Promises", "Told (refused a l) r b = (r ≡ number a + 256 * l) × (b ≡ [])"),
+    ("Promises", "Decided (refused a l) sheet r = r ≡ number a + 256 * l"),
+    ("Promises", "Judged j (bad l) r = r ≡ number answer.BadSheet + 256 * l"),
+    ("Promises", JUDGED_PLAN),
+    ("Promises", JUDGED_CANNOT),
+    ("Promises", "text_answer (refused a l) = number a + 256 * l"),
+    ("Promises", "text_answer (accepted b) = 256 * length b"),
+    ("GridMap", "is_cell b = member b (bytes \".G\")"),
+    ("GridMap", "is_wall b = member b (bytes \"@OT\")"),
+    ("GridMap", "line_due bad (word_line (bytes \"type octile\")) 1 (lines_of s) (λ _ ls₁."),
+    ("GridMap", "line_due bad (size_line (bytes \"height \")) 2 ls₁ (λ h ls₂."),
+    ("GridMap", "line_due bad (size_line (bytes \"width \")) 3 ls₂ (λ w ls₃."),
+    ("GridMap", "line_due bad (word_line (bytes \"map\")) 4 ls₃ (λ _ ls₄."),
+    ("GridMap", "rest_says bad (row_line w) drawn [] h 5 ls₄))))"),
+    ("GridMap", "tracks_at m r c = cond (cell_at m r c) (track_to m r c r (suc c) ++ track_to m r c (suc r) c) []"),
+    ("GridMap", "floor_text room (bad l) = refused BadMap l"),
+    ("GridMap", "floor_text room (drawn m) = cond (ltb 0 (map_cells m) && leb (map_cells m) max_cells)"),
     ("GridMap", FLOOR_FITS),
 ];
 
-const FLOOR_FITS: &str = "(cond (leb (length (mapText m)) room) (accepted (mapText m)) (refused SheetTooShort 0))";
-const READ_BY: &str = "readBy number s = \
-    cond (ltb maxText (length s)) (refused TextTooLong 0) (linesSay number noJob 1 (linesOf s))";
-const FIELDS_SAY: &str = "fieldsSay number j k fs = \
-    cond (mayFollow j k && eqb (length fs) (fieldCount k)) (numbersSay j k (numbersBy number fs)) (wrong BadLine)";
-const NUMBERS_SAY: &str = "cond (inRange j k a b) \
-    (cond (hasRoom j k) (cond (isNew j k a b) (right (add j k a b)) (wrong Doubled)) (wrong TooMany)) (wrong OutOfRange)";
-const WHOLE_JOB: &str = "wholeJob j n = cond (eqb (j .cells) 0) (refused BadLine n) \
-    (cond (leb (length (j .calls)) (length (j .carts))) (accepted j) (refused Uneven 0))";
-const WITH_STORE: &str = "withStore n (accepted j) = \
-    cond (ltb n (storeLeast j)) (refused answer.StoreTooShort 0) (accepted j)";
-const WITH_ROOM: &str = "withRoom n (accepted j) = \
-    cond (ltb n (sheetLeast j)) (refused answer.SheetTooShort 0) (accepted j)";
-const WRITTEN_PLAN: &str = "((ps : List Path) × (ss : List Ride) × RightPlan j ps ss × (b ≡ planText ps ss) × \
+const FLOOR_FITS: &str = "(cond (leb (length (map_text m)) room) (accepted (map_text m)) (refused SheetTooShort 0))";
+const READ_BY: &str = "read_by number s = \
+    cond (ltb max_text (length s)) (refused TextTooLong 0) (lines_say number no_job 1 (lines_of s))";
+const FIELDS_SAY: &str = "fields_say number j k fs = \
+    cond (may_follow j k && eqb (length fs) (field_count k)) (numbers_say j k (numbers_by number fs)) (wrong BadLine)";
+const NUMBERS_SAY: &str = "cond (in_range j k a b) \
+    (cond (has_room j k) (cond (is_new j k a b) (right (add j k a b)) (wrong Doubled)) (wrong TooMany)) (wrong OutOfRange)";
+const WHOLE_JOB: &str = "whole_job j n = cond (eqb j.cells 0) (refused BadLine n) \
+    (cond (leb (length j.calls) (length j.carts)) (accepted j) (refused Uneven 0))";
+const WITH_STORE: &str = "with_store n (accepted j) = \
+    cond (ltb n (store_least j)) (refused answer.StoreTooShort 0) (accepted j)";
+const WITH_ROOM: &str = "with_room n (accepted j) = \
+    cond (ltb n (sheet_least j)) (refused answer.SheetTooShort 0) (accepted j)";
+const WRITTEN_PLAN: &str = "((ps : List Path) × (ss : List Ride) × RightPlan j ps ss × (b ≡ plan_text ps ss) × \
     (r ≡ number answer.Plan + 256 * length b))";
-const WRITTEN_CANNOT: &str = "⊎ ((xs : List Choke) × RightChokes j xs × (b ≡ cannotText xs) × \
+const WRITTEN_CANNOT: &str = "⊎ ((xs : List Choke) × RightChokes j xs × (b ≡ cannot_text xs) × \
     (r ≡ number answer.Cannot + 256 * length b) × \
     ((ps : List Path) (ss : List Ride) → Plan j ps ss → ⊥))";
 const JUDGED_PLAN: &str = "Judged j (plan ps ss) r = (RightPlan j ps ss × (r ≡ number answer.Plan)) \

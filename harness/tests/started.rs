@@ -71,12 +71,12 @@ fn many_at_once(script: &Script, begun: &str, builds: &str) {
 
 #[test]
 fn floorplan() {
-    many_at_once(&FLOORPLAN, "target/bin/floorplan.begun", "rt: floorplan proved");
+    many_at_once(&FLOORPLAN, "target/bin/floorplan.begun", "proving and building floorplan");
 }
 
 #[test]
 fn floormap() {
-    many_at_once(&FLOORMAP, "target/bin/floormap.begun", "rt: floormap proved");
+    many_at_once(&FLOORMAP, "target/bin/floormap.begun", "proving and building floormap");
 }
 
 #[test]
