@@ -56,7 +56,8 @@ module _ (first second kinds : List ℕ) (n : ℕ) where
         rest zero l b = let e : m ≡ 0 = omega arith in rw e at (whole (omega arith))
         rest (suc k) l b = ⊎_elim
             (λ e. rw e at (whole (omega arith)))
-            (λ o. on (get_or kinds k 0) (get_or kinds (suc k) 0) (get_or first k 0) (get_or second k 0) (get_or first (suc k) 0) (get_or second (suc k) 0) (rest k (omega arith) (omega arith)) (next k b))
+            (λ o. on (get_or kinds k 0) (get_or kinds (suc k) 0) (get_or first k 0) (get_or second k 0) (get_or first (suc k) 0) (get_or second (suc k) 0) (rest k
+            (omega arith) (omega arith)) (next k b))
             (eq-or-lt_of_le {n = m} {m = suc k} l)
 
     pub climbs : (m : ℕ) → Parted kinds n m → Climbs second m
@@ -66,7 +67,8 @@ module _ (first second kinds : List ℕ) (n : ℕ) where
         (λ l. omega (arith, climbs m p i k (omega arith) (omega arith), up (get_or kinds k 0) (get_or kinds (suc k) 0) (p.cells k (omega arith)) (p.cells (suc k) b) (next k (omega (arith, p.few)))))
         (eq-or-lt_of_le {n = i} {m = suc k} h)
       where
-        up : (a b : ℕ) → a ≡ 0 → b ≡ 0 → Rises (choke_of a (get_or first k 0) (get_or second k 0)) (choke_of b (get_or first (suc k) 0) (get_or second (suc k) 0)) → get_or second k 0 ≤ get_or second (suc k) 0
+        up : (a b : ℕ) → a ≡ 0 → b ≡ 0 → Rises (choke_of a (get_or first k 0) (get_or second k 0)) (choke_of b (get_or first (suc k) 0) (get_or second (suc k) 0))
+            → get_or second k 0 ≤ get_or second (suc k) 0
         up zero zero d e r = ⊎_elim (λ l. omega arith) (λ l. omega (arith, l.0)) r
         up zero (suc b) d e r = absurd (omega arith)
         up (suc a) b d e r = absurd (omega arith)

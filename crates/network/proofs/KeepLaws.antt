@@ -177,12 +177,17 @@ module _ {j : Job} {g : Grid} {s : List ℕ} (k : KeepsAll j g s) (c : ℕ) (car
   back_open y = go (look dec_point (back_link j s) z end y)
     where
       here : back_link j s₁ z ≡ end
-      here = link_end (is_used j s₁ z) (eqb 0 0) (to (came_from (grid_of j) s₁ z)) (used j s₁ z start_known (λ e. omega (arith, (set_here (grid_of j) s 0 (idx j z) 1 below room (omega arith)).here))) refl
+      here = link_end (is_used j s₁ z) (eqb 0 0) (to (came_from (grid_of j) s₁ z)) (used j s₁ z start_known (λ e. omega (
+        arith,
+        (set_here (grid_of j) s 0
+            (idx j z) 1 below room (omega arith)).here,
+      ))) refl
 
       there : (y ≡ z → ⊥) → back_link j s₁ y ≡ back_link j s y
       there n =
           let apart : Inside j y → idx j y ≡ idx j z → ⊥ = λ i e. n (idx_one j i start_known e) in
-          let e : is_used j s₁ y ≡ is_used j s y = used_same j s s₁ y (λ i. ap (λ x. eqb x 0) ((set_here (grid_of j) s 0 (idx j z) 1 below room (omega arith)).else (idx j y) (idx_below j i) (apart i))) in
+          let e : is_used j s₁ y ≡ is_used j s y = used_same j s s₁ y (λ i. ap (λ x. eqb x 0) ((set_here (grid_of j) s 0 (idx j z) 1 below room (omega arith)).else
+          (idx j y) (idx_below j i) (apart i))) in
           link_same (is_used j s₁ y) (is_used j s y) (eqb y.step 0) (came_from (grid_of j) s₁ y) (came_from (grid_of j) s y) e
           (λ u. let i = used_known j s₁ y u in rw (planes.kept (grid_of j) s 0 (idx j z) 1 below 3 (λ e. omega arith) (idx j y) (idx_below j i)) refl)
 

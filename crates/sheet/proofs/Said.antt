@@ -80,7 +80,11 @@ module _ {cells carts calls : ℕ} {kinds deadlines : List ℕ} (row : List ℕ)
 
     module _ (known_call : b < calls) where
       pub path_ends : length l ≤ next → PathSaid cells carts calls kinds deadlines row l P.Bad
-      path_ends h = (λ j t. sym (says j t (lt-ltb _ _ known) (lt-ltb _ _ known_call) (some []) (behind_none l next h) ∙ ap (on_path a b) (no_cells (call_of j b).kind cells (call_of j b).deadline)), tt)
+      path_ends h = (
+        λ j t. sym (says j t (lt-ltb _ _ known) (lt-ltb _ _ known_call) (some []) (behind_none l next h)
+            ∙ ap (on_path a b) (no_cells (call_of j b).kind cells (call_of j b).deadline)),
+        tt,
+      )
 
       module _ (h : next < length l) (d : ℕ) (due : d ≡ get_or deadlines b 0) (r : ℕ) (short : r ≤ length row)
           (read : cells_read r (take r row) ≡ cells_given cells (d + 1) (numbers_at l (next + 1))) where
@@ -195,7 +199,8 @@ pub head_unlike : (calls : ℕ) (l : List ℕ) → opens plan_word l ≡ false �
 head_unlike calls l e r q = (λ j ls n. ap (λ x. head_goes j x ls) q ∙ goes j ls n, rw q (cannot_known calls (only_of (numbers_after cannot_word l))))
   where
     goes : (j : Job) (ls : Lines) → length j.calls ≡ calls → head_goes j (cannot_head calls (only_of (numbers_after cannot_word l))) ls ≡ head_says j (more l ls)
-    goes j ls n = rw (← n, e) (cannot_goes j ls (only_of (numbers_after cannot_word l)) ∙ sym (count-only (λ n. ltb n (length j.calls)) (λ n. rest_says bad (choke_line j) cannot [] n 2 ls) (numbers_after cannot_word l)))
+    goes j ls n = rw (← n, e) (cannot_goes j ls (only_of (numbers_after cannot_word l)) ∙ sym (count-only (λ n. ltb n (length j.calls)) (λ n. rest_says bad
+        (choke_line j) cannot [] n 2 ls) (numbers_after cannot_word l)))
 
 module _ (l : List ℕ) (e : opens plan_word l ≡ true) {m : Option ℕ} (only : m ≡ only_of (numbers_after plan_word l)) where
   plan_says : (j : Job) (ls : Lines) → head_says j (more l ls) ≡ count_only (λ n. eqb n (length j.calls)) (λ n. lines_due bad (path_line j) (spares_say j) [] n 2 ls) m

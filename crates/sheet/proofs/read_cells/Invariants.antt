@@ -10,7 +10,8 @@ use mathlib.Core.Bool.{true}
 use Rattle.sheet.proofs.read_cells.Given as goal
 
 abbrev pub invariant-loop-i : goal.invariant-loop-i
-invariant-loop-i l = (l.i ≤ l.most) × (l.p ≤ length l.line) × (length l.out ≡ length l.initial.out) × (all_below l.limit (take l.i l.out) ≡ true) × (numbers_at l.line l.at ≡ prefixed (take l.i l.out) (numbers_at l.line l.p))
+invariant-loop-i l = (l.i ≤ l.most) × (l.p ≤ length l.line) × (length l.out ≡ length l.initial.out) × (all_below l.limit (take l.i l.out) ≡ true)
+    × (numbers_at l.line l.at ≡ prefixed (take l.i l.out) (numbers_at l.line l.p))
 
 abbrev pub decreases-loop-i : goal.decreases-loop-i
 decreases-loop-i l = l.most - l.i

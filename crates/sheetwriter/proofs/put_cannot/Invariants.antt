@@ -9,7 +9,8 @@ use Rattle.job.specs.Held.{chokes_to}
 use Rattle.sheetwriter.proofs.put_cannot.Given as goal
 
 abbrev pub invariant-loop-k : goal.invariant-loop-k
-invariant-loop-k l = (l.k ≤ l.n) × (l.p + 15 * (l.n - l.k) ≤ length l.out) × (length l.out ≡ length l.initial.out) × Wrote l.initial.out l.initial.p (lines_text choke_opens choke_numbers (chokes_to l.first l.second l.kinds l.k)) l.out l.p
+invariant-loop-k l = (l.k ≤ l.n) × (l.p + 15 * (l.n - l.k) ≤ length l.out) × (length l.out ≡ length l.initial.out) × Wrote l.initial.out l.initial.p
+    (lines_text choke_opens choke_numbers (chokes_to l.first l.second l.kinds l.k)) l.out l.p
 
 abbrev pub decreases-loop-k : goal.decreases-loop-k
 decreases-loop-k l = l.n - l.k

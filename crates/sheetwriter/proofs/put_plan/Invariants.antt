@@ -10,7 +10,8 @@ use Rattle.sheetwriter.proofs.PlanLines.{lines_to}
 use Rattle.sheetwriter.proofs.put_plan.Given as goal
 
 abbrev pub invariant-loop-k : goal.invariant-loop-k
-invariant-loop-k l = (l.k ≤ l.job.carts) × (l.p + (l.job.carts - l.k) * share (job_of l.job) ≤ length l.out) × (length l.out ≡ length l.initial.out) × Wrote l.initial.out l.initial.p (lines_to l.carts l.calls l.lasts l.rows l.job.calls l.k) l.out l.p
+invariant-loop-k l = (l.k ≤ l.job.carts) × (l.p + (l.job.carts - l.k) * share (job_of l.job) ≤ length l.out)
+    × (length l.out ≡ length l.initial.out) × Wrote l.initial.out l.initial.p (lines_to l.carts l.calls l.lasts l.rows l.job.calls l.k) l.out l.p
 
 abbrev pub decreases-loop-k : goal.decreases-loop-k
 decreases-loop-k l = l.job.carts - l.k

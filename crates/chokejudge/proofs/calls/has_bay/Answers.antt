@@ -47,8 +47,13 @@ next c key calls r =
 pub loop-h-preserved : goal.loop-h-preserved
 loop-h-preserved c =
     let p = c.requires in
-    let l = c.loop-h in
-    (l.invariant.0, l.invariant.1, omega (arith, (next (goal.at.loop-h-preserved c).After-wide-h-in-loop-h p.2.0 p.2.1 (p.2.2, p.2.3)).few, p.2.2), next (goal.at.loop-h-preserved c).After-wide-h-in-loop-h)
+    let l = c.loop-h in (
+      l.invariant.0,
+      l.invariant.1,
+      omega (arith, (next (goal.at.loop-h-preserved c).After-wide-h-in-loop-h p.2.0 p.2.1 (p.2.2, p.2.3)).few, p.2.2),
+      next
+          (goal.at.loop-h-preserved c).After-wide-h-in-loop-h,
+    )
 
 pub returns : goal.returns
 returns c =

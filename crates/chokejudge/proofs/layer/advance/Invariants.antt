@@ -12,7 +12,8 @@ abbrev pub Spreads : List ℕ → List ℕ → List ℕ → ℕ → ℕ → ℕ 
 Spreads near begin l s u v = Older l s u × Side near begin u v
 
 abbrev pub invariant-loop-i : goal.invariant-loop-i
-invariant-loop-i l = (l.head ≤ l.i) × (l.i ≤ l.end) × Grown l.shut l.stamp (Each l.initial.queue l.head l.i (Spreads l.near l.begin l.initial.since l.stamp)) l.initial.since l.initial.queue l.tail l.since l.queue l.at × Roomy l.since l.queue l.at
+invariant-loop-i l = (l.head ≤ l.i) × (l.i ≤ l.end) × Grown l.shut l.stamp (Each l.initial.queue l.head l.i
+    (Spreads l.near l.begin l.initial.since l.stamp)) l.initial.since l.initial.queue l.tail l.since l.queue l.at × Roomy l.since l.queue l.at
 
 abbrev pub decreases-loop-i : goal.decreases-loop-i
 decreases-loop-i l = l.end - l.i

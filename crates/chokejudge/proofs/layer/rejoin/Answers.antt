@@ -40,7 +40,14 @@ loop-k-preserved c =
     let same = older_some g (Side a.near.now a.begin.now (get_or a.cells.now l.k 0)) in
     let below = c.loop-k-test.true in
     elim c.if-borders.branch [
-      | then-borders w ↦ each_turn a.cells.now S l.invariant.0 below g l.invariant.3 (grown_as (λ v. (λ q. (same.0 (b.0 w.if-borders.true), q), λ q. q.1)) w.add-at.ensures) w.since-is w.queue-is w.at-is
+      | then-borders w ↦ each_turn a.cells.now S l.invariant.0 below g l.invariant.3 (grown_as (λ v. (
+        λ q. (
+          same.0
+              (b.0 w.if-borders.true),
+          q,
+        ),
+        λ q. q.1,
+      )) w.add-at.ensures) w.since-is w.queue-is w.at-is
       | else-borders w ↦ each_turn a.cells.now S l.invariant.0 below g l.invariant.3
           (grown_none a.stamp l.since l.queue l.at (λ v q. absurd (b.1 w.if-borders.false (same.1 q.0)))) w.since-is w.queue-is w.at-is
     ]

@@ -13,7 +13,8 @@ abbrev pub Back : List ℕ → List ℕ → List ℕ → ℕ → ℕ → ℕ →
 Back near begin l s u v = ((x : ℕ) × Side near begin u x × Older l s x) × (v ≡ u)
 
 abbrev pub invariant-loop-k : goal.invariant-loop-k
-invariant-loop-k l = (l.opens ≤ l.k) × (l.k ≤ l.end) × Grown l.shut l.stamp (Each l.cells l.opens l.k (Back l.near l.begin l.initial.since l.stamp)) l.initial.since l.initial.queue l.tail l.since l.queue l.at × Roomy l.since l.queue l.at
+invariant-loop-k l = (l.opens ≤ l.k) × (l.k ≤ l.end) × Grown l.shut l.stamp (Each l.cells l.opens l.k
+    (Back l.near l.begin l.initial.since l.stamp)) l.initial.since l.initial.queue l.tail l.since l.queue l.at × Roomy l.since l.queue l.at
 
 abbrev pub decreases-loop-k : goal.decreases-loop-k
 decreases-loop-k l = l.end - l.k

@@ -56,8 +56,11 @@ word_line-requires-2 c = ((third (goal.at.word_line-requires-2 c).In-Value-size_
 pub returns-then-not-word_line-2 : goal.returns-then-not-word_line-2
 returns-then-not-word_line-2 c =
     let s = c.args.map.now in
-    let u = no_word (bytes "map") s c.in-Value-size_line.fourth c.word_line-2.result (ap not c.if-not-word_line-2.true) c.word_line-2.ensures in
-    (fourth_bad s (first (goal.at.returns-then-not-word_line-2 c).Else-not-word_line) (second (goal.at.returns-then-not-word_line-2 c).In-Value).0 (third (goal.at.returns-then-not-word_line-2 c).In-Value-size_line).0 u, omega arith)
+    let u = no_word (bytes "map") s c.in-Value-size_line.fourth c.word_line-2.result (ap not c.if-not-word_line-2.true) c.word_line-2.ensures in (
+      fourth_bad s (first (goal.at.returns-then-not-word_line-2 c).Else-not-word_line) (second (goal.at.returns-then-not-word_line-2 c).In-Value).0 (third
+          (goal.at.returns-then-not-word_line-2 c).In-Value-size_line).0 u,
+      omega arith,
+    )
 
 fourth : (c : Else-not-word_line-2) → SaidAt (word_line (bytes "map")) c.args.map.now c.in-Value-size_line.fourth (bytes "map") (c.in-Value-size_line.fourth + 3 + 1)
 fourth c =

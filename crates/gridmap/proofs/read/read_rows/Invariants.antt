@@ -8,7 +8,8 @@ use Rattle.gridmap.proofs.RowLines.{RowsLeft}
 use Rattle.gridmap.proofs.read.read_rows.Given as goal
 
 abbrev pub invariant-loop-r : goal.invariant-loop-r
-invariant-loop-r l = (l.r ≤ l.height) × (l.p ≤ length l.map) × (l.start ≤ l.p) × (l.p ≤ l.start + (max_side + 1) * l.r) × (l.cells ≤ max_side * l.r) × (length l.places ≡ max_cells) × RowsLeft l.map l.start l.height l.width l.p l.r l.cells l.places
+invariant-loop-r l = (l.r ≤ l.height) × (l.p ≤ length l.map) × (l.start ≤ l.p) × (l.p ≤ l.start + (max_side + 1) * l.r) × (l.cells ≤ max_side * l.r)
+    × (length l.places ≡ max_cells) × RowsLeft l.map l.start l.height l.width l.p l.r l.cells l.places
 
 abbrev pub decreases-loop-r : goal.decreases-loop-r
 decreases-loop-r l = l.height - l.r

@@ -36,11 +36,18 @@ pub overflow_add-at : goal.overflow_add-at
 overflow_add-at c =
     let s = c.args.fields.now in
     let at = c.loop.at in
-    omega (arith, next_inside scaled_of s at c.in-Value.value c.in-Value.next (value (goal.at.overflow_add-at c).In-Value) (omega (arith, number_inside s at c.in-Value.value c.in-Value.next (value (goal.at.overflow_add-at c).In-Value))))
+    omega (
+      arith,
+      next_inside scaled_of s at c.in-Value.value c.in-Value.next (value (goal.at.overflow_add-at c).In-Value) (omega
+          (arith, number_inside s at c.in-Value.value c.in-Value.next (value (goal.at.overflow_add-at c).In-Value))),
+    )
 
 pub loop-preserved : goal.loop-preserved
-loop-preserved c =
-    (omega arith, got_more c.args.fields.now _ _ _ _ c.loop.invariant.1 (omega (arith, few (goal.at.loop-preserved c).At-loop)) c.in-Value.value c.in-Value.next (value (goal.at.loop-preserved c).In-Value))
+loop-preserved c = (
+  omega arith,
+  got_more c.args.fields.now _ _ _ _ c.loop.invariant.1 (omega (arith, few (goal.at.loop-preserved c).At-loop)) c.in-Value.value c.in-Value.next (value
+      (goal.at.loop-preserved c).In-Value),
+)
 
 pub returns-then-at-fields : goal.returns-then-at-fields
 returns-then-at-fields c = let a = c.args in got_over a.fields.now _ _ _ _ a.count c.loop.invariant.1 (omega arith) c.if-at-fields.true

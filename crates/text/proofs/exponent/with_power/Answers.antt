@@ -58,7 +58,8 @@ digit c = sym c.number.ensures ∙ c.in-Value.is
 pub returns-then-next-from : goal.returns-then-next-from
 returns-then-next-from c =
     let a = c.args in
-    power_long a.s.now a.at a.value (on (goal.at.returns-then-next-from c).Else-field_ends) (marked (goal.at.returns-then-next-from c).Else-not-mark) c.past_plus-from.result c.past_plus-from.ensures c.in-Value.power c.in-Value.next
+    power_long a.s.now a.at a.value (on (goal.at.returns-then-next-from c).Else-field_ends) (marked
+    (goal.at.returns-then-next-from c).Else-not-mark) c.past_plus-from.result c.past_plus-from.ensures c.in-Value.power c.in-Value.next
     (digit (goal.at.returns-then-next-from c).In-Value)
     c.if-next-from.true
 
@@ -66,7 +67,8 @@ pub raised-requires : goal.raised-requires
 raised-requires c =
     let a = c.args in (
       c.requires,
-      power_small a.s.now a.at a.value (on (goal.at.raised-requires c).Else-field_ends) (marked (goal.at.raised-requires c).Else-not-mark) c.past_plus-from.result c.past_plus-from.ensures c.in-Value.power c.in-Value.next
+      power_small a.s.now a.at a.value (on (goal.at.raised-requires c).Else-field_ends) (marked
+          (goal.at.raised-requires c).Else-not-mark) c.past_plus-from.result c.past_plus-from.ensures c.in-Value.power c.in-Value.next
           (digit (goal.at.raised-requires c).In-Value)
           c.if-next-from.false,
     )
@@ -75,6 +77,7 @@ pub returns : goal.returns
 returns c =
     let a = c.args in
     ap (λ x. Value x c.in-Value.next) c.raised.ensures
-    ∙ power_one a.s.now a.at a.value (on (goal.at.returns c).Else-field_ends) (marked (goal.at.returns c).Else-not-mark) c.past_plus-from.result c.past_plus-from.ensures c.in-Value.power c.in-Value.next
+    ∙ power_one a.s.now a.at a.value (on (goal.at.returns c).Else-field_ends) (marked (goal.at.returns c).Else-not-mark) c.past_plus-from.result
+    c.past_plus-from.ensures c.in-Value.power c.in-Value.next
     (digit (goal.at.returns c).In-Value)
     c.if-next-from.false

@@ -55,7 +55,8 @@ loop-i-preserved c =
     let l = c.loop-i in (
       omega (arith, low (goal.at.loop-i-preserved c).After-wide, small (goal.at.loop-i-preserved c).After-wide),
       λ z. omega arith,
-      rw c.wide.ensures.0 (sym (scan_step c.args.s.now l.i l.n l.v c.loop-i-test.true (digit_here (goal.at.loop-i-preserved c).After-wide) (may (goal.at.loop-i-preserved c).After-wide)) ∙ l.invariant.2),
+      rw c.wide.ensures.0 (sym (scan_step c.args.s.now l.i l.n l.v c.loop-i-test.true (digit_here (goal.at.loop-i-preserved c).After-wide) (may
+          (goal.at.loop-i-preserved c).After-wide)) ∙ l.invariant.2),
     )
 
 pub returns : goal.returns
