@@ -1,0 +1,19 @@
+-- `go_on` meets its contract: the walk is written from its start on. The invariant: the row has the cells up to the step t, where the cart is on the cell `at`. The measure is the number of steps
+-- left. Assumes nothing.
+use Prim.Native.Nat.{◌+◌, ◌-◌, ◌<◌}
+use mathlib.Core.Path.{◌≡◌, refl, ◌∙◌}
+use native.Mathlib.Omega.{arith}
+use lib.ListN.{length, set, length-set}
+use Rattle.model.specs.Job.{Job}
+use Rattle.model.specs.Choke.{point}
+use Rattle.network.specs.Keeping.{KeepsAll}
+use Rattle.answer.specs.Trail.{MeetsNone}
+use Rattle.answer.proofs.SpareKeep.{top_few}
+use Rattle.answer.proofs.StayRows.{WalkedTo, going_first, going_more, going_last, unmet_cell}
+use Rattle.answer.proofs.staying.go_on.Given as goal
+
+abbrev pub invariant-loop-t : goal.invariant-loop-t
+invariant-loop-t l = (length l.row ≡ length l.initial.row) × (l.t < l.grid.top) × ((j : Job) → KeepsAll j l.grid l.store → MeetsNone j l.store (point l.cell 0) → WalkedTo j l.store l.cell l.row l.at l.t)
+
+abbrev pub decreases-loop-t : goal.decreases-loop-t
+decreases-loop-t l = l.grid.top - l.t
