@@ -1,5 +1,5 @@
-// A text and a place in it, from which its lines are read one after the other. The borrow checker covers no function over such a struct,
-// so each is proved by hand and leaves the work to a covered function of `scan`; whoever reads lines calls `next`, on a plain slice and a number.
+// A text and a place in it, from which its lines are read one after the other. The functions over it are thin and leave the work to `scan`;
+// whoever reads lines calls `next`, on a plain slice and a number.
 ghost use Rattle.std.specs.Prelude.{◌≡◌, ◌+◌, ◌≤◌, length, drop};
 ghost use Rattle.text.specs.Scan.{line_of};
 
