@@ -1,7 +1,7 @@
 -- Once all hops of the stack are laid, the links that the store holds are those of the flow with the way added: at the nodes that the way leaves or goes by
 -- they are read off the bytes written there, and at every other node off bytes that say the same as before. Assumes nothing.
 use Prim.Native.Nat.{ℕ, zero, suc, ◌+◌, ◌-◌, ◌<◌, ◌≤◌}
-use mathlib.Core.Path.{◌≡◌, sym, ◌∙◌, ap}
+use mathlib.Core.Path.{◌≡◌, sym, ◌∙◌, ap, subst}
 use mathlib.Core.List.{List, ◌∷◌}
 use mathlib.Core.Bool.{Bool, true, false, cond}
 use mathlib.Core.Logic.{◌⊎◌, inl, inr, ⊎_elim, ◌↔◌}
@@ -135,8 +135,8 @@ module _ (j : Job) where
       where
         both : (m : ℕ) → m < e → v ≡ via_in j s m → Form j s m → (pos_in j s (suc m) ≡ via_in j s m) ⊎ (on_link j s (via_in j s m) ≡ to (pos_in j s (suc m)))
             → eqb (byte s' v) 0 ≡ eqb (byte s v) 0
-        both m l q (frees f g) r = absurd (h (rw (q ∙ g) (place_in st m (omega arith))))
-        both m l q (leads f g) (inl r) = absurd (h (rw (q ∙ sym r) (place_in st (suc m) l)))
+        both m l q (frees f g) r = absurd (h (subst (λ (z : Point). In z (x ∷ ats (hops_in j s e))) (sym (q ∙ g)) (place_in st m (omega arith))))
+        both m l q (leads f g) (inl r) = absurd (h (subst (λ (z : Point). In z (x ∷ ats (hops_in j s e))) (sym (q ∙ sym r)) (place_in st (suc m) l)))
         both m l q (leads f g) (inr r) =
             let t : byte s' v ≡ 0 → ⊥ = rw q (leads_used m l f) in
             let u : byte s v ≡ 0 → ⊥ = rw q (used_byte j s (via_in j s m) (link_used (is_used j s (via_in j s m)) _ (pos_in j s (suc m)) r)) in
@@ -152,7 +152,7 @@ module _ (j : Job) where
         kept : (In v (x ∷ ats (hops_in j s e)) → ⊥) → back_link j s' v ≡ back_link j s v
         kept h =
             link_same (is_used j s' v) (is_used j s v) (eqb v.step 0) _ _ (other_used v h)
-            (λ u. ap (λ c. cond (eqb v.step (top j)) (point v.cell c) (point c (v.step - 1))) (fin.prev_kept v (used_known j s' v u) (λ m l q. h (rw q (place_in st m (omega arith))))))
+            (λ u. ap (λ c. cond (eqb v.step (top j)) (point v.cell c) (point c (v.step - 1))) (fin.prev_kept v (used_known j s' v u) (λ m l q. h (subst (λ (z : Point). In z (x ∷ ats (hops_in j s e))) (sym q) (place_in st m (omega arith))))))
 
         last : v ≡ last_at x (hops_in j s e) → back_link j s' v ≡ next_by dec_point x (hops_in j s e) (back_link j s) v
         last q =
@@ -185,7 +185,7 @@ module _ (j : Job) where
       where
         kept : (In v (x ∷ vias (hops_in j s e)) → ⊥) → on_link j s' v ≡ on_link j s v
         kept h =
-            let no : (m : ℕ) → m < e → v ≡ via_in j s m → ⊥ = λ m l q. h (inr (rw q (via-in st m l))) in
+            let no : (m : ℕ) → m < e → v ≡ via_in j s m → ⊥ = λ m l q. h (inr (subst (λ (z : Point). In z (vias (hops_in j s e))) (sym q) (via-in st m l))) in
             let same : Inside j v → byte s' v ≡ byte s v = λ k. fin.kept v k (λ q. h (inl q)) no in
             link_same (is_used j s' v) (is_used j s v) (eqb v.step (top j)) _ _ (used_same j s s' v (λ k. ap (λ b. eqb b 0) (same k)))
             (λ u. let k = used_known j s' v u in λ i. cond (eqb (same k i) meets) (point v.cell (top j)) (point (fin.next_kept v k no i) (v.step + 1)))

@@ -1,6 +1,6 @@
 -- How what is found one way is what is found another way, where that allows more or the rest is marked. Assumes nothing.
 use Prim.Native.Nat.{ℕ, suc, ◌+◌, ◌-◌, ◌<◌, ◌≤◌}
-use mathlib.Core.Path.{◌≡◌, refl, sym, ◌∙◌, ap}
+use mathlib.Core.Path.{◌≡◌, refl, sym, ◌∙◌, ap, subst}
 use mathlib.Core.List.{List}
 use mathlib.Core.Logic.{◌⊎◌, inl, inr, ⊎_elim}
 use native.Mathlib.Omega.{arith}
@@ -144,7 +144,7 @@ module _ {j : Job} {g : Grid} {s : List ℕ} {n : Node} (h : Stands j g s (as_po
     -- It is used, and the code reads y as what it leads on to.
     module _ (ne : u ≡ 0 → ⊥) {y : Node} (ey : as_point y ≡ leads_to g s (as_point n)) where
       pub after_place : place_at g (as_point y) < g.nodes
-      after_place = rw ey (place_below h.0 (leads_on h.0 stands_in low (untold (used_at g s) ev eu ne)).1)
+      after_place = subst (λ (z : Point). place_at g z < g.nodes) (sym ey) (place_below h.0 (leads_on h.0 stands_in low (untold (used_at g s) ev eu ne)).1)
 
       module _ {stamp w m : ℕ} (ew : w ≡ place_at g (as_point y)) (em : m ≡ mark_at g s w) where
         pub down_none : m ≡ stamp → Finds (Down g s (as_point n)) (Stamped g s stamp) Found.Nothing

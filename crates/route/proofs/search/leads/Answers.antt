@@ -1,0 +1,13 @@
+-- `leads` answers from a call by its steps, and from a node by its row and its successor. No loop. Assumes nothing.
+use Rattle.route.proofs.SearchFinds.{no_call}
+use borrow.Author.Rules.{rules}
+use Rattle.route.proofs.search.leads.Goals as goal
+
+pub returns-then-node-grid : goal.returns-then-node-grid
+returns-then-node-grid c = record { call = λ e. c.from_call.ensures; node = λ ne. absurd (ne c.if-node-grid.true) }
+
+pub from_node-requires : goal.from_node-requires
+from_node-requires c = let (j, h, k, n, o, l) = c.requires.0 in (j, no_call h k c.if-node-grid.false, n, o)
+
+pub returns : goal.returns
+returns c = record { call = λ e. absurd (c.if-node-grid.false e); node = λ ne. c.from_node.ensures }

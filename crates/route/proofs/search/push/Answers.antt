@@ -1,0 +1,11 @@
+-- `push` marks a node and sets an entry of the stack. Assumes nothing.
+use Rattle.network.specs.Store.{as_point}
+use Rattle.route.proofs.SearchFinds.{pushed_by}
+use borrow.Author.Rules.{rules}
+use Rattle.route.proofs.search.push.Goals as goal
+
+pub returns : goal.returns
+returns c =
+    let a = c.args in
+    pushed_by a.grid a.store.now a.depth a.stamp (as_point a.node) (as_point a.via) c.place.ensures c.set_mark.ensures
+    c.set_position.ensures

@@ -1,0 +1,25 @@
+-- `search` is a depth-first search over the residual arcs of the flow. Invariant: it is under way (`Going`, SearchTurn) for every job that it may be for.
+-- The measure is twice the unmarked nodes and the depth: a push takes one node and adds one to the depth, a pop takes one of the depth. Assumes nothing.
+use Prim.Native.Nat.{◌+◌, ◌-◌, ◌*◌}
+use mathlib.Core.Path.{◌≡◌, refl}
+use mathlib.Core.Logic.{⊎_elim}
+use native.Mathlib.Omega.{arith}
+use borrow.Author.Rules.{rules}
+use lib.ListN.{length}
+use Rattle.model.specs.Job.{Job}
+use Rattle.network.specs.Graph.{graph}
+use Rattle.network.specs.Store.{as_point, mark_at}
+use Rattle.network.proofs.NodeBytes.{few_nodes}
+use Rattle.route.specs.Search.{Searching}
+use Rattle.route.proofs.Stack.{pos_in}
+use Rattle.route.proofs.SearchCount.{unmarked}
+use Rattle.route.proofs.SearchTurn.{Going, Turn, Looked, first_needs, under_way, begun, ends_none, ends_some}
+use Rattle.route.proofs.SearchTurn.{holds, top_inside, top_due, entry_within, is_goal, no_goal, turn_pop, turn_anew, turn_out, push_needs, turn_falls, turn_push}
+use Rattle.route.proofs.search.search.Given as goal
+
+abbrev pub invariant-loop-depth : goal.invariant-loop-depth
+invariant-loop-depth l = (length l.store ≡ length l.initial.store)
+    × ((j : Job) → Searching j l.near l.begin l.due l.shut l.cart_on l.hint l.initial.store l.grid (as_point l.initial.top) → Going j l.due l.initial.store l.store l.stamp l.soon (as_point l.initial.top) l.depth (as_point l.top) l.below l.ahead)
+
+abbrev pub decreases-loop-depth : goal.decreases-loop-depth
+decreases-loop-depth l = 2 * unmarked (mark_at l.grid l.store) l.stamp l.grid.nodes + l.depth
