@@ -16,7 +16,7 @@ use Rattle.model.proofs.Lists.{in_get_or, in_place}
 use Rattle.model.proofs.Written.{few_steps}
 use Rattle.flow.specs.Flow.{to}
 use Rattle.network.specs.declared.planes.Grid.{Grid}
-use Rattle.network.specs.Graph.{top, Inside}
+use Rattle.network.specs.Graph.{Inside}
 use Rattle.network.specs.Store.{grid_of, place_in, used_at, with_used, came_from, is_used, Within}
 use Rattle.network.specs.Links.{back_link}
 use Rattle.network.specs.Keeping.{KeepsAll, LooseAt, SameStarts}

@@ -1,6 +1,6 @@
 -- One cart of the chain stands. If nobody was to come to its cell, the loose end is there, a step later. Else it is where that one is: it comes from another cell, and so fewer carts than before move
 -- in this step, which is why the chain ends. Assumes nothing.
-use Prim.Native.Nat.{ℕ, suc, ◌+◌, ◌-◌, ◌≤◌, ◌<◌}
+use Prim.Native.Nat.{ℕ, suc, ◌+◌, ◌≤◌, ◌<◌}
 use mathlib.Core.Path.{◌≡◌, refl, ◌∙◌, ap}
 use mathlib.Core.List.{List}
 use mathlib.Core.Bool.{Bool, true, false, cond}

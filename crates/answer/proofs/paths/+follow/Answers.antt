@@ -2,7 +2,7 @@
 -- Assumes nothing.
 use native.Mathlib.Omega.{arith}
 use lib.ListN.{length-set}
-use Rattle.answer.proofs.PathTrail.{cart_before, trail_start, trail_more}
+use Rattle.answer.proofs.PathTrail.{cart_before, trail_more}
 use Rattle.answer.proofs.paths.+follow.Goals as goal
 
 pub follow-requires : goal.follow-requires

@@ -1,7 +1,6 @@
 -- `keep` meets its contract: the cart's node at step 0 begins its line, and `stand` leads that on, step by step. The invariant: its loose end is on the cell `at` at the step t. The measure is the
 -- number of steps left. Assumes nothing.
-use Prim.Native.Nat.{◌-◌, ◌<◌}
-use mathlib.Core.Path.{◌≡◌, refl, ◌∙◌, ap}
+use mathlib.Core.Path.{refl, ◌∙◌, ap}
 use native.Mathlib.Omega.{arith}
 use native.Mathlib.Numerals.{add-one}
 use lib.ListN.{length, length-set}
@@ -9,8 +8,8 @@ use Rattle.model.specs.Lists.{In}
 use Rattle.model.specs.Job.{Job}
 use Rattle.model.specs.Choke.{point}
 use Rattle.network.specs.Store.{with_used}
-use Rattle.network.specs.Keeping.{KeepsAll, LooseAt}
-use Rattle.answer.proofs.SpareTurn.{ChainTo, chain_none, chain_more}
+use Rattle.network.specs.Keeping.{KeepsAll}
+use Rattle.answer.proofs.SpareTurn.{chain_none, chain_more}
 use Rattle.answer.proofs.SpareKeep.{KeptTo, start_within, kept_first, kept_more, kept_last, top_few}
 use Rattle.answer.proofs.spares.keep.Goals as goal
 use Rattle.answer.proofs.spares.keep.Goals.{At-loop-t}

@@ -1,17 +1,12 @@
 -- `keep` meets its contract: the cart's node at step 0 begins its line, and `stand` leads that on, step by step. The invariant: its loose end is on the cell `at` at the step t. The measure is the
 -- number of steps left. Assumes nothing.
 use Prim.Native.Nat.{◌-◌, ◌<◌}
-use mathlib.Core.Path.{◌≡◌, refl, ◌∙◌, ap}
-use native.Mathlib.Omega.{arith}
-use native.Mathlib.Numerals.{add-one}
-use lib.ListN.{length, length-set}
-use Rattle.model.specs.Lists.{In}
+use mathlib.Core.Path.{◌≡◌}
+use lib.ListN.{length}
 use Rattle.model.specs.Job.{Job}
 use Rattle.model.specs.Choke.{point}
-use Rattle.network.specs.Store.{with_used}
-use Rattle.network.specs.Keeping.{KeepsAll, LooseAt}
-use Rattle.answer.proofs.SpareTurn.{ChainTo, chain_none, chain_more}
-use Rattle.answer.proofs.SpareKeep.{KeptTo, start_within, kept_first, kept_more, kept_last, top_few}
+use Rattle.network.specs.Keeping.{LooseAt}
+use Rattle.answer.proofs.SpareTurn.{ChainTo}
 use Rattle.answer.proofs.spares.keep.Given as goal
 
 abbrev pub invariant-loop-t : goal.invariant-loop-t

@@ -1,13 +1,8 @@
 -- `keep_spares` meets its contract: cart after cart, each has a line or is given one. The invariant: the first k carts have lines. The measure is the number of carts left. Assumes nothing.
-use Prim.Native.Nat.{◌-◌, ◌≤◌}
-use mathlib.Core.Path.{◌≡◌, refl, sym, ◌∙◌, ap}
-use mathlib.Core.Logic.{⊎_elim}
+use mathlib.Core.Path.{refl, sym, ◌∙◌, ap}
 use native.Mathlib.Omega.{arith}
 use lib.ListN.{length}
-use borrow.Author.Rules.{rules}
-use Rattle.model.specs.Job.{Job}
 use Rattle.network.specs.Store.{used_at}
-use Rattle.answer.specs.Spares.{Unkept}
 use Rattle.answer.proofs.SpareKeep.{KeptUpTo, start_within, few_carts, kept_none, cart_in, kept_had, kept_given, kept_all}
 use Rattle.answer.proofs.spares.keep_spares.Goals as goal
 use Rattle.answer.proofs.spares.keep_spares.Goals.{At-loop-k, else-used-eq0, then-used-eq0}
@@ -50,15 +45,15 @@ loop-k-preserved c =
     let e = c.wide-cell.ensures.0 in (
       omega (arith, l),
       elim c.if-used-eq0.branch [
-      then-used-eq0 w ↦ ap length w.store-is ∙ w.keep.ensures.0 ∙ i.1
-      | else-used-eq0 w ↦ ap length w.store-is ∙ i.1
-    ],
+        | then-used-eq0 w ↦ ap length w.store-is ∙ w.keep.ensures.0 ∙ i.1
+        | else-used-eq0 w ↦ ap length w.store-is ∙ i.1
+      ],
       λ j u. let h = i.2 j u in
           elim c.if-used-eq0.branch [
-      then-used-eq0 w ↦ rw w.store-is (kept_given u h l e (w.keep.ensures.1 j h.keeps (cart_in u l e)))
-      | else-used-eq0 w ↦ rw w.store-is
-          (kept_had u h l e (λ f. w.if-used-eq0.false (c.used.ensures.0 ∙ ap (used_at c.args.grid c.loop-k.store) c.place.ensures ∙ f)))
-    ],
+            | then-used-eq0 w ↦ rw w.store-is (kept_given u h l e (w.keep.ensures.1 j h.keeps (cart_in u l e)))
+            | else-used-eq0 w ↦ rw w.store-is
+                (kept_had u h l e (λ f. w.if-used-eq0.false (c.used.ensures.0 ∙ ap (used_at c.args.grid c.loop-k.store) c.place.ensures ∙ f)))
+          ],
     )
 
 pub shape_of-store : goal.shape_of-store

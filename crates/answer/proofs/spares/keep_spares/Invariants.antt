@@ -1,14 +1,10 @@
 -- `keep_spares` meets its contract: cart after cart, each has a line or is given one. The invariant: the first k carts have lines. The measure is the number of carts left. Assumes nothing.
 use Prim.Native.Nat.{◌-◌, ◌≤◌}
-use mathlib.Core.Path.{◌≡◌, refl, sym, ◌∙◌, ap}
-use mathlib.Core.Logic.{⊎_elim}
-use native.Mathlib.Omega.{arith}
+use mathlib.Core.Path.{◌≡◌}
 use lib.ListN.{length}
-use borrow.Author.Rules.{rules}
 use Rattle.model.specs.Job.{Job}
-use Rattle.network.specs.Store.{used_at}
 use Rattle.answer.specs.Spares.{Unkept}
-use Rattle.answer.proofs.SpareKeep.{KeptUpTo, start_within, few_carts, kept_none, cart_in, kept_had, kept_given, kept_all}
+use Rattle.answer.proofs.SpareKeep.{KeptUpTo}
 use Rattle.answer.proofs.spares.keep_spares.Given as goal
 
 abbrev pub invariant-loop-k : goal.invariant-loop-k

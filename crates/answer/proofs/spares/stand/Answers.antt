@@ -6,11 +6,9 @@ use native.Mathlib.Omega.{arith}
 use native.Mathlib.Numerals.{add-one}
 use lib.ListN.{length, length-set}
 use borrow.Author.Rules.{rules}
-use Rattle.model.specs.Job.{Job}
 use Rattle.model.specs.Choke.{point}
 use Rattle.network.specs.Store.{place_in, used_at, prev_at}
-use Rattle.network.specs.Keeping.{LooseAt}
-use Rattle.answer.proofs.SpareTurn.{movers, ChainTo, chain_none, chain_more, cell_few, step_few, here_within, next_within, turn_loose, turn_starts, turn_fewer, ended, chain_end}
+use Rattle.answer.proofs.SpareTurn.{ChainTo, chain_none, chain_more, cell_few, step_few, here_within, next_within, turn_loose, turn_starts, turn_fewer, ended, chain_end}
 use Rattle.answer.proofs.spares.stand.Goals as goal
 use Rattle.answer.proofs.spares.stand.Goals.{After-link, At-loop-store, Start}
 
@@ -64,8 +62,7 @@ loop-store-smaller c = rw c.link.ensures (turn_fewer (chain (goal.at.loop-store-
 
 pub loop-store-preserved : goal.loop-store-preserved
 loop-store-preserved c =
-    let i = c.loop-store.invariant in
-    (
+    let i = c.loop-store.invariant in (
       c.place-v-in-loop-store.ensures ∙ ap (place_in c.args.grid c.prev-came.result) (add-one c.args.step),
       ap length c.link.ensures ∙ simp length-set i.1,
       λ j h. let w = i.2 j h in rw c.link.ensures (chain_more w (turn_loose w.loose (early (goal.at.loop-store-preserved c).Start) (taken (goal.at.loop-store-preserved c).After-link) (came (goal.at.loop-store-preserved c).After-link)) (turn_starts w.loose (early (goal.at.loop-store-preserved c).Start) (taken (goal.at.loop-store-preserved c).After-link) (came (goal.at.loop-store-preserved c).After-link))),

@@ -1,16 +1,13 @@
 -- `stand` meets its contract: each turn lets one cart of the chain stand. The invariant: the loose end is on the cell `at` at the step, and v is the place of the node behind it. The measure: how
 -- many carts move in this step. Assumes nothing.
-use Prim.Native.Nat.{suc, ◌<◌}
-use mathlib.Core.Path.{◌≡◌, refl, sym, ◌∙◌, ap}
-use native.Mathlib.Omega.{arith}
-use native.Mathlib.Numerals.{add-one}
-use lib.ListN.{length, length-set}
-use borrow.Author.Rules.{rules}
+use Prim.Native.Nat.{suc}
+use mathlib.Core.Path.{◌≡◌}
+use lib.ListN.{length}
 use Rattle.model.specs.Job.{Job}
 use Rattle.model.specs.Choke.{point}
-use Rattle.network.specs.Store.{place_in, used_at, prev_at}
+use Rattle.network.specs.Store.{place_in}
 use Rattle.network.specs.Keeping.{LooseAt}
-use Rattle.answer.proofs.SpareTurn.{movers, ChainTo, chain_none, chain_more, cell_few, step_few, here_within, next_within, turn_loose, turn_starts, turn_fewer, ended, chain_end}
+use Rattle.answer.proofs.SpareTurn.{movers, ChainTo}
 use Rattle.answer.proofs.spares.stand.Given as goal
 
 abbrev pub invariant-loop-store : goal.invariant-loop-store

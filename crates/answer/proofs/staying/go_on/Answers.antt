@@ -1,6 +1,6 @@
 -- `go_on` meets its contract: the walk is written from its start on. The invariant: the row has the cells up to the step t, where the cart is on the cell `at`. The measure is the number of steps
 -- left. Assumes nothing.
-use Prim.Native.Nat.{◌+◌, ◌-◌, ◌<◌}
+use Prim.Native.Nat.{◌+◌, ◌<◌}
 use mathlib.Core.Path.{◌≡◌, refl, ◌∙◌}
 use native.Mathlib.Omega.{arith}
 use lib.ListN.{length, set, length-set}

@@ -1,15 +1,13 @@
 -- `go_on` meets its contract: the walk is written from its start on. The invariant: the row has the cells up to the step t, where the cart is on the cell `at`. The measure is the number of steps
 -- left. Assumes nothing.
-use Prim.Native.Nat.{◌+◌, ◌-◌, ◌<◌}
-use mathlib.Core.Path.{◌≡◌, refl, ◌∙◌}
-use native.Mathlib.Omega.{arith}
-use lib.ListN.{length, set, length-set}
+use Prim.Native.Nat.{◌-◌, ◌<◌}
+use mathlib.Core.Path.{◌≡◌}
+use lib.ListN.{length}
 use Rattle.model.specs.Job.{Job}
 use Rattle.model.specs.Choke.{point}
 use Rattle.network.specs.Keeping.{KeepsAll}
 use Rattle.answer.specs.Trail.{MeetsNone}
-use Rattle.answer.proofs.SpareKeep.{top_few}
-use Rattle.answer.proofs.StayRows.{WalkedTo, going_first, going_more, going_last, unmet_cell}
+use Rattle.answer.proofs.StayRows.{WalkedTo}
 use Rattle.answer.proofs.staying.go_on.Given as goal
 
 abbrev pub invariant-loop-t : goal.invariant-loop-t

@@ -1,11 +1,10 @@
 -- The invariant: the carts below `cart` that have no path are listed, up to line k. The measure is the number of carts left. Assumes nothing.
-use Prim.Native.Nat.{ℕ, ◌-◌, ◌≤◌, ◌<◌}
+use Prim.Native.Nat.{ℕ, ◌<◌}
 use mathlib.Core.Path.{sym, ◌∙◌}
-use mathlib.Core.Logic.{⊎_elim}
 use native.Mathlib.Omega.{arith}
 use lib.ListN.{length-replicate}
 use Rattle.model.specs.Limits.{max_carts}
-use Rattle.answer.proofs.SpareList.{Listing, blank, own_few, listing_none, listing_skip, listing_room, listing_take, listing_all}
+use Rattle.answer.proofs.SpareList.{blank, own_few, listing_none, listing_skip, listing_room, listing_take, listing_all}
 use Rattle.answer.proofs.staying.list_spares.Goals as goal
 use Rattle.answer.proofs.staying.list_spares.Goals.{Then-taken-cart-eq0, else-taken-cart-eq0, then-taken-cart-eq0}
 
@@ -45,9 +44,9 @@ loop-cart-preserved c =
     let m = c.mark_taken.ensures in (
       omega (arith, l),
       elim c.if-taken-cart-eq0.branch [
-      then-taken-cart-eq0 w ↦ rw (w.first-is, w.k-is) (listing_take c.requires.2 m i l w.if-taken-cart-eq0.true c.requires.0)
-      | else-taken-cart-eq0 w ↦ rw (w.first-is, w.k-is) (listing_skip c.requires.2 m i l w.if-taken-cart-eq0.false)
-    ],
+        | then-taken-cart-eq0 w ↦ rw (w.first-is, w.k-is) (listing_take c.requires.2 m i l w.if-taken-cart-eq0.true c.requires.0)
+        | else-taken-cart-eq0 w ↦ rw (w.first-is, w.k-is) (listing_skip c.requires.2 m i l w.if-taken-cart-eq0.false)
+      ],
     )
 
 pub shape_of-first : goal.shape_of-first

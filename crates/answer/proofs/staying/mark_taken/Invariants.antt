@@ -1,9 +1,6 @@
 -- The invariant: the carts of the first k lines are marked. The measure is the number of lines left. Assumes nothing.
 use Prim.Native.Nat.{◌-◌, ◌≤◌}
-use native.Mathlib.Omega.{arith}
-use borrow.Author.Rules.{rules}
 use Rattle.answer.specs.Spares.{CartsTaken}
-use Rattle.answer.proofs.StayRows.{taken_none, taken_more, taken_all}
 use Rattle.answer.proofs.staying.mark_taken.Given as goal
 
 abbrev pub invariant-loop-k : goal.invariant-loop-k

@@ -1,13 +1,9 @@
 -- `write_spares` meets its contract: the carts without a path are listed, and then each is followed on from its cell. The invariant: the rides up to line k are traced, for every job that the
 -- arrays and the store are of; the contract says that there is one, which keeps the indices in range. The measure is the number of lines left. Assumes nothing.
-use Prim.Native.Nat.{ℕ, ◌-◌, ◌≤◌, ◌<◌}
+use Prim.Native.Nat.{◌<◌}
 use mathlib.Core.Path.{refl, sym, ◌∙◌}
-use mathlib.Core.List.{List}
 use native.Mathlib.Omega.{arith}
-use borrow.Author.Rules.{rules}
 use Rattle.model.specs.Limits.{max_carts}
-use Rattle.model.specs.Job.{Job}
-use Rattle.answer.specs.Full.{PathsWritten}
 use Rattle.answer.proofs.PathPlan.{row_long}
 use Rattle.answer.proofs.SpareKeep.{top_few}
 use Rattle.answer.proofs.SparePlan.{RidesTraced, own_carts, calls_few, carts_few, relisted, rides_none, line_unmet, line_more, written_so, right_plan}
