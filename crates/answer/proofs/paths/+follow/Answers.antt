@@ -2,8 +2,11 @@
 -- Assumes nothing.
 use native.Mathlib.Omega.{arith}
 use lib.ListN.{length-set}
-use Rattle.answer.proofs.PathTrail.{cart_before, trail_more}
+use Rattle.answer.proofs.PathTrail.{cart_before, trail_start, trail_more}
 use Rattle.answer.proofs.paths.+follow.Goals as goal
+
+pub returns-then-step-eq0 : goal.returns-then-step-eq0
+returns-then-step-eq0 t c = λ j h k. trail_start h _ k _ c.requires.1 c.if-step-eq0.true
 
 pub follow-requires : goal.follow-requires
 follow-requires t c =
