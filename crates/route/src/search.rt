@@ -17,7 +17,7 @@ use network::planes::{
 };
 
 // Where a position leads: nowhere new, or to another position, by way of a node.
-#[derive(Clone, Copy)]
+#[derive(Drop)]
 pub enum Found {
     Nothing,
     Push { node: Node, via: Node },

@@ -10,7 +10,7 @@ use crate::{augment, search};
 use network::planes::{Grid, Node};
 
 // With the stamp of the last search.
-#[derive(Clone, Copy)]
+#[derive(Drop)]
 pub enum Served {
     Yes(u8),
     No(u8),

@@ -24,11 +24,10 @@ pub place-requires : goal.place-requires
 place-requires c = here (read_off (goal.at.place-requires c).After-via-by)
 
 pub set_prev-requires : goal.set_prev-requires
-set_prev-requires c =
-    (
-      (search rules, omega (arith, here (read_off (goal.at.set_prev-requires c).After-via-by), c.place.ensures)),
-      from_byte (read_off (goal.at.set_prev-requires c).After-via-by) c.from_of.ensures c.via-by.ensures.1 c.via-by.ensures.2,
-    )
+set_prev-requires c = (
+  (search rules, omega (arith, here (read_off (goal.at.set_prev-requires c).After-via-by), c.place.ensures)),
+  from_byte (read_off (goal.at.set_prev-requires c).After-via-by) c.from_of.ensures c.via-by.ensures.1 c.via-by.ensures.2,
+)
 
 pub set_used-requires : goal.set_used-requires
 set_used-requires c =
@@ -38,11 +37,10 @@ pub place-requires-2 : goal.place-requires-2
 place-requires-2 c = there (read_off (goal.at.place-requires-2 c).After-via-by)
 
 pub set_mark-requires : goal.set_mark-requires
-set_mark-requires c =
-    (
-      room_kept (read_off (goal.at.set_mark-requires c).After-via-by) _ _ _ _ _ c.set_next.ensures c.set_prev.ensures c.set_used.ensures,
-      omega (arith, there (read_off (goal.at.set_mark-requires c).After-via-by), c.place-2.ensures),
-    )
+set_mark-requires c = (
+  room_kept (read_off (goal.at.set_mark-requires c).After-via-by) _ _ _ _ _ c.set_next.ensures c.set_prev.ensures c.set_used.ensures,
+  omega (arith, there (read_off (goal.at.set_mark-requires c).After-via-by), c.place-2.ensures),
+)
 
 pub returns : goal.returns
 returns c =

@@ -2,7 +2,6 @@
 use native.Mathlib.Omega.{arith}
 use Rattle.network.specs.Store.{used_at}
 use Rattle.route.proofs.SearchFinds.{told, stands_place, after_place, down_none, down_push}
-use borrow.Author.Rules.{rules}
 use Rattle.route.proofs.search.drop_out.Goals as goal
 
 pub place-v-requires : goal.place-v-requires

@@ -2,14 +2,12 @@
 -- since that closes its cell, and at 0 for a lift. No loop. Assumes nothing.
 use Prim.Native.Nat.{min}
 use mathlib.Core.Path.{◌≡◌, sym, ◌∙◌, ap, subst₂}
-use mathlib.Core.Logic.{inl, inr, ⊎_elim}
+use mathlib.Core.Logic.{inl, inr}
 use native.Mathlib.Omega.{arith}
 use lib.ListN.{get_or}
-use borrow.Author.Tests.{ltb-true}
 use Rattle.network.specs.declared.planes.Grid.{Grid}
 use Rattle.route.specs.Finds.{Stamped, Tries, Aims, first_of}
 use Rattle.route.proofs.SearchFinds.{first_bay, first_lift, aims_found}
-use borrow.Author.Rules.{rules}
 use Rattle.route.proofs.search.from_call.Goals as goal
 use Rattle.route.proofs.search.from_call.Goals.{Joined-below-past, Joined-shut-cell, else-below-past, else-shut-cell, then-below-past, then-shut-cell}
 
@@ -17,15 +15,15 @@ first_is : (c : Joined-shut-cell) → (let a = c.args in c.if-shut-cell.first �
 first_is c =
     let a = c.args in
     elim c.if-shut-cell.branch [
-      then-shut-cell w ↦ w.first-is ∙ sym (first_bay a.due.now a.shut.now a.cell w.if-shut-cell.true)
+      | then-shut-cell w ↦ w.first-is ∙ sym (first_bay a.due.now a.shut.now a.cell w.if-shut-cell.true)
       | else-shut-cell w ↦ w.first-is ∙ sym (first_lift a.due.now a.shut.now a.cell w.if-shut-cell.false)
     ]
 
 past_is : (c : Joined-below-past) → (let a = c.args in c.if-below-past.past ≡ min (get_or a.due.now a.cell 0) a.below)
 past_is c = elim c.if-below-past.branch [
-      then-below-past w ↦ omega (arith, w)
-      | else-below-past w ↦ omega (arith, w)
-    ]
+  | then-below-past w ↦ omega (arith, w)
+  | else-below-past w ↦ omega (arith, w)
+]
 
 -- A cell is open at step 0, so that a call on one that is closed in time is due later.
 pub overflow_sub-first : goal.overflow_sub-first

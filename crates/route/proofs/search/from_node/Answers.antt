@@ -7,7 +7,6 @@ use Rattle.floor.specs.Tables.{row_at}
 use Rattle.network.specs.Store.{as_point}
 use Rattle.route.specs.Finds.{Finds, FromNode, Stamped}
 use Rattle.route.proofs.SearchFinds.{guess_found, row-cells}
-use borrow.Author.Rules.{rules}
 use Rattle.route.proofs.search.from_node.Goals as goal
 use Rattle.route.proofs.search.from_node.Goals.{After-row_at-row}
 

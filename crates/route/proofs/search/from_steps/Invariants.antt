@@ -1,8 +1,6 @@
 -- `from_steps` looks by way of the steps of a cell, from the latest down. Invariant: by way of the steps passed all is marked. The measure is the step. Assumes nothing.
-use Prim.Native.Nat.{◌-◌, ◌≤◌}
-use native.Mathlib.Omega.{arith}
-use Rattle.route.proofs.SearchFinds.{StepsMarked, before_top, steps_more, steps_all, steps_push}
-use borrow.Author.Rules.{rules}
+use Prim.Native.Nat.{◌≤◌}
+use Rattle.route.proofs.SearchFinds.{StepsMarked}
 use Rattle.route.proofs.search.from_steps.Given as goal
 
 abbrev pub invariant-loop-t : goal.invariant-loop-t

@@ -7,7 +7,6 @@ use Rattle.model.specs.Choke.{point}
 use Rattle.network.specs.Store.{as_point}
 use Rattle.route.specs.Finds.{By, FromNode, Stamped}
 use Rattle.route.proofs.SearchFinds.{found_guess, in_at}
-use borrow.Author.Rules.{rules}
 use Rattle.route.proofs.search.guess.Goals as goal
 use Rattle.route.proofs.search.guess.Goals.{After-wide-cell}
 

@@ -1,6 +1,5 @@
 -- `leads` answers from a call by its steps, and from a node by its row and its successor. No loop. Assumes nothing.
 use Rattle.route.proofs.SearchFinds.{no_call}
-use borrow.Author.Rules.{rules}
 use Rattle.route.proofs.search.leads.Goals as goal
 
 pub returns-then-node-grid : goal.returns-then-node-grid

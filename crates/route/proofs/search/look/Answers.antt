@@ -4,7 +4,6 @@ use mathlib.Core.Logic.{inl}
 use native.Mathlib.Omega.{arith}
 use Rattle.network.specs.Store.{used_at, mark_at}
 use Rattle.route.proofs.SearchFinds.{told, untold, stands_place, by_none, by_down}
-use borrow.Author.Rules.{rules}
 use Rattle.route.proofs.search.look.Goals as goal
 
 pub place-v-requires : goal.place-v-requires

@@ -1,7 +1,6 @@
 -- `push` marks a node and sets an entry of the stack. Assumes nothing.
 use Rattle.network.specs.Store.{as_point}
 use Rattle.route.proofs.SearchFinds.{pushed_by}
-use borrow.Author.Rules.{rules}
 use Rattle.route.proofs.search.push.Goals as goal
 
 pub returns : goal.returns

@@ -1,13 +1,9 @@
 -- `scan` looks by way of the cells of a row, one by one, past those that are closed at the next step. Invariant: by way of the cells passed all is marked.
 -- The measure is what is left of the row. Assumes nothing.
-use Prim.Native.Nat.{◌-◌, ◌≤◌}
-use mathlib.Core.Logic.{⊎_elim}
 use native.Mathlib.Omega.{arith}
-use lib.ListN.{length}
 use Rattle.model.specs.Lists.{In}
 use Rattle.model.proofs.Written.{few_steps}
-use Rattle.route.proofs.SearchFinds.{RowMarked, found_more, in_at, row_more, row_all}
-use borrow.Author.Rules.{rules}
+use Rattle.route.proofs.SearchFinds.{found_more, in_at, row_more, row_all}
 use Rattle.route.proofs.search.scan.Goals as goal
 use Rattle.route.proofs.search.scan.Goals.{After-wide-cell, else-step-shut, then-step-shut+in_default}
 
@@ -45,9 +41,9 @@ loop-i-preserved c =
       omega arith,
       row_more a.grid a.store.now a.shut.now a.row.now a.step a.stamp l.i l.invariant.1 c.wide-cell.result c.wide-cell.ensures.0
           (λ o. elim c.if-step-shut.branch [
-      then-step-shut+in_default w ↦ rw w.in_default.is at w.look-found.ensures
-      | else-step-shut w ↦ absurd (omega (arith, w.if-step-shut.false, o))
-    ]),
+            | then-step-shut+in_default w ↦ rw w.in_default.is at w.look-found.ensures
+            | else-step-shut w ↦ absurd (omega (arith, w.if-step-shut.false, o))
+          ]),
     )
 
 pub returns : goal.returns

@@ -1,21 +1,16 @@
 -- `search` is a depth-first search over the residual arcs of the flow. Invariant: it is under way (`Going`, SearchTurn) for every job that it may be for.
 -- The measure is twice the unmarked nodes and the depth: a push takes one node and adds one to the depth, a pop takes one of the depth. Assumes nothing.
-use Prim.Native.Nat.{◌+◌, ◌-◌, ◌*◌}
-use mathlib.Core.Path.{◌≡◌, refl, ap}
+use Prim.Native.Nat.{◌-◌}
+use mathlib.Core.Path.{refl, ap}
 use mathlib.Core.Bool.{not}
 use borrow.Author.Tests.{eq-eqb, ne_eqb}
-use mathlib.Core.Logic.{⊎_elim}
 use native.Mathlib.Omega.{arith}
 use borrow.Author.Rules.{rules}
-use lib.ListN.{length}
 use Rattle.model.specs.Job.{Job}
-use Rattle.network.specs.Graph.{graph}
-use Rattle.network.specs.Store.{as_point, mark_at}
+use Rattle.network.specs.Store.{as_point}
 use Rattle.network.proofs.NodeBytes.{few_nodes}
 use Rattle.route.specs.Search.{Searching}
-use Rattle.route.proofs.Stack.{pos_in}
-use Rattle.route.proofs.SearchCount.{unmarked}
-use Rattle.route.proofs.SearchTurn.{Going, Turn, Looked, first_needs, under_way, begun, ends_none, ends_some}
+use Rattle.route.proofs.SearchTurn.{Turn, Looked, first_needs, under_way, begun, ends_none, ends_some}
 use Rattle.route.proofs.SearchTurn.{holds, top_inside, top_due, entry_within, is_goal, no_goal, turn_pop, turn_anew, turn_out, push_needs, turn_falls, turn_push}
 use Rattle.route.proofs.search.search.Goals as goal
 use Rattle.route.proofs.search.search.Goals.{After-leads-found, After-push, In-loop-depth, else-below-soon, else-top-eq0-via-else-top-eq0, else-top-eq0-via-then-top-eq0+else-cart_on-c-ne0, then-below-soon}
@@ -43,13 +38,13 @@ looked c j h =
     let a = c.args in
     let l = c.loop-depth in
     let w : Turn j a.near.now a.begin.now a.due.now a.shut.now a.cart_on.now a.hint.now a.grid c.push.new.store l.store
-        (as_point a.node) a.stamp a.soon l.depth (as_point l.top) l.below l.ahead =
-        record { for = h; going = l.invariant.1 j h; some = omega (arith, c.loop-depth-test.true) } in
+    (as_point a.node) a.stamp a.soon l.depth (as_point l.top) l.below l.ahead =
+    record { for = h; going = l.invariant.1 j h; some = omega (arith, c.loop-depth-test.true) } in
     record {
       turn = w;
       sees = c.leads-found.ensures;
       dull = no_goal w (λ z. elim c.else-top-eq0.branch [
-        else-top-eq0-via-then-top-eq0+else-cart_on-c-ne0 v ↦ ap not (eq-eqb _ 0 v.if-cart_on-c-ne0.false)
+        | else-top-eq0-via-then-top-eq0+else-cart_on-c-ne0 v ↦ ap not (eq-eqb _ 0 v.if-cart_on-c-ne0.false)
         | else-top-eq0-via-else-top-eq0 v ↦ absurd (v.if-top-eq0.false z)
       ]);
     }
@@ -105,9 +100,9 @@ loop-depth-preserved-after-below-soon c = (
       let ec = c.position-top.ensures.0 in
       let es = c.position-top.ensures.1 in
       elim c.if-below-soon.branch [
-        then-below-soon w ↦ rw w.below-is (turn_anew k c.in_default.is ec es)
+        | then-below-soon w ↦ rw w.below-is (turn_anew k c.in_default.is ec es)
         | else-below-soon w ↦ rw w.below-is (turn_pop k c.in_default.is ec es (omega (arith, c.if-depth-gt0.true)) c.via-left.ensures.0 w.if-below-soon.false)
-    ],
+      ],
 )
 
 pub loop-depth-smaller-else-depth-gt0 : goal.loop-depth-smaller-else-depth-gt0
@@ -130,7 +125,7 @@ loop-depth-smaller c =
 pub loop-depth-preserved : goal.loop-depth-preserved
 loop-depth-preserved c = (
   search rules,
-  λ j h.       turn_push (looked (goal.at.loop-depth-preserved c).After-leads-found j h) c.in-Push.node c.in-Push.by c.in-Push.is c.push-in-loop-depth.new.store c.push-in-loop-depth.ensures,
+  λ j h. turn_push (looked (goal.at.loop-depth-preserved c).After-leads-found j h) c.in-Push.node c.in-Push.by c.in-Push.is c.push-in-loop-depth.new.store c.push-in-loop-depth.ensures,
 )
 
 pub returns : goal.returns

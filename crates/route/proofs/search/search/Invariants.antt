@@ -1,20 +1,13 @@
 -- `search` is a depth-first search over the residual arcs of the flow. Invariant: it is under way (`Going`, SearchTurn) for every job that it may be for.
 -- The measure is twice the unmarked nodes and the depth: a push takes one node and adds one to the depth, a pop takes one of the depth. Assumes nothing.
-use Prim.Native.Nat.{◌+◌, ◌-◌, ◌*◌}
-use mathlib.Core.Path.{◌≡◌, refl}
-use mathlib.Core.Logic.{⊎_elim}
-use native.Mathlib.Omega.{arith}
-use borrow.Author.Rules.{rules}
+use Prim.Native.Nat.{◌+◌, ◌*◌}
+use mathlib.Core.Path.{◌≡◌}
 use lib.ListN.{length}
 use Rattle.model.specs.Job.{Job}
-use Rattle.network.specs.Graph.{graph}
 use Rattle.network.specs.Store.{as_point, mark_at}
-use Rattle.network.proofs.NodeBytes.{few_nodes}
 use Rattle.route.specs.Search.{Searching}
-use Rattle.route.proofs.Stack.{pos_in}
 use Rattle.route.proofs.SearchCount.{unmarked}
-use Rattle.route.proofs.SearchTurn.{Going, Turn, Looked, first_needs, under_way, begun, ends_none, ends_some}
-use Rattle.route.proofs.SearchTurn.{holds, top_inside, top_due, entry_within, is_goal, no_goal, turn_pop, turn_anew, turn_out, push_needs, turn_falls, turn_push}
+use Rattle.route.proofs.SearchTurn.{Going}
 use Rattle.route.proofs.search.search.Given as goal
 
 abbrev pub invariant-loop-depth : goal.invariant-loop-depth

@@ -3,7 +3,6 @@ use native.Mathlib.Omega.{arith}
 use Rattle.model.proofs.Written.{few_steps}
 use Rattle.network.specs.Store.{as_point}
 use Rattle.route.proofs.SearchFinds.{stands_place, leads_call, leads_next}
-use borrow.Author.Rules.{rules}
 use Rattle.route.proofs.search.successor.Goals as goal
 
 pub place-v-requires : goal.place-v-requires
