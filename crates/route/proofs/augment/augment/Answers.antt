@@ -10,20 +10,11 @@ use Rattle.route.proofs.augment.augment.Goals as goal
 pub position-first-requires : goal.position-first-requires
 position-first-requires c = let h = c.requires.1 in (h.holds.room, omega (arith, first_below h))
 
-pub overflow_sub-i : goal.overflow_sub-i
-overflow_sub-i c = omega (arith, c.requires.1.deep)
-
 pub loop-i-init : goal.loop-i-init
 loop-i-init c = let a = c.args in (omega arith, laid_none a.grid a.store.now (a.depth - 1))
 
-pub overflow_sub-i-in-loop-i : goal.overflow_sub-i-in-loop-i
-overflow_sub-i-in-loop-i c = omega arith
-
 pub lay-requires : goal.lay-requires
 lay-requires c = let l = c.loop-i in may_lay c.requires.1 c.loop-i-test.true l.invariant.0 l.invariant.1
-
-pub loop-i-smaller : goal.loop-i-smaller
-loop-i-smaller c = omega (arith, c.loop-i-test.true)
 
 pub loop-i-preserved : goal.loop-i-preserved
 loop-i-preserved c =

@@ -7,9 +7,6 @@ use Rattle.route.proofs.search.from_steps.Goals as goal
 pub loop-t-init : goal.loop-t-init
 loop-t-init c = (omega arith, λ y w (k, l, m, b). absurd (omega arith))
 
-pub overflow_sub-t : goal.overflow_sub-t
-overflow_sub-t c = omega arith
-
 pub look-found-requires : goal.look-found-requires
 look-found-requires c = let (j, h, k, l) = c.requires in (j, before_top h k (omega arith))
 
@@ -19,9 +16,6 @@ returns-in-Push c =
     let l = c.loop-t in
     steps_push a.grid a.store.now a.cell a.stamp l.t a.past l.invariant.1 a.first (l.t - 1) c.look-found.result c.in-Push.is (omega arith) (omega arith)
     l.invariant.0 c.look-found.ensures
-
-pub loop-t-smaller : goal.loop-t-smaller
-loop-t-smaller c = omega arith
 
 pub loop-t-preserved : goal.loop-t-preserved
 loop-t-preserved c =

@@ -10,9 +10,6 @@ use Rattle.route.proofs.search.scan.Goals.{After-wide-cell, else-step-shut, then
 pub loop-i-init : goal.loop-i-init
 loop-i-init c = (omega arith, λ k l. absurd (omega arith))
 
-pub bounds-row-i : goal.bounds-row-i
-bounds-row-i c = omega arith
-
 -- The cell at hand is one of the row.
 in_row : (c : After-wide-cell) → In c.wide-cell.result c.args.row.now
 in_row c = in_at c.args.row.now c.loop-i.i c.wide-cell.ensures.0 c.loop-i-test.true
@@ -27,12 +24,6 @@ pub returns-in-Push : goal.returns-in-Push
 returns-in-Push c =
     found_more _ _ _ (λ y via b. (c.wide-cell.result, in_row (goal.at.returns-in-Push c).After-wide-cell, c.if-step-shut.true, b)) c.look-found.result c.in-Push.is
     c.look-found.ensures
-
-pub overflow_add-i : goal.overflow_add-i
-overflow_add-i c = omega arith
-
-pub loop-i-smaller : goal.loop-i-smaller
-loop-i-smaller c = omega arith
 
 pub loop-i-preserved : goal.loop-i-preserved
 loop-i-preserved c =

@@ -73,24 +73,15 @@ leads-found-requires c =
     let w = turn (goal.at.leads-found-requires c).In-loop-depth j h in
     ((j, holds w, top_inside w, h.tables.sides, h.tables.shuts, top_due w), h.tables.dues.size, h.hints)
 
-pub overflow_sub-depth : goal.overflow_sub-depth
-overflow_sub-depth c = omega (arith, c.loop-depth-test.true)
-
 pub via-left-requires : goal.via-left-requires
 via-left-requires c =
     let (j, h) = one (goal.at.via-left-requires c).After-push in
     entry_within (turn (goal.at.via-left-requires c).In-loop-depth j h) (omega (arith, c.loop-depth-test.true))
 
-pub overflow_sub-depth-then-depth-gt0 : goal.overflow_sub-depth-then-depth-gt0
-overflow_sub-depth-then-depth-gt0 c = omega (arith, c.if-depth-gt0.true)
-
 pub position-top-requires : goal.position-top-requires
 position-top-requires c =
     let (j, h) = one (goal.at.position-top-requires c).After-push in
     entry_within (turn (goal.at.position-top-requires c).In-loop-depth j h) (omega (arith, c.loop-depth-test.true))
-
-pub loop-depth-smaller-after-below-soon : goal.loop-depth-smaller-after-below-soon
-loop-depth-smaller-after-below-soon c = omega (arith, c.loop-depth-test.true)
 
 pub loop-depth-preserved-after-below-soon : goal.loop-depth-preserved-after-below-soon
 loop-depth-preserved-after-below-soon c = (
@@ -104,9 +95,6 @@ loop-depth-preserved-after-below-soon c = (
         | else-below-soon w ↦ rw w.below-is (turn_pop k c.in_default.is ec es (omega (arith, c.if-depth-gt0.true)) c.via-left.ensures.0 w.if-below-soon.false)
       ],
 )
-
-pub loop-depth-smaller-else-depth-gt0 : goal.loop-depth-smaller-else-depth-gt0
-loop-depth-smaller-else-depth-gt0 c = omega (arith, c.loop-depth-test.true)
 
 pub loop-depth-preserved-else-depth-gt0 : goal.loop-depth-preserved-else-depth-gt0
 loop-depth-preserved-else-depth-gt0 c = (c.loop-depth.invariant.0, λ j h. turn_out (looked (goal.at.loop-depth-preserved-else-depth-gt0 c).After-leads-found j h) c.in_default.is (omega (arith, c.if-depth-gt0.false)))

@@ -5,9 +5,6 @@ use native.Mathlib.Omega.{arith}
 use Rattle.route.proofs.ServeLaws.{sought_none, may_lay, sought_some}
 use Rattle.route.proofs.serve.seek.Goals as goal
 
-pub search-depth-requires : goal.search-depth-requires
-search-depth-requires c = c.requires
-
 pub shape_of-store-then-depth-eq0 : goal.shape_of-store-then-depth-eq0
 shape_of-store-then-depth-eq0 c =
     let (j, h) = c.requires in (c.search-depth.ensures j h).same.long

@@ -23,9 +23,6 @@ shape_of-store-then-fresh c =
 pub returns-then-fresh : goal.returns-then-fresh
 returns-then-fresh c = (shape_of-store-then-fresh c, λ j h. let k = c.seek.ensures j h.search in (k.holds, (omega arith, k.stuck c.if-seek.false (h.clean c.if-fresh.true))))
 
-pub overflow_add-again : goal.overflow_add-again
-overflow_add-again c = omega (arith, c.requires.1.small)
-
 pub seek-requires-2 : goal.seek-requires-2
 seek-requires-2 c = let (j, h) = c.requires in (j, may_search ((c.seek.ensures j h.search).same c.if-seek.false) h.search)
 
