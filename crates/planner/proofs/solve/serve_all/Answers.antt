@@ -1,0 +1,86 @@
+-- `serve_all` serves the calls in their order. Invariant: `SoFar` (SolveLaws) for every job that the numbers, arrays and tables are of, with the store and the hints as long
+-- as they were; the contract says that there is such a job, which keeps the indices in range. The measure is how many calls are left. Assumes nothing.
+use Rattle.planner.specs.Solved.{Begun}
+use Rattle.model.specs.Job.{Job}
+use Rattle.route.specs.Serve.{Serving}
+use Rattle.planner.proofs.SolveLaws.{SoFar, so_far_none, few, aims, call_known, call_cell, call_serving, call_served, call_failed, all_served}
+use Prim.Native.Nat.{◌-◌, ◌≤◌}
+use mathlib.Core.Path.{◌∙◌, ◌≡◌, refl}
+use native.Mathlib.Omega.{arith}
+use lib.Dec.{eqb}
+use lib.ListN.{length}
+use Rattle.model.specs.Limits.{max_cells}
+use borrow.Author.Rules.{rules}
+use Rattle.model.specs.Choke.{point}
+use Rattle.planner.proofs.solve.serve_all.Goals as goal
+use Rattle.planner.proofs.solve.serve_all.Goals.{After-aim-far}
+
+pub loop-i-init : goal.loop-i-init
+loop-i-init c = (refl, search rules, omega arith, λ j b. so_far_none b)
+
+pub bounds-order-i : goal.bounds-order-i
+bounds-order-i c = let b = c.requires.1 in omega (arith, b.ordered.size, few b)
+
+pub bounds-targets-q : goal.bounds-targets-q
+bounds-targets-q c = let b = c.requires.1 in omega (arith, call_known b c.loop-i-test.true, few b, c.wide-q.ensures.0)
+
+pub aim-far-requires : goal.aim-far-requires
+aim-far-requires c =
+    let b = c.requires.1 in
+    let (rows, few_cells, in_nodes) = aims b in
+    let v = c.loop-i.invariant.3 _ b in
+    let h = call_cell b c.loop-i-test.true c.wide-q.ensures.0 c.wide-cell.ensures.0 in
+    (rows, few_cells, b.tables.carts.size, v.holds.room, in_nodes, h, c.loop-i.invariant.1)
+
+abbrev Begins : After-aim-far → Job → Type 0
+Begins c j =
+    Begun j c.args.targets.now c.args.calls c.args.near.now c.args.begin.now c.args.due.now c.args.shut.now c.args.cart_on.now
+    c.args.order.now c.args.store.now c.args.grid
+
+-- The next call's search may start.
+serving : (c : After-aim-far) (j : Job) → Begins c j
+    → Serving j c.args.near.now c.args.begin.now c.args.due.now c.args.shut.now
+    c.args.cart_on.now
+    c.aim-far.new.hint c.loop-i.store
+    c.args.grid (point c.wide-cell.result c.args.grid.top) c.loop-i.stamp (eqb c.loop-i.i 0)
+serving c j b =
+    call_serving b c.loop-i-test.true c.wide-q.ensures.0 c.wide-cell.ensures.0
+    (c.loop-i.invariant.3 j b) c.aim-far.ensures.0
+
+pub serve-served-requires : goal.serve-served-requires
+serve-served-requires c = let (j, b) = c.requires in (j, serving (goal.at.serve-served-requires c).After-aim-far j b)
+
+pub shape_of-store-in_default : goal.shape_of-store-in_default
+shape_of-store-in_default c = c.serve-served.ensures.0 ∙ c.loop-i.invariant.0
+
+pub returns-in_default : goal.returns-in_default
+returns-in_default c =
+    let d = c.serve-served in (
+      d.ensures.0 ∙ c.loop-i.invariant.0,
+      λ j b. call_failed b c.loop-i-test.true c.wide-q.ensures.0 c.wide-cell.ensures.0
+          (c.loop-i.invariant.3 j b)
+          d.result c.in_default.is (d.ensures.1 j (serving (goal.at.returns-in_default c).After-aim-far j b)),
+    )
+
+pub overflow_add-i : goal.overflow_add-i
+overflow_add-i c = omega (arith, c.loop-i-test.true, few c.requires.1)
+
+pub loop-i-smaller : goal.loop-i-smaller
+loop-i-smaller c = omega (arith, c.loop-i-test.true)
+
+pub loop-i-preserved : goal.loop-i-preserved
+loop-i-preserved c =
+    let d = c.serve-served in (
+      d.ensures.0 ∙ c.loop-i.invariant.0,
+      c.aim-far.ensures.0,
+      omega (arith, c.loop-i-test.true),
+      λ j b. call_served b c.loop-i-test.true c.wide-q.ensures.0 c.wide-cell.ensures.0
+          (c.loop-i.invariant.3 j b)
+          d.result c.in-Yes.is (d.ensures.1 j (serving (goal.at.loop-i-preserved c).After-aim-far j b)),
+    )
+
+pub shape_of-store : goal.shape_of-store
+shape_of-store c = c.loop-i.invariant.0
+
+pub returns : goal.returns
+returns c = let l = c.loop-i in (l.invariant.0, λ j b. ((l.invariant.3 j b).holds, all_served b (omega arith) (l.invariant.3 j b)))
