@@ -8,7 +8,6 @@ use Rattle.model.specs.Promises.{check_verdict}
 use Rattle.job.specs.Arrays.{job_of}
 use Rattle.reader.specs.Reading.{Bounded}
 use Rattle.cartfloor.proofs.Verdicts.{turned, let_through, ready, cleared, back_checked, passed_checked, failed_checked}
-use borrow.Author.Rules.{rules}
 use Rattle.cartfloor.proofs.check.cartfloor_check.Goals as goal
 use Rattle.cartfloor.proofs.check.cartfloor_check.Goals.{In_default}
 

@@ -1,5 +1,5 @@
 -- `cartfloor_map` meets its contract: a map that is not in the form is refused at its first bad line, and `write_floor` gives the rest. Assumes nothing.
-use mathlib.Core.Path.{◌≡◌, refl, ap, sym, subst}
+use mathlib.Core.Path.{◌≡◌, ap, sym, subst}
 use Prim.Native.Nat.{◌+◌, ◌≤◌}
 use native.Mathlib.Omega.{arith}
 use lib.ListN.{length}
@@ -26,7 +26,7 @@ returns-in-Bad c =
     let a = c.args in
     map_bad a.map.now a.text.now c.in-Bad.line c.packed.result (is_bad (goal.at.returns-in-Bad c).In-Bad).0 c.packed.ensures
 
-rows_of : (c : In-Rows) →     RowsOf (read_map c.args.map.now) c.read_map-drawing.new.places c.in-Rows.width c.in-Rows.cells
+rows_of : (c : In-Rows) → RowsOf (read_map c.args.map.now) c.read_map-drawing.new.places c.in-Rows.width c.in-Rows.cells
 rows_of c =
     let r = c.read_map-drawing in
     subst (Draws (read_map c.args.map.now) r.new.places) c.in-Rows.is r.ensures

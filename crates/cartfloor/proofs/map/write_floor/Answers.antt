@@ -1,14 +1,10 @@
 -- `write_floor` meets its contract, for every map with these cells at these places: too few cells, too many, a text too long, or the text of the tracks that were found.
 -- Assumes nothing.
-use mathlib.Core.Path.{◌≡◌, refl, sym, ◌∙◌}
+use mathlib.Core.Path.{refl, sym, ◌∙◌}
 use mathlib.Core.Logic.{inl, inr}
-use Prim.Native.Nat.{◌+◌, ◌<◌, ◌≤◌}
 use native.Mathlib.Omega.{arith}
 use native.Mathlib.Numerals.{add-one}
-use lib.ListN.{length}
 use borrow.Author.Rules.{rules}
-use Rattle.model.specs.Limits.{max_cells}
-use Rattle.model.specs.GridMap.{map_cells, map_text}
 use Rattle.cartfloor.proofs.MapVerdicts.{no_floor, too_long, written}
 use Rattle.cartfloor.proofs.map.write_floor.Goals as goal
 

@@ -11,7 +11,6 @@ use Rattle.model.specs.Promises.{with_room, check_verdict}
 use Rattle.job.specs.Arrays.{job_of}
 use Rattle.reader.specs.Reading.{Bounded}
 use Rattle.cartfloor.proofs.Verdicts.{turned, let_through, stored, ready, short_room, long_room, cleared, back_planned, written_planned}
-use borrow.Author.Rules.{rules}
 use Rattle.cartfloor.proofs.plan.cartfloor_plan.Goals as goal
 use Rattle.cartfloor.proofs.plan.cartfloor_plan.Goals.{Else-sheet-sheet_least, In_default}
 

@@ -1,7 +1,6 @@
 -- `refuse::admit` decides what both calls decide first: each return is a case of the reader's verdict and of the store's length. Assumes nothing.
 use native.Mathlib.Omega.{arith}
 use Rattle.cartfloor.proofs.Verdicts.{admit_refused, read_whole, admit_short, admit_long}
-use borrow.Author.Rules.{rules}
 use Rattle.cartfloor.proofs.refuse.admit.Goals as goal
 
 pub returns-in-Refused : goal.returns-in-Refused

@@ -17,7 +17,6 @@ use Rattle.planner.specs.declared.solve.Solution.{Solution}
 use Rattle.planner.specs.declared.solve.Solution.TheVariants.{Plan, Cannot}
 use Rattle.planner.specs.Solved.{Solved}
 use Rattle.planner.proofs.Sheets.{plan_short, chokes_short, plan_written, chokes_written}
-use borrow.Author.Rules.{rules}
 use Rattle.planner.proofs.plan.plan_job.Goals as goal
 use Rattle.planner.proofs.plan.plan_job.Goals.{After-solve-solution}
 

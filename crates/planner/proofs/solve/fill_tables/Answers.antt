@@ -1,6 +1,5 @@
 -- `fill_tables` meets its contract: the job's arrays have what each table asks for, and each table is the job's. Assumes nothing.
 use Rattle.floor.proofs.JobTables.{calls_apart, carts_apart, carts_of, due_of, shut_of, near_of, tracks-of}
-use borrow.Author.Rules.{rules}
 use Rattle.planner.proofs.solve.fill_tables.Goals as goal
 
 pub neighbours-requires : goal.neighbours-requires

@@ -3,13 +3,10 @@
 use Rattle.planner.specs.Solved.{Begun}
 use Rattle.model.specs.Job.{Job}
 use Rattle.route.specs.Serve.{Serving}
-use Rattle.planner.proofs.SolveLaws.{SoFar, so_far_none, few, aims, call_known, call_cell, call_serving, call_served, call_failed, all_served}
-use Prim.Native.Nat.{◌-◌, ◌≤◌}
-use mathlib.Core.Path.{◌∙◌, ◌≡◌, refl}
+use Rattle.planner.proofs.SolveLaws.{so_far_none, few, aims, call_known, call_cell, call_serving, call_served, call_failed, all_served}
+use mathlib.Core.Path.{◌∙◌, refl}
 use native.Mathlib.Omega.{arith}
 use lib.Dec.{eqb}
-use lib.ListN.{length}
-use Rattle.model.specs.Limits.{max_cells}
 use borrow.Author.Rules.{rules}
 use Rattle.model.specs.Choke.{point}
 use Rattle.planner.proofs.solve.serve_all.Goals as goal

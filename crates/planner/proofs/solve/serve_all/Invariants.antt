@@ -2,16 +2,11 @@
 -- as they were; the contract says that there is such a job, which keeps the indices in range. The measure is how many calls are left. Assumes nothing.
 use Rattle.planner.specs.Solved.{Begun}
 use Rattle.model.specs.Job.{Job}
-use Rattle.route.specs.Serve.{Serving}
-use Rattle.planner.proofs.SolveLaws.{SoFar, so_far_none, few, aims, call_known, call_cell, call_serving, call_served, call_failed, all_served}
+use Rattle.planner.proofs.SolveLaws.{SoFar}
 use Prim.Native.Nat.{◌-◌, ◌≤◌}
-use mathlib.Core.Path.{◌∙◌, ◌≡◌, refl}
-use native.Mathlib.Omega.{arith}
-use lib.Dec.{eqb}
+use mathlib.Core.Path.{◌≡◌}
 use lib.ListN.{length}
 use Rattle.model.specs.Limits.{max_cells}
-use borrow.Author.Rules.{rules}
-use Rattle.model.specs.Choke.{point}
 use Rattle.planner.proofs.solve.serve_all.Given as goal
 
 abbrev pub invariant-loop-i : goal.invariant-loop-i

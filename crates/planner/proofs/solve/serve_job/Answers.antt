@@ -1,7 +1,6 @@
 -- `serve_job` meets its contract: the tables that are filled are the job's, so that serving its calls can begin. Assumes nothing.
 use Rattle.planner.proofs.SolveParts.{begun}
 use Rattle.job.specs.Arrays.{job_of}
-use borrow.Author.Rules.{rules}
 use Rattle.planner.proofs.solve.serve_job.Goals as goal
 
 pub serve_all-requires : goal.serve_all-requires

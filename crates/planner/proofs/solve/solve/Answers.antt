@@ -41,12 +41,11 @@ serve_job-served-requires c =
     )
 
 pub write_answer-requires : goal.write_answer-requires
-write_answer-requires c =
-    (
-      c.requires.1,
-      c.serve_job-served.ensures.1,
-      record { firsts = c.requires.3.firsts; seconds = c.by_deadline.ensures.size; steps = c.requires.3.steps; cells = c.requires.3.cells },
-    )
+write_answer-requires c = (
+  c.requires.1,
+  c.serve_job-served.ensures.1,
+  record { firsts = c.requires.3.firsts; seconds = c.by_deadline.ensures.size; steps = c.requires.3.steps; cells = c.requires.3.cells },
+)
 
 -- The store keeps its length throughout.
 pub shape_of-store : goal.shape_of-store

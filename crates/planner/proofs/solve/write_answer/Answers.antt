@@ -2,7 +2,6 @@
 use Rattle.planner.proofs.SolveParts.{full, stuck}
 use Rattle.job.specs.Arrays.{job_of}
 use mathlib.Core.Path.{refl}
-use borrow.Author.Rules.{rules}
 use Rattle.planner.proofs.solve.write_answer.Goals as goal
 
 pub write_plan-requires : goal.write_plan-requires
@@ -12,7 +11,7 @@ pub returns-in_default : goal.returns-in_default
 returns-in_default c = c.write_plan.ensures
 
 pub list_chokes-points-requires : goal.list_chokes-points-requires
-list_chokes-points-requires c =     ((job_of c.args.job, stuck c.args.job c.requires.1 c.in-No.is), c.requires.2.firsts, c.requires.2.seconds, c.requires.2.steps)
+list_chokes-points-requires c = ((job_of c.args.job, stuck c.args.job c.requires.1 c.in-No.is), c.requires.2.firsts, c.requires.2.seconds, c.requires.2.steps)
 
 pub returns : goal.returns
 returns c =

@@ -1,7 +1,6 @@
 -- `write_plan` meets its contract: once every cart has a line the paths are traced, and once those are written the walks of the others, which makes the plan. Assumes nothing.
 use Rattle.answer.specs.Spares.{AllKept}
 use Rattle.job.specs.Arrays.{job_of}
-use borrow.Author.Rules.{rules}
 use Rattle.planner.proofs.SolveParts.{unkept, kept_flow, paths_written, plan_held}
 use Rattle.planner.proofs.solve.write_plan.Goals as goal
 use Rattle.planner.proofs.solve.write_plan.Goals.{After-keep_spares}
