@@ -25,5 +25,9 @@ fn write_floor<W: Write>(out: &mut W, map: &[u8]) -> io::Result<()> {
 fn main(rt: HostRuntime) -> io::Result<()> {
     let mut input = [0u8; read::MOST + 1];
     let n = read_full(&mut rt.stdin(), &mut input)?;
-    write_floor(&mut rt.stdout(), &input[0..n])
+    // Where nobody takes what it writes it ends all the same, and says nothing elsewhere.
+    match write_floor(&mut rt.stdout(), &input[0..n]) {
+        Ok(()) => Ok(()),
+        Err(_) => Ok(()),
+    }
 }

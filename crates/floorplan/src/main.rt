@@ -30,5 +30,9 @@ fn plan<W: Write>(out: &mut W, text: &[u8]) -> io::Result<()> {
 fn main(rt: HostRuntime) -> io::Result<()> {
     let mut input = [0u8; Limits::TEXT + 1];
     let n = read_full(&mut rt.stdin(), &mut input)?;
-    plan(&mut rt.stdout(), &input[0..n])
+    // Where nobody takes what it writes it ends all the same, and says nothing elsewhere.
+    match plan(&mut rt.stdout(), &input[0..n]) {
+        Ok(()) => Ok(()),
+        Err(_) => Ok(()),
+    }
 }

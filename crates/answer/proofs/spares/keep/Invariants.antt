@@ -10,7 +10,8 @@ use Rattle.answer.proofs.SpareTurn.{ChainTo}
 use Rattle.answer.proofs.spares.keep.Given as goal
 
 abbrev pub invariant-loop-t : goal.invariant-loop-t
-invariant-loop-t l = (length l.store ≡ length l.initial.store) × (l.t < l.grid.top) × ((j : Job) → LooseAt j l.grid l.initial.store (point l.cell 0) → ChainTo j l.grid l.initial.store l.store (point l.at l.t))
+invariant-loop-t l = (length l.store ≡ length l.initial.store) × (l.t < l.grid.top) × ((j : Job) → LooseAt j l.grid l.initial.store (point l.cell 0)
+    → ChainTo j l.grid l.initial.store l.store (point l.at l.t))
 
 abbrev pub decreases-loop-t : goal.decreases-loop-t
 decreases-loop-t l = l.grid.top - l.t

@@ -11,7 +11,8 @@ use Rattle.answer.proofs.SpareTurn.{movers, ChainTo}
 use Rattle.answer.proofs.spares.stand.Given as goal
 
 abbrev pub invariant-loop-store : goal.invariant-loop-store
-invariant-loop-store l = (l.v ≡ place_in l.grid l.at (suc l.step)) × (length l.store ≡ length l.initial.store) × ((j : Job) → LooseAt j l.grid l.initial.store (point l.cell l.step) → ChainTo j l.grid l.initial.store l.store (point l.at l.step))
+invariant-loop-store l = (l.v ≡ place_in l.grid l.at (suc l.step)) × (length l.store ≡ length l.initial.store)
+    × ((j : Job) → LooseAt j l.grid l.initial.store (point l.cell l.step) → ChainTo j l.grid l.initial.store l.store (point l.at l.step))
 
 abbrev pub decreases-loop-store : goal.decreases-loop-store
 decreases-loop-store l = movers l.grid l.store l.step

@@ -100,7 +100,8 @@ pub loop-depth-preserved-else-depth-gt0 : goal.loop-depth-preserved-else-depth-g
 loop-depth-preserved-else-depth-gt0 c = (c.loop-depth.invariant.0, λ j h. turn_out (looked (goal.at.loop-depth-preserved-else-depth-gt0 c).After-leads-found j h) c.in_default.is (omega (arith, c.if-depth-gt0.false)))
 
 pub push-requires-in-loop-depth : goal.push-requires-in-loop-depth
-push-requires-in-loop-depth c = let (j, h) = one (goal.at.push-requires-in-loop-depth c).After-push in push_needs (looked (goal.at.push-requires-in-loop-depth c).After-leads-found j h) c.in-Push.node c.in-Push.by c.in-Push.is
+push-requires-in-loop-depth c = let (j, h) = one (goal.at.push-requires-in-loop-depth c).After-push in push_needs (looked
+    (goal.at.push-requires-in-loop-depth c).After-leads-found j h) c.in-Push.node c.in-Push.by c.in-Push.is
 
 pub overflow_add-depth : goal.overflow_add-depth
 overflow_add-depth c = let (j, h) = one (goal.at.overflow_add-depth c).After-push in omega (arith, (turn (goal.at.overflow_add-depth c).In-loop-depth j h).going.run.room, few_nodes j h.holds.ready)
