@@ -153,7 +153,7 @@ module _ (j : Job) where
         kept h =
             link_same (is_used j s' v) (is_used j s v) (eqb v.step 0) _ _ (other_used v h)
             (λ u. ap (λ c. cond (eqb v.step (top j)) (point v.cell c) (point c (v.step - 1))) (fin.prev_kept v (used_known j s' v u) (λ m l q. h (subst (λ
-                (z : Point). In z (x ∷ ats (hops_in j s e))) (sym q) (place_in st m (omega arith))))))
+            (z : Point). In z (x ∷ ats (hops_in j s e))) (sym q) (place_in st m (omega arith))))))
 
         last : v ≡ last_at x (hops_in j s e) → back_link j s' v ≡ next_by dec_point x (hops_in j s e) (back_link j s) v
         last q =

@@ -56,7 +56,8 @@ overflow_add-step-in-loop-store c = omega (arith, step_few c.requires.0.1 (early
 pub place-v-requires-in-loop-store : goal.place-v-requires-in-loop-store
 place-v-requires-in-loop-store c =
     rw (add-one c.args.step) (next_within (turn_loose (chain (goal.at.place-v-requires-in-loop-store c).At-loop-store).loose (early
-        (goal.at.place-v-requires-in-loop-store c).Start) (taken (goal.at.place-v-requires-in-loop-store c).After-link) (came (goal.at.place-v-requires-in-loop-store c).After-link)) (early (goal.at.place-v-requires-in-loop-store c).Start)).1
+    (goal.at.place-v-requires-in-loop-store c).Start) (taken (goal.at.place-v-requires-in-loop-store c).After-link) (came
+    (goal.at.place-v-requires-in-loop-store c).After-link)) (early (goal.at.place-v-requires-in-loop-store c).Start)).1
 
 pub loop-store-smaller : goal.loop-store-smaller
 loop-store-smaller c = rw c.link.ensures (turn_fewer (chain (goal.at.loop-store-smaller c).At-loop-store).loose (early (goal.at.loop-store-smaller c).Start) (taken
@@ -68,7 +69,8 @@ loop-store-preserved c =
       c.place-v-in-loop-store.ensures ∙ ap (place_in c.args.grid c.prev-came.result) (add-one c.args.step),
       ap length c.link.ensures ∙ simp length-set i.1,
       λ j h. let w = i.2 j h in rw c.link.ensures (chain_more w (turn_loose w.loose (early (goal.at.loop-store-preserved c).Start) (taken
-          (goal.at.loop-store-preserved c).After-link) (came (goal.at.loop-store-preserved c).After-link)) (turn_starts w.loose (early (goal.at.loop-store-preserved c).Start) (taken (goal.at.loop-store-preserved c).After-link) (came (goal.at.loop-store-preserved c).After-link))),
+          (goal.at.loop-store-preserved c).After-link) (came (goal.at.loop-store-preserved c).After-link)) (turn_starts w.loose (early
+          (goal.at.loop-store-preserved c).Start) (taken (goal.at.loop-store-preserved c).After-link) (came (goal.at.loop-store-preserved c).After-link))),
     )
 
 pub link-requires-2 : goal.link-requires-2

@@ -22,4 +22,13 @@ returns c =
     let pos = c.if-node-eq0.false in
     let a = c.args in
     found_guess (By a.grid a.store.now (point c.wide-cell.result (a.node.step - 1))) (FromNode a.grid a.store.now a.shut.now a.row.now (as_point a.node))
-        (Stamped a.grid a.store.now a.stamp) (λ y via b. inl (omega (arith, pos), (c.wide-cell.result, in_row (goal.at.returns c).After-wide-cell, omega (arith, pos, c.if-shut-cell.false), b))) c.look.result c.look.ensures
+    (Stamped a.grid a.store.now a.stamp) (λ y via b. inl (
+      omega (arith, pos),
+      (
+        c.wide-cell.result,
+        in_row (goal.at.returns c).After-wide-cell,
+        omega
+            (arith, pos, c.if-shut-cell.false),
+        b,
+      ),
+    )) c.look.result c.look.ensures

@@ -13,7 +13,15 @@ use Rattle.route.specs.Search.{Searching}
 use Rattle.route.proofs.SearchTurn.{Turn, Looked, first_needs, under_way, begun, ends_none, ends_some}
 use Rattle.route.proofs.SearchTurn.{holds, top_inside, top_due, entry_within, is_goal, no_goal, turn_pop, turn_anew, turn_out, push_needs, turn_falls, turn_push}
 use Rattle.route.proofs.search.search.Goals as goal
-use Rattle.route.proofs.search.search.Goals.{After-leads-found, After-push, In-loop-depth, else-below-soon, else-top-eq0-via-else-top-eq0, else-top-eq0-via-then-top-eq0+else-cart_on-c-ne0, then-below-soon}
+use Rattle.route.proofs.search.search.Goals.{
+  After-leads-found,
+  After-push,
+  In-loop-depth,
+  else-below-soon,
+  else-top-eq0-via-else-top-eq0,
+  else-top-eq0-via-then-top-eq0+else-cart_on-c-ne0,
+  then-below-soon,
+}
 
 -- A job that the search may be for, told from the store after the first push.
 one : (c : After-push) → (j : Job) × (let a = c.args in
@@ -97,7 +105,11 @@ loop-depth-preserved-after-below-soon c = (
 )
 
 pub loop-depth-preserved-else-depth-gt0 : goal.loop-depth-preserved-else-depth-gt0
-loop-depth-preserved-else-depth-gt0 c = (c.loop-depth.invariant.0, λ j h. turn_out (looked (goal.at.loop-depth-preserved-else-depth-gt0 c).After-leads-found j h) c.in_default.is (omega (arith, c.if-depth-gt0.false)))
+loop-depth-preserved-else-depth-gt0 c = (
+  c.loop-depth.invariant.0,
+  λ j h. turn_out (looked
+      (goal.at.loop-depth-preserved-else-depth-gt0 c).After-leads-found j h) c.in_default.is (omega (arith, c.if-depth-gt0.false)),
+)
 
 pub push-requires-in-loop-depth : goal.push-requires-in-loop-depth
 push-requires-in-loop-depth c = let (j, h) = one (goal.at.push-requires-in-loop-depth c).After-push in push_needs (looked

@@ -13,7 +13,7 @@ use Rattle.route.proofs.search.search.Given as goal
 abbrev pub invariant-loop-depth : goal.invariant-loop-depth
 invariant-loop-depth l = (length l.store ≡ length l.initial.store)
     × ((j : Job) → Searching j l.near l.begin l.due l.shut l.cart_on l.hint l.initial.store l.grid (as_point l.initial.top)
-        → Going j l.due l.initial.store l.store l.stamp l.soon (as_point l.initial.top) l.depth (as_point l.top) l.below l.ahead)
+    → Going j l.due l.initial.store l.store l.stamp l.soon (as_point l.initial.top) l.depth (as_point l.top) l.below l.ahead)
 
 abbrev pub decreases-loop-depth : goal.decreases-loop-depth
 decreases-loop-depth l = 2 * unmarked (mark_at l.grid l.store) l.stamp l.grid.nodes + l.depth
