@@ -41,7 +41,7 @@ pub row_long : {first order lasts rows : List ℕ} {i : ℕ} → Room first orde
     → length (take (i * max_steps + max_steps - i * max_steps) (drop (i * max_steps) rows)) ≡ max_steps
 row_long {i = i} r few = mid_len (i * max_steps) (i * max_steps + max_steps) _ (omega (arith, r.cells)) ∙ omega arith
 
-module _ {j : Job} {targets : List ℕ} {calls : ℕ} {cartOn order : List ℕ} {grid : Grid} {s : List ℕ} (g : FullFlow j targets calls cartOn order grid s) where
+module _ {j : Job} {targets : List ℕ} {calls : ℕ} {cart_on order : List ℕ} {grid : Grid} {s : List ℕ} (g : FullFlow j targets calls cart_on order grid s) where
   abbrev q : ℕ → ℕ
   q i = get_or order i 0
 
@@ -103,11 +103,11 @@ module _ {j : Job} {targets : List ℕ} {calls : ℕ} {cartOn order : List ℕ} 
         on_cart : In r j.carts
         on_cart = starts_on_cart (stood_flow g.kept.keeps.flow) (point r 0) tr.starts
 
-        pub has_cart : (r < max_cells) × (0 < get_or cartOn r 0)
+        pub has_cart : (r < max_cells) × (0 < get_or cart_on r 0)
         has_cart = (omega (arith, g.kept.keeps.ready.fit.known_carts r on_cart, g.kept.keeps.ready.fit.few_cells), g.carts.has_cart r on_cart)
 
         abbrev cart : ℕ
-        cart = get_or cartOn r 0 - 1
+        cart = get_or cart_on r 0 - 1
 
         abbrev path : Path
         path = record { cart = cart; call = q i; cells = take (suc d) row }
@@ -130,7 +130,7 @@ module _ {j : Job} {targets : List ℕ} {calls : ℕ} {cartOn order : List ℕ} 
 
         pub traced_more : {first lasts rows : List ℕ} → PathsTraced j order s first lasts rows i
             → length row ≡ length (take (i * max_steps + max_steps - i * max_steps) (drop (i * max_steps) rows))
-            → PathsTraced j order s (set first i (get_or cartOn r 0 - 1)) (set lasts i d) (with_row rows i row) (i + 1)
+            → PathsTraced j order s (set first i (get_or cart_on r 0 - 1)) (set lasts i d) (with_row rows i row) (i + 1)
         traced_more {first} {lasts} {rows} w same = record {
           room = rw kept at (room_more w.room row i cart (q i) d slot same);
           short = λ m h. short m h (dec-lt m i);

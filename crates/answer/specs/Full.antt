@@ -11,9 +11,9 @@ use Rattle.answer.specs.Trail.{back_from}
 use Rattle.answer.specs.Spares.{Starts, AllKept}
 
 -- The array of cells, the table of carts and the order are the job's.
-pub record FullFlow (j : Job) (targets : List ℕ) (calls : ℕ) (cartOn order : List ℕ) (grid : Grid) (s : List ℕ) : Type 0 where
+pub record FullFlow (j : Job) (targets : List ℕ) (calls : ℕ) (cart_on order : List ℕ) (grid : Grid) (s : List ℕ) : Type 0 where
   pub listed : Calls j targets calls
-  pub carts : CartOn j cartOn
+  pub carts : CartOn j cart_on
   pub ordered : Order j order
   pub kept : AllKept j grid s
 

@@ -49,15 +49,15 @@ pub record Shut (j : Job) (shut : List ℕ) : Type 0 where
 abbrev pub row_at : List ℕ → List ℕ → List ℕ → ℕ → ℕ → List ℕ
 row_at near begin shut c t = cond (ltb t (get_or shut c 0)) (row_of near begin c) []
 
--- Entry c of `cartOn` is one more than the number of the cart that starts on c, or 0.
-pub record CartOn (j : Job) (cartOn : List ℕ) : Type 0 where
-  pub size : length cartOn ≡ max_cells
-  pub cart : (c : ℕ) → c < j.cells → 0 < get_or cartOn c 0 → (get_or cartOn c 0 - 1 < length j.carts) × (get_or j.carts (get_or cartOn c 0 - 1) 0 ≡ c)
-  pub has_cart : (c : ℕ) → In c j.carts → 0 < get_or cartOn c 0
+-- Entry c of `cart_on` is one more than the number of the cart that starts on c, or 0.
+pub record CartOn (j : Job) (cart_on : List ℕ) : Type 0 where
+  pub size : length cart_on ≡ max_cells
+  pub cart : (c : ℕ) → c < j.cells → 0 < get_or cart_on c 0 → (get_or cart_on c 0 - 1 < length j.carts) × (get_or j.carts (get_or cart_on c 0 - 1) 0 ≡ c)
+  pub has_cart : (c : ℕ) → In c j.carts → 0 < get_or cart_on c 0
 
 -- What the tables say.
-pub record Tables (j : Job) (near begin due shut cartOn : List ℕ) : Type 0 where
+pub record Tables (j : Job) (near begin due shut cart_on : List ℕ) : Type 0 where
   pub sides : Near j near begin
   pub dues : Due j due
   pub shuts : Shut j shut
-  pub carts : CartOn j cartOn
+  pub carts : CartOn j cart_on

@@ -11,7 +11,7 @@ use borrow.Author.Tests.{ltb-true}
 use Rattle.model.specs.Limits.{max_tracks, max_carts, max_calls}
 use Rattle.model.specs.Lists.{In}
 use Rattle.model.specs.Job.{Track, CallKind, lift, Call, track, call, track_of, cart_cell, call_of, latest, horizon}
-use Rattle.model.specs.ReadJob.{trackLine, cartLine, call_line, has_room}
+use Rattle.model.specs.ReadJob.{track_line, cartLine, call_line, has_room}
 use Rattle.job.specs.declared.state.Job.{Job}
 use Rattle.job.specs.Arrays.{up_to, track_at, call_at, job_of}
 use Rattle.job.proofs.UpTo.{up_count, up_at, in_up}
@@ -47,7 +47,7 @@ module _ (s : Job) where
   pub calls_count : length (job_of s).calls ≡ s.calls
   calls_count = up_count (call_at s.kinds s.targets s.deadlines) s.calls
 
-  pub tracks_room : has_room (job_of s) trackLine ≡ true → s.tracks < max_tracks
+  pub tracks_room : has_room (job_of s) track_line ≡ true → s.tracks < max_tracks
   tracks_room e = rw tracks_count at (ltb-true (length (job_of s).tracks) max_tracks e)
 
   pub carts_room : has_room (job_of s) cartLine ≡ true → s.carts < max_carts

@@ -15,7 +15,7 @@ use Rattle.model.specs.Limits.{max_cells}
 use Rattle.model.specs.Job.{Job, track, call}
 use Rattle.model.specs.Text.{Lines, done, cut, more, on_first, lines_of, on_field, fields_of, is_mark, number_of, digits_of, behind_digits, without_plus, one_digit, power_of}
 use Rattle.model.specs.Text.{scaled, scaled_of, and_number, numbers_by, after}
-use Rattle.model.specs.ReadJob.{refused, accepted, Kind, floorLine, trackLine, cartLine, call_line, no_job, may_follow, in_range, field_count, add, Said, wrong, right, line_says, go_on, lines_say}
+use Rattle.model.specs.ReadJob.{refused, accepted, Kind, floor_line, track_line, cartLine, call_line, no_job, may_follow, in_range, field_count, add, Said, wrong, right, line_says, go_on, lines_say}
 use Rattle.model.proofs.Basics.{nope, and_left}
 use Rattle.model.proofs.Digits.{both_long}
 use Rattle.model.proofs.Words.{opens_long}
@@ -94,18 +94,18 @@ line_short {j} {j'} {l} x =
 
 -- The most bytes of the lines that said a job.
 abbrev floor_most : ℕ → ℕ
-floor_most n = cond (eqb n 0) 0 (line_most floorLine)
+floor_most n = cond (eqb n 0) 0 (line_most floor_line)
 
 abbrev weight : Job → ℕ
 weight j = floor_most j.cells + 20 * length j.tracks + 12 * length j.carts + 19 * length j.calls
 
 added_weigh : (j : Job) (k : Kind) (a b : ℕ) → may_follow j k ≡ true → in_range j k a b ≡ true → weight j + line_most k ≤ weight (add j k a b)
-added_weigh j floorLine a b m r =
+added_weigh j floor_line a b m r =
     let some : 0 < a = ltb-true 0 a (and_left (ltb 0 a) (leb a max_cells) r) in
-    let before : floor_most j.cells ≡ 0 = ap (λ t. cond t 0 (line_most floorLine)) m in
-    let now : floor_most a ≡ line_most floorLine = ap (λ t. cond t 0 (line_most floorLine)) (ne_eqb a 0 (λ z. omega arith)) in
+    let before : floor_most j.cells ≡ 0 = ap (λ t. cond t 0 (line_most floor_line)) m in
+    let now : floor_most a ≡ line_most floor_line = ap (λ t. cond t 0 (line_most floor_line)) (ne_eqb a 0 (λ z. omega arith)) in
     omega arith
-added_weigh j trackLine a b m r = omega (arith, length-append j.tracks (track a b ∷ []))
+added_weigh j track_line a b m r = omega (arith, length-append j.tracks (track a b ∷ []))
 added_weigh j cartLine a b m r = omega (arith, length-append j.carts (a ∷ []))
 added_weigh j (call_line k) a b m r = omega (arith, length-append j.calls (call k a b ∷ []))
 
@@ -152,6 +152,6 @@ job_short s j e =
     let first : floor_most j.cells ≤ 13 = go (eqb j.cells 0) in
     omega (arith, lines_weigh no_job j 1 (length s) (lines_of s) (lines_fill s) e, f.few_tracks, f.few_carts, f.few_calls)
   where
-    go : (t : Bool) → cond t 0 (line_most floorLine) ≤ 13
+    go : (t : Bool) → cond t 0 (line_most floor_line) ≤ 13
     go true = omega arith
     go false = omega arith

@@ -18,7 +18,7 @@ use Rattle.model.specs.Job.{Job, Track, track}
 use Rattle.model.specs.Walk.{Arc}
 use Rattle.model.specs.Text.{lines_of, fields_of, numeral, fields, line, floor_word, track_word, number_of, numbers_of}
 use Rattle.model.specs.SheetText.{lines_text}
-use Rattle.model.specs.ReadJob.{Verdict, refused, accepted, Kind, floorLine, trackLine, no_job, leads, may_follow, field_count, in_range, has_room, is_new, add, wrong, right}
+use Rattle.model.specs.ReadJob.{Verdict, refused, accepted, Kind, floor_line, track_line, no_job, leads, may_follow, field_count, in_range, has_room, is_new, add, wrong, right}
 use Rattle.model.specs.ReadJob.{numbers_say, fields_say, line_says, go_on, lines_say, read_by, read_job}
 use Rattle.model.specs.GridMap.{Drawn, bad, drawn, read_map, cell_at, map_cells, cell_number, track_to, tracks_at, tracks_of, track_numbers, map_text, floor_job, NextTo, floor_text, map_verdict}
 use Rattle.model.proofs.Basics.{nope, and_left, and_right, and_both}
@@ -121,12 +121,12 @@ module _ (n : ℕ) (ts : List Track) (some : 0 < n) (few : n ≤ max_cells) (ris
       let old : (s : Track) → In s got → TrackBefore s t = λ s i. rising_across TrackBefore (λ x y z. lex_on) got (t ∷ rest) (rw e rise) s t i (inl refl) in
       let up : (s : Track) → In s got → s.from < s.to = λ s i. (known s (rw e at (in_left s got (t ∷ rest) i))).0 in
       let k = known t (rw e at (in_right t got (t ∷ rest) (inl refl))) in
-      let new : is_new (floor_of n got) trackLine t.from t.to ≡ true = rw (
+      let new : is_new (floor_of n got) track_line t.from t.to ≡ true = rw (
         ne_eqb t.from t.to (λ h. omega arith),
         leads_none t.from t.to got (λ s i f g. lex_apart (old s i) (sym f) (sym g)),
         leads_none t.to t.from got (λ s i f g. omega (arith, up s i)),
       ) in
-      line_passes (floor_of n got) trackLine t.from (t.to ∷ []) (omega arith, (omega arith, tt)) refl (rw (lt-ltb 0 n some))
+      line_passes (floor_of n got) track_line t.from (t.to ∷ []) (omega arith, (omega arith, tt)) refl (rw (lt-ltb 0 n some))
       (and_both (ltb t.from n) (ltb t.to n) (lt-ltb t.from n (omega arith)) (lt-ltb t.to n k.1))
       (lt-ltb (length got) max_tracks (omega (arith, length-append got (t ∷ rest), ap length e))) new
 
@@ -144,7 +144,7 @@ plain_reads m some few =
     rw (le-ltb max_text (length (map_text m)) (omega (arith, text_room m)))
     (ap (lines_say number_of no_job 1) (line_read floor_word (n ∷ []) (lines_text (λ t. track_word) track_numbers (tracks_of m)) refl (omega arith, tt))
     ∙ ap (λ x. go_on x 1 (λ j. lines_say number_of j 2 (lines_of (lines_text (λ t. track_word) track_numbers (tracks_of m)))))
-    (line_passes no_job floorLine n [] (omega arith, tt) refl refl (and_both (ltb 0 n) (leb n max_cells) (lt-ltb 0 n some) (le-leb n max_cells few)) refl refl)
+    (line_passes no_job floor_line n [] (omega arith, tt) refl refl (and_both (ltb 0 n) (leb n max_cells) (lt-ltb 0 n some) (le-leb n max_cells few)) refl refl)
     ∙ tracks_say n (tracks_of m) some few (tracks_rise m) (track_known m) (omega (arith, tracks_few m)) [] (tracks_of m) 2 refl)
 
 pub map_reads : (m : List (List ℕ)) → 0 < map_cells m → map_cells m ≤ max_cells → read_job (map_text m) ≡ accepted (floor_job m)

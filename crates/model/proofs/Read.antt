@@ -175,16 +175,16 @@ pub after_back : (w l ns : List ℕ) → numbers_after w l ≡ some ns → l ≡
 after_back w l ns e = let h = cond_some (opens w l) (numbers_of (after w l)) ns e in opened_back w l ns h.0 h.1
 
 -- The first line.
-count_back : (isRight : ℕ → Bool) (rest : ℕ → Sheet) (o : Option (List ℕ)) (out : Sheet) → (bad 1 ≡ out → ⊥) → count_says isRight rest o ≡ out
-    → (n : ℕ) × (o ≡ some (n ∷ [])) × (isRight n ≡ true) × (rest n ≡ out)
-count_back isRight rest none out h e = absurd (h e)
-count_back isRight rest (some []) out h e = absurd (h e)
-count_back isRight rest (some (n ∷ [])) out h e = go (isRight n) refl e
+count_back : (is_right : ℕ → Bool) (rest : ℕ → Sheet) (o : Option (List ℕ)) (out : Sheet) → (bad 1 ≡ out → ⊥) → count_says is_right rest o ≡ out
+    → (n : ℕ) × (o ≡ some (n ∷ [])) × (is_right n ≡ true) × (rest n ≡ out)
+count_back is_right rest none out h e = absurd (h e)
+count_back is_right rest (some []) out h e = absurd (h e)
+count_back is_right rest (some (n ∷ [])) out h e = go (is_right n) refl e
   where
-    go : (t : Bool) → isRight n ≡ t → cond t (rest n) (bad 1) ≡ out → (m : ℕ) × (some (n ∷ []) ≡ some (m ∷ [])) × (isRight m ≡ true) × (rest m ≡ out)
+    go : (t : Bool) → is_right n ≡ t → cond t (rest n) (bad 1) ≡ out → (m : ℕ) × (some (n ∷ []) ≡ some (m ∷ [])) × (is_right m ≡ true) × (rest m ≡ out)
     go true q e = (n, refl, q, e)
     go false q e = absurd (h e)
-count_back isRight rest (some (n ∷ m ∷ ns)) out h e = absurd (h e)
+count_back is_right rest (some (n ∷ m ∷ ns)) out h e = absurd (h e)
 
 -- a first line, LF and the rest
 head_joined : (word b l s t : List ℕ) (n : ℕ) → b ≡ l ++ (10 ∷ s) → l ≡ word ++ fields (n ∷ []) → s ≡ t → b ≡ line word (n ∷ []) ++ t

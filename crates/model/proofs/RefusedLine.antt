@@ -22,7 +22,7 @@ use Rattle.model.specs.Text.{Lines, done, cut, more, lines_of, scaled_of}
 use Rattle.model.specs.Bytes.{bytes}
 use Rattle.model.specs.FirstBad.{or_bad, line_due, rest_says}
 use Rattle.model.specs.GridMap.{Drawn, bad, drawn, word_line, size_line, row_line, read_map, map_cells, map_text, floor_text}
-use Rattle.model.specs.ReadJob.{Verdict, refused, accepted, Kind, floorLine, trackLine, cartLine, call_line, no_job, is_empty, may_follow, in_range, add}
+use Rattle.model.specs.ReadJob.{Verdict, refused, accepted, Kind, floor_line, track_line, cartLine, call_line, no_job, is_empty, may_follow, in_range, add}
 use Rattle.model.specs.ReadJob.{Said, wrong, right, line_says, go_on, lines_say, read_job}
 use Rattle.model.proofs.Basics.{nope, and_left}
 use Rattle.model.proofs.Ready.{line_added, line_fit, no_fit}
@@ -49,9 +49,9 @@ module _ (j : Job) (n : ℕ) where
   later (inr (_, few)) h = few
 
   behind_added : (k : Kind) (a b : ℕ) → Behind j n → may_follow j k ≡ true → in_range j k a b ≡ true → Behind (add j k a b) (n + 1)
-  behind_added floorLine a b (inl (_, first)) m r = inr (ltb-true 0 a (and_left (ltb 0 a) (leb a max_cells) r), omega arith)
-  behind_added floorLine a b (inr (h, _)) m r = absurd (omega (arith, eqb-true j.cells 0 m))
-  behind_added trackLine a b h m r =
+  behind_added floor_line a b (inl (_, first)) m r = inr (ltb-true 0 a (and_left (ltb 0 a) (leb a max_cells) r), omega arith)
+  behind_added floor_line a b (inr (h, _)) m r = absurd (omega (arith, eqb-true j.cells 0 m))
+  behind_added track_line a b h m r =
       let cells = ltb-true 0 j.cells (and_left (ltb 0 j.cells) (is_empty j.carts) (and_left (ltb 0 j.cells && is_empty j.carts) (is_empty j.calls) m)) in
       inr (cells, omega (arith, later h cells, length-append j.tracks (track a b ∷ [])))
   behind_added cartLine a b h m r =

@@ -110,8 +110,8 @@ fields_read n ns h =
     ap numbers_of (fields_first (numeral n) (fields ns) (map numeral ns) (numeral_good n h.0).0 (fields_apart ns h.1)) ∙ numbers_read (n ∷ ns) h
 
 -- A head line with one number.
-count_read : (isRight : ℕ → Bool) (rest : ℕ → Sheet) (n : ℕ) → n < 1000 → isRight n ≡ true → count_says isRight rest (numbers_of (fields_of (numeral n ++ fields []))) ≡ rest n
-count_read isRight rest n h e = ap (count_says isRight rest) (fields_read n [] (h, tt)) ∙ ap (λ x. cond x (rest n) (bad 1)) e
+count_read : (is_right : ℕ → Bool) (rest : ℕ → Sheet) (n : ℕ) → n < 1000 → is_right n ≡ true → count_says is_right rest (numbers_of (fields_of (numeral n ++ fields []))) ≡ rest n
+count_read is_right rest n h e = ap (count_says is_right rest) (fields_read n [] (h, tt)) ∙ ap (λ x. cond x (rest n) (bad 1)) e
 
 -- Lines of one kind.
 module _ {A : Type 0} (say : List ℕ → Option A) (word numbers : A → List ℕ) (Good : A → Type 0)

@@ -82,10 +82,10 @@ choke_line j l = cond (opens whole_word l) (whole_of j (numbers_of (after whole_
 
 -- the first line: one number, which is right, and the rest by it
 abbrev pub count_says : (ℕ → Bool) → (ℕ → Sheet) → Option (List ℕ) → Sheet
-count_says isRight rest none = bad 1
-count_says isRight rest (some []) = bad 1
-count_says isRight rest (some (n ∷ [])) = cond (isRight n) (rest n) (bad 1)
-count_says isRight rest (some (n ∷ m ∷ ns)) = bad 1
+count_says is_right rest none = bad 1
+count_says is_right rest (some []) = bad 1
+count_says is_right rest (some (n ∷ [])) = cond (is_right n) (rest n) (bad 1)
+count_says is_right rest (some (n ∷ m ∷ ns)) = bad 1
 
 -- behind the PATH lines, one SPARE line for each cart that is left
 abbrev pub spares_say : Job → List Path → ℕ → Lines → Sheet

@@ -58,8 +58,8 @@ pub record SoFar (j : Job) (order s : List ℕ) (g : Grid) (i stamp : ℕ) : Typ
 not_end : (l : Link Point) → l ≡ off → l ≡ end → ⊥
 not_end l e f = nope (cc)
 
-module _ {j : Job} {targets : List ℕ} {calls : ℕ} {near begin due shut cartOn order s₀ : List ℕ} {g : Grid}
-    (b : Begun j targets calls near begin due shut cartOn order s₀ g) where
+module _ {j : Job} {targets : List ℕ} {calls : ℕ} {near begin due shut cart_on order s₀ : List ℕ} {g : Grid}
+    (b : Begun j targets calls near begin due shut cart_on order s₀ g) where
   abbrev n : ℕ
   n = length j.calls
 
@@ -167,7 +167,7 @@ module _ {j : Job} {targets : List ℕ} {calls : ℕ} {near begin due shut cartO
                 absurd (later (rw here at a))
 
         -- Its search may start.
-        pub call_serving : {hint : List ℕ} → length hint ≡ max_cells → Serving j near begin due shut cartOn hint s g (point p g.top) stamp (eqb i 0)
+        pub call_serving : {hint : List ℕ} → length hint ≡ max_cells → Serving j near begin due shut cart_on hint s g (point p g.top) stamp (eqb i 0)
         call_serving h = record {
           search = record { tables = b.tables; holds = v.holds; hints = h; known = known; target = is-target; idle = free };
           small = omega (arith, v.high, few);

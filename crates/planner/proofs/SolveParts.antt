@@ -38,14 +38,14 @@ roomy j s e room =
 
 module _ (a : arrays.Job) where
   -- Serving the calls can begin.
-  pub begun : {near begin due shut cartOn order s : List ℕ} {g : Grid} → Tables (job_of a) near begin due shut cartOn → Wiped (job_of a) order s g
-      → Begun (job_of a) a.targets a.calls near begin due shut cartOn order s g
+  pub begun : {near begin due shut cart_on order s : List ℕ} {g : Grid} → Tables (job_of a) near begin due shut cart_on → Wiped (job_of a) order s g
+      → Begun (job_of a) a.targets a.calls near begin due shut cart_on order s g
   begun tables h =
       record { ready = h.ready; listed = calls_of a; tables = tables; ordered = h.ordered; grid = h.grid; room = h.room; blank = h.blank }
 
-  module _ {cartOn order : List ℕ} {g : Grid} {s : List ℕ} {r : Served} (f : Finished (job_of a) cartOn order g s r) where
+  module _ {cart_on order : List ℕ} {g : Grid} {s : List ℕ} {r : Served} (f : Finished (job_of a) cart_on order g s r) where
     -- All calls are served.
-    pub full : {m : ℕ} → r ≡ Yes m → AllServed (job_of a) cartOn order g s
+    pub full : {m : ℕ} → r ≡ Yes m → AllServed (job_of a) cart_on order g s
     full {m} e = let all : ServedAll (job_of a) s (Yes m) = rw e at f.served in record { carts = f.carts; ordered = f.ordered; holds = f.holds; full = all }
 
     -- One cannot be.
@@ -62,7 +62,7 @@ module _ (a : arrays.Job) where
         }
 
   -- The carts that are left are given lines, then the paths are read off, then the walks.
-  module _ {cartOn order : List ℕ} {g : Grid} {s : List ℕ} (h : AllServed (job_of a) cartOn order g s) where
+  module _ {cart_on order : List ℕ} {g : Grid} {s : List ℕ} (h : AllServed (job_of a) cart_on order g s) where
     starts_of : Starts (job_of a) a.starts a.carts
     starts_of = record { counted = carts_count a; cells = cart_at a }
 
@@ -70,7 +70,7 @@ module _ (a : arrays.Job) where
     unkept = record { listed = starts_of; holds = h.holds; full = h.full }
 
     module _ {s' : List ℕ} (k : AllKept (job_of a) g s') where
-      pub kept_flow : FullFlow (job_of a) a.targets a.calls cartOn order g s'
+      pub kept_flow : FullFlow (job_of a) a.targets a.calls cart_on order g s'
       kept_flow = record { listed = calls_of a; carts = h.carts; ordered = h.ordered; kept = k }
 
       pub paths_written : {first lasts rows : List ℕ} → PathsTraced (job_of a) order s' first lasts rows a.calls

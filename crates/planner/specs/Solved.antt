@@ -29,10 +29,10 @@ pub record Wiped (j : Job) (order s : List ℕ) (g : Grid) : Type 0 where
   pub blank : Blank g s
 
 -- The array of cells, the tables and the order are the job's. The store has room for it, and no node is used or marked.
-pub record Begun (j : Job) (targets : List ℕ) (calls : ℕ) (near begin due shut cartOn order s : List ℕ) (g : Grid) : Type 0 where
+pub record Begun (j : Job) (targets : List ℕ) (calls : ℕ) (near begin due shut cart_on order s : List ℕ) (g : Grid) : Type 0 where
   pub ready : Ready j
   pub listed : Calls j targets calls
-  pub tables : Tables j near begin due shut cartOn
+  pub tables : Tables j near begin due shut cart_on
   pub ordered : Order j order
   pub grid : g ≡ grid_of j
   pub room : Spacious g s
@@ -44,15 +44,15 @@ ServedAll j s (Yes n) = (q : Call) → In q j.calls → on_link j s (node_of j q
 ServedAll j s (No n) = (x : Point) × Stuck j (back_link j s) (on_link j s) (is_marked j s n) x
 
 -- The calls were served, as far as they can be.
-pub record Finished (j : Job) (cartOn order : List ℕ) (g : Grid) (s : List ℕ) (r : Served) : Type 0 where
-  pub carts : CartOn j cartOn
+pub record Finished (j : Job) (cart_on order : List ℕ) (g : Grid) (s : List ℕ) (r : Served) : Type 0 where
+  pub carts : CartOn j cart_on
   pub ordered : Order j order
   pub holds : Holds j g s
   pub served : ServedAll j s r
 
 -- Every call was.
-pub record AllServed (j : Job) (cartOn order : List ℕ) (g : Grid) (s : List ℕ) : Type 0 where
-  pub carts : CartOn j cartOn
+pub record AllServed (j : Job) (cart_on order : List ℕ) (g : Grid) (s : List ℕ) : Type 0 where
+  pub carts : CartOn j cart_on
   pub ordered : Order j order
   pub holds : Holds j g s
   pub full : (q : Call) → In q j.calls → on_link j s (node_of j q) ≡ end

@@ -12,7 +12,7 @@ use borrow.Author.Tests.{eqb-true, eq-eqb}
 use Rattle.model.specs.Limits.{max_cells}
 use Rattle.model.specs.Job as model
 use Rattle.model.specs.Job.{track, call}
-use Rattle.model.specs.ReadJob.{Kind, floorLine, trackLine, cartLine, call_line, no_job, add, leads, member}
+use Rattle.model.specs.ReadJob.{Kind, floor_line, track_line, cartLine, call_line, no_job, add, leads, member}
 use Rattle.model.proofs.Basics.{and_left, and_right, and_both, nope}
 use Rattle.job.specs.Bits.{bit_at, with_bit, pair_at}
 use Rattle.reader.specs.Lines.{Small, cart_row, call_row, table_size, place_of, noted, Noted}
@@ -27,14 +27,14 @@ noted_zeros n = record {
 }
 
 pub place_small : (k : Kind) (a b : ℕ) → Small k a b → place_of k a b < table_size
-place_small floorLine a b s = omega arith
-place_small trackLine a b s = omega (arith, pair_small a b s.0 s.1)
+place_small floor_line a b s = omega arith
+place_small track_line a b s = omega (arith, pair_small a b s.0 s.1)
 place_small cartLine a b s = omega arith
 place_small (call_line q) a b s = omega arith
 
 pub noted_length : (seen : List ℕ) (k : Kind) (a b : ℕ) → length (noted seen k a b) ≡ length seen
-noted_length seen floorLine a b = refl
-noted_length seen trackLine a b = bits_length seen (pair_at a b)
+noted_length seen floor_line a b = refl
+noted_length seen track_line a b = bits_length seen (pair_at a b)
 noted_length seen cartLine a b = bits_length seen (cart_row + a)
 noted_length seen (call_line q) a b = bits_length seen (call_row + a)
 
@@ -117,8 +117,8 @@ module _ (seen : List ℕ) (j : model.Job) (long : 8 * length seen ≡ table_siz
       (m.tracks a b h k))
 
   pub noted_add : (k : Kind) (a b : ℕ) → Small k a b → Noted (noted seen k a b) (add j k a b)
-  noted_add floorLine u v s = record { tracks = m.tracks; carts = m.carts; calls = m.calls }
-  noted_add trackLine u v (s, t) = record {
+  noted_add floor_line u v s = record { tracks = m.tracks; carts = m.carts; calls = m.calls }
+  noted_add track_line u v (s, t) = record {
     tracks = λ a b h k. told_track u v a b s t h k;
     carts = λ a h. kept (pair_at u v) (cart_row + a) (omega (arith, pair_small u v s t)) (λ e. omega (arith, pair_small u v s t)) (m.carts a h);
     calls = λ a h. kept (pair_at u v) (call_row + a) (omega (arith, pair_small u v s t)) (λ e. omega (arith, pair_small u v s t)) (m.calls a h);

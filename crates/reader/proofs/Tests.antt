@@ -17,7 +17,7 @@ use Rattle.model.specs.Limits.{max_cells, max_steps}
 use Rattle.model.specs.Job as model
 use Rattle.model.specs.Job.{CallKind, lift, bay}
 use Rattle.model.specs.ReadJob as read
-use Rattle.model.specs.ReadJob.{floorLine, trackLine, cartLine, call_line, is_empty, may_follow, in_range}
+use Rattle.model.specs.ReadJob.{floor_line, track_line, cartLine, call_line, is_empty, may_follow, in_range}
 use Rattle.model.proofs.Basics.{and_left, and_right}
 use Rattle.reader.specs.declared.fill.Kind.{Kind}
 use Rattle.reader.specs.declared.fill.Kind.TheVariants.{Floor, Track, Cart, Call, Bay}
@@ -41,15 +41,15 @@ empty_count (a ∷ l) = sym (ne_eqb (suc (length l)) 0 (λ e. omega arith))
 
 -- A job's tests by its counts.
 module _ (c : Counts) (j : model.Job) (k : SameCounts c j) where
-  pub tracks_follow : may_follow j trackLine ≡ (ltb 0 c.cells && eqb c.carts 0 && eqb c.calls 0)
+  pub tracks_follow : may_follow j track_line ≡ (ltb 0 c.cells && eqb c.carts 0 && eqb c.calls 0)
   tracks_follow = simp (k.cells, k.carts, k.calls, empty_count)
 
   pub carts_follow : may_follow j cartLine ≡ (ltb 0 c.cells && eqb c.calls 0)
   carts_follow = simp (k.cells, k.calls, empty_count)
 
 pub range_small : (j : model.Job) (k : read.Kind) (a b : ℕ) → j.cells ≤ max_cells → in_range j k a b ≡ true → Small k a b
-range_small j floorLine a b h e = leb-true a max_cells (and_right (ltb 0 a) (leb a max_cells) e)
-range_small j trackLine a b h e =
+range_small j floor_line a b h e = leb-true a max_cells (and_right (ltb 0 a) (leb a max_cells) e)
+range_small j track_line a b h e =
     let l = ltb-true a j.cells (and_left (ltb a j.cells) (ltb b j.cells) e) in
     let r = ltb-true b j.cells (and_right (ltb a j.cells) (ltb b j.cells) e) in
     (omega arith, omega arith)

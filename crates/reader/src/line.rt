@@ -4,7 +4,7 @@ ghost use Rattle.std.proofs.Math.Option.{some};
 ghost use Rattle.model.specs.Limits.{max_cells};
 ghost use Rattle.model.specs.Job as model;
 ghost use Rattle.model.specs.Text.{fields_of, scaled_of};
-ghost use Rattle.model.specs.ReadJob.{trackLine, may_follow, in_range, has_room, is_new, field_count, numbers_say, fields_say, line_says};
+ghost use Rattle.model.specs.ReadJob.{track_line, may_follow, in_range, has_room, is_new, field_count, numbers_say, fields_say, line_says};
 ghost use Rattle.reader.specs.Lines.{kind_of, answer_to, said_by, word_of, first_fault, numbers_given, SameCounts, Noted, Small, passing, GoesBy, Asks, Sound, table_size};
 
 use crate::fill;
@@ -139,7 +139,7 @@ fn has_room(kind: Kind, counts: Counts) -> bool
 // No track joins a and b yet, either way round, and they are two cells.
 fn is_new_track(seen: &[u8], a: usize, b: usize) -> bool
     requires { (a < max_cells) × (b < max_cells) × (8 * length seen.now ≡ table_size) }
-    ensures { (j : model.Job) → Noted seen.now j → result ≡ is_new j trackLine a b }
+    ensures { (j : model.Job) → Noted seen.now j → result ≡ is_new j track_line a b }
 {
     if a == b {
         return false;

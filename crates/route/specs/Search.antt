@@ -23,8 +23,8 @@ abbrev pub Fresh : Job → List ℕ → ℕ → Type 0
 Fresh j s stamp = (v : ℕ) → v < nodes j → mark_at (grid_of j) s v ≡ stamp → ⊥
 
 -- The tables are the job's, and the store holds a flow that does not serve the call of the node x yet.
-pub record Searching (j : Job) (near begin due shut cartOn hint s : List ℕ) (g : Grid) (x : Point) : Type 0 where
-  pub tables : Tables j near begin due shut cartOn
+pub record Searching (j : Job) (near begin due shut cart_on hint s : List ℕ) (g : Grid) (x : Point) : Type 0 where
+  pub tables : Tables j near begin due shut cart_on
   pub holds : Holds j g s
   pub hints : length hint ≡ max_cells
   pub known : Inside j x

@@ -170,10 +170,10 @@ module _ {l : List ℕ} {a b next : ℕ} (two : Found (choke_word ++ (9 ∷ []))
 
 -- The first line: by its only number.
 abbrev count_only : (ℕ → Bool) → (ℕ → Sheet) → Option ℕ → Sheet
-count_only isRight rest = on_only (bad 1) (λ n. cond (isRight n) (rest n) (bad 1))
+count_only is_right rest = on_only (bad 1) (λ n. cond (is_right n) (rest n) (bad 1))
 
-count-only : (isRight : ℕ → Bool) (rest : ℕ → Sheet) (o : Option (List ℕ)) → count_says isRight rest o ≡ count_only isRight rest (only_of o)
-count-only isRight rest = by_only (count_says isRight rest) (bad 1) _ refl refl (λ n. refl) (λ n m ns. refl)
+count-only : (is_right : ℕ → Bool) (rest : ℕ → Sheet) (o : Option (List ℕ)) → count_says is_right rest o ≡ count_only is_right rest (only_of o)
+count-only is_right rest = by_only (count_says is_right rest) (bad 1) _ refl refl (λ n. refl) (λ n m ns. refl)
 
 cannot_goes : (j : Job) (ls : Lines) (m : Option ℕ) → head_goes j (cannot_head (length j.calls) m) ls
     ≡ count_only (λ n. ltb n (length j.calls)) (λ n. rest_says bad (choke_line j) cannot [] n 2 ls) m

@@ -31,13 +31,13 @@ pub entry_of-entry-requires : goal.entry_of-entry-requires
 entry_of-entry-requires c = let k = c.loop-at.invariant in (k.cells, k.table)
 
 -- The job so far, at the head of the loop.
-abbrev jobAt : After-entry_of-entry → Job
-jobAt m =
+abbrev job_at : After-entry_of-entry → Job
+job_at m =
     held m.loop-at.counts m.loop-at.from m.loop-at.to m.loop-at.starts m.loop-at.kinds m.loop-at.targets m.loop-at.deadlines
 
 -- What the entry says is what the line says.
-line_said : (m : After-entry_of-entry) → said_by (job_of (jobAt m)) m.entry_of-entry.result ≡ line_says scaled_of (job_of (jobAt m)) m.next-row.result.now
-line_said m = let k = m.loop-at.invariant in m.entry_of-entry.ensures.1 (job_of (jobAt m)) (so_far_counts k) k.notes
+line_said : (m : After-entry_of-entry) → said_by (job_of (job_at m)) m.entry_of-entry.result ≡ line_says scaled_of (job_of (job_at m)) m.next-row.result.now
+line_said m = let k = m.loop-at.invariant in m.entry_of-entry.ensures.1 (job_of (job_at m)) (so_far_counts k) k.notes
 
 pub returns-in_default : goal.returns-in_default
 returns-in_default c =
