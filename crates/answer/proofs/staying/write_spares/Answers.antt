@@ -23,12 +23,12 @@ pub loop-k-init : goal.loop-k-init
 loop-k-init c = (omega arith, calls_few c.requires.2, λ j o g. rides_none g)
 
 -- The rides so far, of the job that there is.
-abbrev SoFar : At-loop-k → Type 0
-SoFar c =
+abbrev SparesSoFar : At-loop-k → Type 0
+SparesSoFar c =
     RidesTraced c.requires.0 c.requires.1 c.args.store.now c.list_spares.new.first c.loop-k.lasts c.loop-k.rows c.args.calls
     c.loop-k.k
 
-so_far : (c : At-loop-k) → SoFar c
+so_far : (c : At-loop-k) → SparesSoFar c
 so_far c = c.loop-k.invariant.2 c.requires.0 c.requires.1 (relisted c.requires.2 c.list_spares.ensures)
 
 slot : (c : In-loop-k) → c.loop-k.k < max_carts
