@@ -11,9 +11,6 @@ use Rattle.cartfloor.proofs.Verdicts.{turned, let_through, ready, cleared, back_
 use Rattle.cartfloor.proofs.check.cartfloor_check.Goals as goal
 use Rattle.cartfloor.proofs.check.cartfloor_check.Goals.{In_default}
 
-pub packed-requires : goal.packed-requires
-packed-requires c = let b = subst Bounded c.in-Refused.is c.admit-reading.ensures.bounded in omega (arith, b.1)
-
 pub returns-in-Refused : goal.returns-in-Refused
 returns-in-Refused c =
     let a = c.args in

@@ -1,7 +1,6 @@
 -- `cartfloor_map` meets its contract: a map that is not in the form is refused at its first bad line, and `write_floor` gives the rest. Assumes nothing.
 use mathlib.Core.Path.{◌≡◌, ap, sym, subst}
 use Prim.Native.Nat.{◌+◌, ◌≤◌}
-use native.Mathlib.Omega.{arith}
 use lib.ListN.{length}
 use borrow.Author.Rules.{rules}
 use Rattle.model.specs.Limits.{max_side}
@@ -17,9 +16,6 @@ is_bad : (c : In-Bad) → (read_map c.args.map.now ≡ bad c.in-Bad.line) × (c.
 is_bad c =
     let r = c.read_map-drawing in
     subst (Draws (read_map c.args.map.now) r.new.places) c.in-Bad.is r.ensures
-
-pub packed-requires : goal.packed-requires
-packed-requires c = omega (arith, (is_bad (goal.at.packed-requires c).In-Bad).1)
 
 pub returns-in-Bad : goal.returns-in-Bad
 returns-in-Bad c =

@@ -1,10 +1,9 @@
 -- `write_floor` meets its contract, for every map with these cells at these places: too few cells, too many, a text too long, or the text of the tracks that were found.
 -- Assumes nothing.
-use mathlib.Core.Path.{refl, sym, ◌∙◌}
+use mathlib.Core.Path.{sym, ◌∙◌}
 use mathlib.Core.Logic.{inl, inr}
 use native.Mathlib.Omega.{arith}
 use native.Mathlib.Numerals.{add-one}
-use borrow.Author.Rules.{rules}
 use Rattle.cartfloor.proofs.MapVerdicts.{no_floor, too_long, written}
 use Rattle.cartfloor.proofs.map.write_floor.Goals as goal
 
@@ -14,9 +13,6 @@ returns-then-cells-eq0 c m e placed = no_floor m c.args.text.now (inl (sym e ∙
 pub returns-then-cells-gt-CELLS : goal.returns-then-cells-gt-CELLS
 returns-then-cells-gt-CELLS c m e placed = no_floor m c.args.text.now (inr (omega arith)) c.packed-then-cells-gt-CELLS.result c.packed-then-cells-gt-CELLS.ensures
 
-pub find_tracks-tracks-requires : goal.find_tracks-tracks-requires
-find_tracks-tracks-requires c = (search rules, omega arith, omega arith, λ k h. c.requires.2 k h (omega arith), refl, refl)
-
 pub returns-then-text-n : goal.returns-then-text-n
 returns-then-text-n c m e placed =
     let a = c.args in
@@ -24,9 +20,6 @@ returns-then-text-n c m e placed =
     let n = c.lines_length-n in
     let t = f.ensures.tracks m a.width (add-one a.width) e placed in
     too_long m a.text.now a.cells _ n.result e t n.ensures.0 (omega arith) (omega arith) (omega arith) c.packed-then-text-n.result c.packed-then-text-n.ensures
-
-pub overflow_mul-result : goal.overflow_mul-result
-overflow_mul-result c = record { fits = omega (arith, c.lines_length-n.ensures.1) }
 
 pub returns : goal.returns
 returns c m e placed =

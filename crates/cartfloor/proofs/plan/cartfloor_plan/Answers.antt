@@ -1,7 +1,7 @@
 -- `plan::cartfloor_plan` meets the planner's contract. Each return is a case of the verdict: the text or the store turned back, the sheet's buffer too
 -- short, the job answered; only the last writes. Assumes nothing.
 use Prim.Native.Nat.{◌≤◌}
-use mathlib.Core.Path.{◌≡◌, ap, subst, ◌∙◌}
+use mathlib.Core.Path.{◌≡◌, ap, ◌∙◌}
 use native.Mathlib.Omega.{arith}
 use lib.ListN.{length}
 use Rattle.model.specs.declared.answer.Answer.TheVariants.{SheetTooShort}
@@ -9,13 +9,9 @@ use Rattle.model.specs.Job.{sheet_least}
 use Rattle.model.specs.ReadJob.{accepted}
 use Rattle.model.specs.Promises.{with_room, check_verdict}
 use Rattle.job.specs.Arrays.{job_of}
-use Rattle.reader.specs.Reading.{Bounded}
 use Rattle.cartfloor.proofs.Verdicts.{turned, let_through, stored, ready, short_room, long_room, cleared, back_planned, written_planned}
 use Rattle.cartfloor.proofs.plan.cartfloor_plan.Goals as goal
 use Rattle.cartfloor.proofs.plan.cartfloor_plan.Goals.{Else-sheet-sheet_least, In_default}
-
-pub packed-requires : goal.packed-requires
-packed-requires c = let b = subst Bounded c.in-Refused.is c.admit-reading.ensures.bounded in omega (arith, b.1)
 
 pub returns-in-Refused : goal.returns-in-Refused
 returns-in-Refused c =
@@ -26,9 +22,6 @@ returns-in-Refused c =
 -- The text and the store pass.
 passed : (c : In_default) → check_verdict c.args.text.now (length c.args.store.now) ≡ accepted (job_of c.admit-reading.result.job)
 passed c = let_through _ _ c.admit-reading.result c.admit-reading.ensures c.in_default.is
-
-pub sheet_least-requires : goal.sheet_least-requires
-sheet_least-requires c = c.admit-reading.ensures.sized
 
 pub returns-then-sheet-sheet_least : goal.returns-then-sheet-sheet_least
 returns-then-sheet-sheet_least c =

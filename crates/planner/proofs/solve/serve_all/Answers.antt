@@ -3,7 +3,7 @@
 use Rattle.planner.specs.Solved.{Begun}
 use Rattle.model.specs.Job.{Job}
 use Rattle.route.specs.Serve.{Serving}
-use Rattle.planner.proofs.SolveLaws.{so_far_none, few, aims, call_known, call_cell, call_serving, call_served, call_failed, all_served}
+use Rattle.planner.proofs.SolveLaws.{so_far_none, aims, call_cell, call_serving, call_served, call_failed, all_served}
 use mathlib.Core.Path.{◌∙◌, refl}
 use native.Mathlib.Omega.{arith}
 use lib.Dec.{eqb}
@@ -14,12 +14,6 @@ use Rattle.planner.proofs.solve.serve_all.Goals.{After-aim-far}
 
 pub loop-i-init : goal.loop-i-init
 loop-i-init c = (refl, search rules, omega arith, λ j b. so_far_none b)
-
-pub bounds-order-i : goal.bounds-order-i
-bounds-order-i c = let b = c.requires.1 in omega (arith, b.ordered.size, few b)
-
-pub bounds-targets-q : goal.bounds-targets-q
-bounds-targets-q c = let b = c.requires.1 in omega (arith, call_known b c.loop-i-test.true, few b, c.wide-q.ensures.0)
 
 pub aim-far-requires : goal.aim-far-requires
 aim-far-requires c =
@@ -47,9 +41,6 @@ serving c j b =
 pub serve-served-requires : goal.serve-served-requires
 serve-served-requires c = let (j, b) = c.requires in (j, serving (goal.at.serve-served-requires c).After-aim-far j b)
 
-pub shape_of-store-in_default : goal.shape_of-store-in_default
-shape_of-store-in_default c = c.serve-served.ensures.0 ∙ c.loop-i.invariant.0
-
 pub returns-in_default : goal.returns-in_default
 returns-in_default c =
     let d = c.serve-served in (
@@ -58,12 +49,6 @@ returns-in_default c =
           (c.loop-i.invariant.3 j b)
           d.result c.in_default.is (d.ensures.1 j (serving (goal.at.returns-in_default c).After-aim-far j b)),
     )
-
-pub overflow_add-i : goal.overflow_add-i
-overflow_add-i c = omega (arith, c.loop-i-test.true, few c.requires.1)
-
-pub loop-i-smaller : goal.loop-i-smaller
-loop-i-smaller c = omega (arith, c.loop-i-test.true)
 
 pub loop-i-preserved : goal.loop-i-preserved
 loop-i-preserved c =
@@ -75,9 +60,6 @@ loop-i-preserved c =
           (c.loop-i.invariant.3 j b)
           d.result c.in-Yes.is (d.ensures.1 j (serving (goal.at.loop-i-preserved c).After-aim-far j b)),
     )
-
-pub shape_of-store : goal.shape_of-store
-shape_of-store c = c.loop-i.invariant.0
 
 pub returns : goal.returns
 returns c = let l = c.loop-i in (l.invariant.0, λ j b. ((l.invariant.3 j b).holds, all_served b (omega arith) (l.invariant.3 j b)))

