@@ -170,9 +170,9 @@ along_turn {places} {cells} {stride} {from} {to} {k} {j} {t} a b {beside} er {i}
         let u : track_to m r c r (suc c) ≡ track_if beside k (k + 1) = track_stood h r c k (k + 1) r (suc c) beside f x (λ g. number_cell m r c e ∙ omega arith) er' in
         let v : track_to m r c (suc r) c ≡ track_if below k i =
         track_stood h r c k i (suc r) c below f (omega arith) (below_is h r c k i e f (before m w h) reached.there) eb' in
-        let here-tracks : cell_tracks m k ≡ track_if beside k (k + 1) ++ track_if below k i =
+        let here_tracks : cell_tracks m k ≡ track_if beside k (k + 1) ++ track_if below k i =
         ap (cell_tracks m) (sym f) ∙ cell-tracks m r c e ∙ rw (e, u, v) in
-        noted.tracks ∙ rw (a.tracks m w h, ← here-tracks, add-one)
+        noted.tracks ∙ rw (a.tracks m w h, ← here_tracks, add-one)
 
 -- What was found to stand somewhere is a cell.
 pub stood_few : (n cells : ℕ) (t u : Bool) → cells ≤ max_cells → t ≡ (ltb n cells && u) → t ≡ true → n < max_cells

@@ -11,7 +11,7 @@ use borrow.Author.Tests.{ltb-true}
 use Rattle.model.specs.Limits.{max_tracks, max_carts, max_calls}
 use Rattle.model.specs.Lists.{In}
 use Rattle.model.specs.Job.{Track, CallKind, lift, Call, track, call, track_of, cart_cell, call_of, latest, horizon}
-use Rattle.model.specs.ReadJob.{track_line, cartLine, call_line, has_room}
+use Rattle.model.specs.ReadJob.{track_line, cart_line, call_line, has_room}
 use Rattle.job.specs.declared.state.Job.{Job}
 use Rattle.job.specs.Arrays.{up_to, track_at, call_at, job_of}
 use Rattle.job.proofs.UpTo.{up_count, up_at, in_up}
@@ -50,7 +50,7 @@ module _ (s : Job) where
   pub tracks_room : has_room (job_of s) track_line ≡ true → s.tracks < max_tracks
   tracks_room e = rw tracks_count at (ltb-true (length (job_of s).tracks) max_tracks e)
 
-  pub carts_room : has_room (job_of s) cartLine ≡ true → s.carts < max_carts
+  pub carts_room : has_room (job_of s) cart_line ≡ true → s.carts < max_carts
   carts_room e = rw carts_count at (ltb-true (length (job_of s).carts) max_carts e)
 
   pub calls_room : (k : CallKind) → has_room (job_of s) (call_line k) ≡ true → s.calls < max_calls

@@ -11,7 +11,7 @@ use Rattle.model.specs.declared.answer.Answer.TheVariants.{BadLine, NoNumber, Te
 use Rattle.model.specs.Limits.{max_text}
 use Rattle.model.specs.Job.{Job, lift, bay}
 use Rattle.model.specs.Text.{Lines, done, cut, more, lines_of, number_of, scaled_of, and_number, numbers_by, opens, after, floor_word, track_word, cart_word, call_word, bay_word}
-use Rattle.model.specs.ReadJob.{refused, accepted, Kind, floor_line, track_line, cartLine, call_line, no_job, may_follow, field_count, Said, wrong, right}
+use Rattle.model.specs.ReadJob.{refused, accepted, Kind, floor_line, track_line, cart_line, call_line, no_job, may_follow, field_count, Said, wrong, right}
 use Rattle.model.specs.ReadJob.{numbers_say, fields_say, line_says, go_on, lines_say, read_by, read_job}
 use Rattle.model.proofs.Basics.{nope}
 use Rattle.model.proofs.Digits.{number_scaled}
@@ -44,13 +44,13 @@ module _ (first second : List ℕ → Option ℕ) (keeps : (n : ℕ) (f : List �
       say number k word = fields_say number j k (after word l)
 
       says : (List ℕ → Option ℕ) → Bool → Bool → Bool → Bool → Bool → Said
-      says number t u v w x = cond t (say number floor_line floor_word) (cond u (say number track_line track_word) (cond v (say number cartLine cart_word)
+      says number t u v w x = cond t (say number floor_line floor_word) (cond u (say number track_line track_word) (cond v (say number cart_line cart_word)
           (cond w (say number (call_line lift) call_word) (cond x (say number (call_line bay) bay_word) (wrong BadLine)))))
 
       go : (t u v w x : Bool) → (says first t u v w x ≡ wrong NoNumber → ⊥) → says second t u v w x ≡ says first t u v w x
       go true u v w x = fields_kept j floor_line (after floor_word l)
       go false true v w x = fields_kept j track_line (after track_word l)
-      go false false true w x = fields_kept j cartLine (after cart_word l)
+      go false false true w x = fields_kept j cart_line (after cart_word l)
       go false false false true x = fields_kept j (call_line lift) (after call_word l)
       go false false false false true = fields_kept j (call_line bay) (after bay_word l)
       go false false false false false = λ h. refl

@@ -15,7 +15,7 @@ use Rattle.model.specs.Limits.{max_cells}
 use Rattle.model.specs.Job.{Job, track, call}
 use Rattle.model.specs.Text.{Lines, done, cut, more, on_first, lines_of, on_field, fields_of, is_mark, number_of, digits_of, behind_digits, without_plus, one_digit, power_of}
 use Rattle.model.specs.Text.{scaled, scaled_of, and_number, numbers_by, after}
-use Rattle.model.specs.ReadJob.{refused, accepted, Kind, floor_line, track_line, cartLine, call_line, no_job, may_follow, in_range, field_count, add, Said, wrong, right, line_says, go_on, lines_say}
+use Rattle.model.specs.ReadJob.{refused, accepted, Kind, floor_line, track_line, cart_line, call_line, no_job, may_follow, in_range, field_count, add, Said, wrong, right, line_says, go_on, lines_say}
 use Rattle.model.proofs.Basics.{nope, and_left}
 use Rattle.model.proofs.Digits.{both_long}
 use Rattle.model.proofs.Words.{opens_long}
@@ -106,7 +106,7 @@ added_weigh j floor_line a b m r =
     let now : floor_most a ≡ line_most floor_line = ap (λ t. cond t 0 (line_most floor_line)) (ne_eqb a 0 (λ z. omega arith)) in
     omega arith
 added_weigh j track_line a b m r = omega (arith, length-append j.tracks (track a b ∷ []))
-added_weigh j cartLine a b m r = omega (arith, length-append j.carts (a ∷ []))
+added_weigh j cart_line a b m r = omega (arith, length-append j.carts (a ∷ []))
 added_weigh j (call_line k) a b m r = omega (arith, length-append j.calls (call k a b ∷ []))
 
 -- A text of n bytes has these lines, if none of them is cut.

@@ -192,7 +192,7 @@ head_joined word b l s t n e f g = e ∙ ap (λ x. x ++ (10 ∷ s)) f ∙ ap (λ
 
 -- Lines of one kind, and what follows them.
 module _ {A : Type 0} (say : List ℕ → Option A) (word numbers : A → List ℕ) (Good : A → Type 0)
-    (back : (l : List ℕ) (a : A) → say l ≡ some a → (l ≡ word a ++ fields (numbers a)) × Good a) (out : Sheet) (not-bad : (n : ℕ) → bad n ≡ out → ⊥) where
+    (back : (l : List ℕ) (a : A) → say l ≡ some a → (l ≡ word a ++ fields (numbers a)) × Good a) (out : Sheet) (not_bad : (n : ℕ) → bad n ≡ out → ⊥) where
   -- the members that were said, and the lines and bytes behind theirs
   record LinesBack (on : List A → ℕ → Lines → Sheet) (got : List A) (k : ℕ) (b : List ℕ) : Type 0 where
     l : List A
@@ -208,14 +208,14 @@ module _ {A : Type 0} (say : List ℕ → Option A) (word numbers : A → List �
   lines_back : (on : List A → ℕ → Lines → Sheet) (got : List A) (k n : ℕ) (ls : Lines) (b : List ℕ) → lines_of b ≡ ls → lines_due bad say on got k n ls ≡ out → LinesBack on got k b
   lines_back on got zero n ls b q e =
       record { l = []; size = refl; good = λ a h. absurd h; n = n; ls = ls; s = b; text = refl; behind = q; says = ap (λ x. on x n ls) (append-nil got) ∙ e }
-  lines_back on got (suc k) n done b q e = absurd (not-bad n e)
-  lines_back on got (suc k) n cut b q e = absurd (not-bad n e)
+  lines_back on got (suc k) n done b q e = absurd (not_bad n e)
+  lines_back on got (suc k) n cut b q e = absurd (not_bad n e)
   lines_back on got (suc k) n (more l ls) b q e = go (say l) refl e (lines_more b l ls q) (λ g s. lines_back on g k (n + 1) ls s)
     where
       go : (o : Option A) → say l ≡ o → or_bad bad n o (λ a. lines_due bad say on (got ++ (a ∷ [])) k (n + 1) ls) ≡ out
           → (s : List ℕ) × (b ≡ l ++ (10 ∷ s)) × (lines_of s ≡ ls)
           → ((g : List A) (s : List ℕ) → lines_of s ≡ ls → lines_due bad say on g k (n + 1) ls ≡ out → LinesBack on g k s) → LinesBack on got (suc k) b
-      go none f e m ih = absurd (not-bad n e)
+      go none f e m ih = absurd (not_bad n e)
       go (some a) f e (s, g, h) ih =
           let r = ih (got ++ (a ∷ [])) s h e in
           let (lw, good) = back l a f in
@@ -248,18 +248,18 @@ module _ {A : Type 0} (say : List ℕ → Option A) (word numbers : A → List �
     where
       go : (r : LinesBack (λ x. no_more bad (all x)) [] k b) (ls : Lines) → r.ls ≡ ls → no_more bad (all r.l) r.n ls ≡ out → RestBack all k b
       go r done e f = (r.l, r.size, r.text ∙ ap (λ x. lines_text word numbers r.l ++ x) (lines_done r.s (r.behind ∙ e)) ∙ append-nil (lines_text word numbers r.l), r.good, f)
-      go r cut e f = absurd (not-bad r.n f)
-      go r (more l ls) e f = absurd (not-bad r.n f)
+      go r cut e f = absurd (not_bad r.n f)
+      go r (more l ls) e f = absurd (not_bad r.n f)
 
   -- Where neither a bad line nor what follows gives it, nothing does.
   lines_not : (on : List A → ℕ → Lines → Sheet) → ((l : List A) (n : ℕ) (ls : Lines) → on l n ls ≡ out → ⊥) → (got : List A) (k n : ℕ) (ls : Lines) → lines_due bad say on got k n ls ≡ out → ⊥
   lines_not on not got zero n ls e = not got n ls e
-  lines_not on not got (suc k) n done e = not-bad n e
-  lines_not on not got (suc k) n cut e = not-bad n e
+  lines_not on not got (suc k) n done e = not_bad n e
+  lines_not on not got (suc k) n cut e = not_bad n e
   lines_not on not got (suc k) n (more l ls) e = go (say l) e (λ g. lines_not on not g k (n + 1) ls)
     where
       go : (o : Option A) → or_bad bad n o (λ a. lines_due bad say on (got ++ (a ∷ [])) k (n + 1) ls) ≡ out → ((g : List A) → lines_due bad say on g k (n + 1) ls ≡ out → ⊥) → ⊥
-      go none e ih = not-bad n e
+      go none e ih = not_bad n e
       go (some a) e ih = ih (got ++ (a ∷ [])) e
 
   rest_not : (all : List A → Sheet) → ((l : List A) → all l ≡ out → ⊥) → (k n : ℕ) (ls : Lines) → rest_says bad say all [] k n ls ≡ out → ⊥
@@ -267,8 +267,8 @@ module _ {A : Type 0} (say : List ℕ → Option A) (word numbers : A → List �
     where
       over : (l : List A) (n : ℕ) (ls : Lines) → no_more bad (all l) n ls ≡ out → ⊥
       over l n done e = not l e
-      over l n cut e = not-bad n e
-      over l n (more m ms) e = not-bad n e
+      over l n cut e = not_bad n e
+      over l n (more m ms) e = not_bad n e
 
 plan_not_bad : (n : ℕ) (ps : List Path) (ss : List Ride) → bad n ≡ plan ps ss → ⊥
 plan_not_bad n ps ss e = nope (cc)
@@ -366,11 +366,11 @@ module _ (j : Job) where
 
   plans_back : (b l : List ℕ) (ls : Lines) (ps : List Path) (ss : List Ride) → lines_of b ≡ more l ls → plans l ls ≡ plan ps ss → PlanBack b ps ss
   plans_back b l ls ps ss q e =
-      let not-bad : (n : ℕ) → bad n ≡ plan ps ss → ⊥ = λ n. plan_not_bad n ps ss in
-      let (n, f, g, h) = count_back (λ n. eqb n (length j.calls)) (λ n. lines_due bad (path_line j) (spares_say j) [] n 2 ls) (numbers_after plan_word l) (plan ps ss) (not-bad 1) e in
+      let not_bad : (n : ℕ) → bad n ≡ plan ps ss → ⊥ = λ n. plan_not_bad n ps ss in
+      let (n, f, g, h) = count_back (λ n. eqb n (length j.calls)) (λ n. lines_due bad (path_line j) (spares_say j) [] n 2 ls) (numbers_after plan_word l) (plan ps ss) (not_bad 1) e in
       let (s, q₁, q₂) = lines_more b l ls q in
-      let r = lines_back (path_line j) (λ p. path_word) path_numbers (λ p. known_path j p ≡ true) path_back (plan ps ss) not-bad (spares_say j) [] n 2 ls s q₂ h in
-      let (rs, c, w, t, z) = rest_back (spare_line j) (λ s. spare_word) spare_numbers (λ s. known_spare j s ≡ true) spare_back (plan ps ss) not-bad (plan r.l)
+      let r = lines_back (path_line j) (λ p. path_word) path_numbers (λ p. known_path j p ≡ true) path_back (plan ps ss) not_bad (spares_say j) [] n 2 ls s q₂ h in
+      let (rs, c, w, t, z) = rest_back (spare_line j) (λ s. spare_word) spare_numbers (λ s. known_spare j s ≡ true) spare_back (plan ps ss) not_bad (plan r.l)
       (length j.carts - length j.calls) r.n r.ls r.s r.behind r.says in
       let (x, y) = plan_same r.l ps rs ss z in
       let k : length ps ≡ n = ap length (sym x) ∙ r.size in
@@ -397,19 +397,19 @@ module _ (j : Job) where
           by : (t : Bool) → cond t (plans l ls) (cannots l ls) ≡ plan ps ss → PlanBack b ps ss
           by true e = plans_back b l ls ps ss q e
           by false e =
-              let not-bad : (n : ℕ) → bad n ≡ plan ps ss → ⊥ = λ n. plan_not_bad n ps ss in
-              let (n, f, g, h) = count_back (λ n. ltb n (length j.calls)) (λ n. rest_says bad (choke_line j) cannot [] n 2 ls) (numbers_after cannot_word l) (plan ps ss) (not-bad 1) e in
-              absurd (rest_not (choke_line j) choke_opens choke_numbers (λ x. known_choke j x ≡ true) choke_back (plan ps ss) not-bad cannot (λ xs f. plan_not_cannot ps ss xs (sym f)) n 2 ls h)
+              let not_bad : (n : ℕ) → bad n ≡ plan ps ss → ⊥ = λ n. plan_not_bad n ps ss in
+              let (n, f, g, h) = count_back (λ n. ltb n (length j.calls)) (λ n. rest_says bad (choke_line j) cannot [] n 2 ls) (numbers_after cannot_word l) (plan ps ss) (not_bad 1) e in
+              absurd (rest_not (choke_line j) choke_opens choke_numbers (λ x. known_choke j x ≡ true) choke_back (plan ps ss) not_bad cannot (λ xs f. plan_not_cannot ps ss xs (sym f)) n 2 ls h)
 
   abbrev CannotBack : List ℕ → List Choke → Type 0
   CannotBack b xs = (b ≡ cannot_text xs) × (length xs < length j.calls) × ((x : Choke) → In x xs → known_choke j x ≡ true)
 
   cannots_back : (b l : List ℕ) (ls : Lines) (xs : List Choke) → lines_of b ≡ more l ls → cannots l ls ≡ cannot xs → CannotBack b xs
   cannots_back b l ls xs q e =
-      let not-bad : (n : ℕ) → bad n ≡ cannot xs → ⊥ = λ n. cannot_not_bad n xs in
-      let (n, f, g, h) = count_back (λ n. ltb n (length j.calls)) (λ n. rest_says bad (choke_line j) cannot [] n 2 ls) (numbers_after cannot_word l) (cannot xs) (not-bad 1) e in
+      let not_bad : (n : ℕ) → bad n ≡ cannot xs → ⊥ = λ n. cannot_not_bad n xs in
+      let (n, f, g, h) = count_back (λ n. ltb n (length j.calls)) (λ n. rest_says bad (choke_line j) cannot [] n 2 ls) (numbers_after cannot_word l) (cannot xs) (not_bad 1) e in
       let (s, q₁, q₂) = lines_more b l ls q in
-      let (ys, c, w, t, z) = rest_back (choke_line j) choke_opens choke_numbers (λ x. known_choke j x ≡ true) choke_back (cannot xs) not-bad cannot n 2 ls s q₂ h in
+      let (ys, c, w, t, z) = rest_back (choke_line j) choke_opens choke_numbers (λ x. known_choke j x ≡ true) choke_back (cannot xs) not_bad cannot n 2 ls s q₂ h in
       let x = cannot_same ys xs z in
       let k : length xs ≡ n = ap length (sym x) ∙ c in (
         head_joined cannot_word b l s (lines_text choke_opens choke_numbers xs) n q₁ (after_back cannot_word l (n ∷ []) f) (w ∙ ap (lines_text choke_opens choke_numbers) x)

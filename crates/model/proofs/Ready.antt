@@ -17,7 +17,7 @@ use Rattle.model.specs.Lists.{In, NoDup}
 use Rattle.model.specs.Job.{Job, Track, lift, bay, track, call}
 use Rattle.model.specs.Ready.{SameEnds, Fit, Ready}
 use Rattle.model.specs.Text.{Lines, done, cut, more, lines_of, numbers_by, scaled_of, opens, after, floor_word, track_word, cart_word, call_word, bay_word}
-use Rattle.model.specs.ReadJob.{refused, accepted, Kind, floor_line, track_line, cartLine, call_line, no_job, member, leads, in_range, has_room}
+use Rattle.model.specs.ReadJob.{refused, accepted, Kind, floor_line, track_line, cart_line, call_line, no_job, member, leads, in_range, has_room}
 use Rattle.model.specs.ReadJob.{is_new, add, may_follow, field_count, Said, wrong, right, numbers_say, fields_say, line_says, go_on, lines_say, read_job}
 use Rattle.model.proofs.Basics.{nope, and_left, and_right}
 use Rattle.model.proofs.Lists.{in_get_or}
@@ -26,7 +26,7 @@ use Rattle.model.proofs.Lists.{in_get_or}
 abbrev pub word_most : Kind → ℕ
 word_most floor_line = 5
 word_most track_line = 5
-word_most cartLine = 4
+word_most cart_line = 4
 word_most (call_line k) = 4
 
 -- A line that is right passed its tests: a word opens it, as many fields as due follow, each is a number, and these pass too.
@@ -92,11 +92,11 @@ module _ (number : List ℕ → Option ℕ) (j j' : Job) (l : List ℕ) where
       say k word = fields_say number j k (after word l)
 
       go : (t : Bool) → opens floor_word l ≡ t → (u : Bool) → opens track_word l ≡ u → (v : Bool) → opens cart_word l ≡ v → (w : Bool) → opens call_word l ≡ w
-          → (x : Bool) → opens bay_word l ≡ x → cond t (say floor_line floor_word) (cond u (say track_line track_word) (cond v (say cartLine cart_word)
+          → (x : Bool) → opens bay_word l ≡ x → cond t (say floor_line floor_word) (cond u (say track_line track_word) (cond v (say cart_line cart_word)
           (cond w (say (call_line lift) call_word) (cond x (say (call_line bay) bay_word) (wrong BadLine))))) ≡ right j' → RightLine number j l j'
       go true o u _ v _ w _ x _ e = fields_added floor_line floor_word o (omega arith) e
       go false _ true o v _ w _ x _ e = fields_added track_line track_word o (omega arith) e
-      go false _ false _ true o w _ x _ e = fields_added cartLine cart_word o (omega arith) e
+      go false _ false _ true o w _ x _ e = fields_added cart_line cart_word o (omega arith) e
       go false _ false _ false _ true o x _ e = fields_added (call_line lift) call_word o (omega arith) e
       go false _ false _ false _ false _ true o e = fields_added (call_line bay) bay_word o (omega arith) e
       go false _ false _ false _ false _ false _ e = nope (cc)
@@ -218,7 +218,7 @@ module _ (j : Job) (f : Fit j) (a b : ℕ) where
 
       fresh : (eqb a b || leads a b j.tracks) ≡ false
       fresh = or_left (eqb a b || leads a b j.tracks) (leads b a j.tracks) unseen
-  add_fit cartLine m r h n = record {
+  add_fit cart_line m r h n = record {
     few_cells = f.few_cells;
     few_tracks = f.few_tracks;
     few_calls = f.few_calls;

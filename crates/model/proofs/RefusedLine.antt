@@ -22,7 +22,7 @@ use Rattle.model.specs.Text.{Lines, done, cut, more, lines_of, scaled_of}
 use Rattle.model.specs.Bytes.{bytes}
 use Rattle.model.specs.FirstBad.{or_bad, line_due, rest_says}
 use Rattle.model.specs.GridMap.{Drawn, bad, drawn, word_line, size_line, row_line, read_map, map_cells, map_text, floor_text}
-use Rattle.model.specs.ReadJob.{Verdict, refused, accepted, Kind, floor_line, track_line, cartLine, call_line, no_job, is_empty, may_follow, in_range, add}
+use Rattle.model.specs.ReadJob.{Verdict, refused, accepted, Kind, floor_line, track_line, cart_line, call_line, no_job, is_empty, may_follow, in_range, add}
 use Rattle.model.specs.ReadJob.{Said, wrong, right, line_says, go_on, lines_say, read_job}
 use Rattle.model.proofs.Basics.{nope, and_left}
 use Rattle.model.proofs.Ready.{line_added, line_fit, no_fit}
@@ -54,7 +54,7 @@ module _ (j : Job) (n : ℕ) where
   behind_added track_line a b h m r =
       let cells = ltb-true 0 j.cells (and_left (ltb 0 j.cells) (is_empty j.carts) (and_left (ltb 0 j.cells && is_empty j.carts) (is_empty j.calls) m)) in
       inr (cells, omega (arith, later h cells, length-append j.tracks (track a b ∷ [])))
-  behind_added cartLine a b h m r =
+  behind_added cart_line a b h m r =
       let cells = ltb-true 0 j.cells (and_left (ltb 0 j.cells) (is_empty j.calls) m) in
       inr (cells, omega (arith, later h cells, length-append j.carts (a ∷ [])))
   behind_added (call_line k) a b h m r =

@@ -14,7 +14,7 @@ pub data Verdict (A : Type 0) : Type 0 where
 
 -- the kinds of lines: CALL and BAY lines differ only in the kind of their call
 pub data Kind : Type 0 where
-  floor_line track_line cartLine : Kind
+  floor_line track_line cart_line : Kind
   call_line : CallKind → Kind
 
 abbrev pub no_job : Job
@@ -37,40 +37,40 @@ leads a b (t ∷ ts) = (eqb a t.from && eqb b t.to) || leads a b ts
 abbrev pub may_follow : Job → Kind → Bool
 may_follow j floor_line = eqb j.cells 0
 may_follow j track_line = ltb 0 j.cells && is_empty j.carts && is_empty j.calls
-may_follow j cartLine = ltb 0 j.cells && is_empty j.calls
+may_follow j cart_line = ltb 0 j.cells && is_empty j.calls
 may_follow j (call_line k) = ltb 0 j.cells
 
 abbrev pub field_count : Kind → ℕ
 field_count floor_line = 1
 field_count track_line = 2
-field_count cartLine = 1
+field_count cart_line = 1
 field_count (call_line k) = 2
 
 -- 5: of the line's numbers, a is the first and b the second, if it has two
 abbrev pub in_range : Job → Kind → ℕ → ℕ → Bool
 in_range j floor_line a b = ltb 0 a && leb a max_cells
 in_range j track_line a b = ltb a j.cells && ltb b j.cells
-in_range j cartLine a b = ltb a j.cells
+in_range j cart_line a b = ltb a j.cells
 in_range j (call_line k) a b = ltb a j.cells && ltb b max_steps
 
 -- 6: one more of its kind is allowed; calls and bays are counted together
 abbrev pub has_room : Job → Kind → Bool
 has_room j floor_line = true
 has_room j track_line = ltb (length j.tracks) max_tracks
-has_room j cartLine = ltb (length j.carts) max_carts
+has_room j cart_line = ltb (length j.carts) max_carts
 has_room j (call_line k) = ltb (length j.calls) max_calls
 
 -- 7: no track from a cell to itself or between cells joined already, either way round; no second cart, and no second call or bay, on a cell
 abbrev pub is_new : Job → Kind → ℕ → ℕ → Bool
 is_new j floor_line a b = true
 is_new j track_line a b = not (eqb a b || leads a b j.tracks || leads b a j.tracks)
-is_new j cartLine a b = not (member a j.carts)
+is_new j cart_line a b = not (member a j.carts)
 is_new j (call_line k) a b = not (member a (map (λ q. q.cell) j.calls))
 
 abbrev pub add : Job → Kind → ℕ → ℕ → Job
 add j floor_line a b = record { cells = a; tracks = j.tracks; carts = j.carts; calls = j.calls }
 add j track_line a b = record { cells = j.cells; tracks = j.tracks ++ (track a b ∷ []); carts = j.carts; calls = j.calls }
-add j cartLine a b = record { cells = j.cells; tracks = j.tracks; carts = j.carts ++ (a ∷ []); calls = j.calls }
+add j cart_line a b = record { cells = j.cells; tracks = j.tracks; carts = j.carts ++ (a ∷ []); calls = j.calls }
 add j (call_line k) a b = record { cells = j.cells; tracks = j.tracks; carts = j.carts; calls = j.calls ++ (call k a b ∷ []) }
 
 -- What a line says: the job with it, or the answer of the first test that fails.
@@ -93,7 +93,7 @@ abbrev pub line_says : (List ℕ → Option ℕ) → Job → List ℕ → Said
 line_says number j l =
     cond (opens floor_word l) (fields_say number j floor_line (after floor_word l))
     (cond (opens track_word l) (fields_say number j track_line (after track_word l))
-    (cond (opens cart_word l) (fields_say number j cartLine (after cart_word l))
+    (cond (opens cart_word l) (fields_say number j cart_line (after cart_word l))
     (cond (opens call_word l) (fields_say number j (call_line lift) (after call_word l))
     (cond (opens bay_word l) (fields_say number j (call_line bay) (after bay_word l))
     (wrong BadLine)))))

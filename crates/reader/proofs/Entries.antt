@@ -11,7 +11,7 @@ use Rattle.model.specs.declared.answer.Answer.TheVariants.{BadLine}
 use Rattle.model.specs.Job as model
 use Rattle.model.specs.Job.{lift, track, call}
 use Rattle.model.specs.Text.{numbers_by, scaled_of}
-use Rattle.model.specs.ReadJob.{Said, wrong, floor_line, track_line, cartLine, call_line, may_follow, field_count, numbers_say, fields_say}
+use Rattle.model.specs.ReadJob.{Said, wrong, floor_line, track_line, cart_line, call_line, may_follow, field_count, numbers_say, fields_say}
 use Rattle.model.specs.ReadJob as read
 use Rattle.reader.specs.declared.line.Fault.TheVariants.{Form}
 use Rattle.reader.specs.declared.line.Numbers.{Numbers}
@@ -40,7 +40,7 @@ module _ (j : model.Job) (k : read.Kind) (fs : List (List ℕ)) where
 pub count_few : (k : read.Kind) → (field_count k ≡ 1) ⊎ (field_count k ≡ 2)
 count_few floor_line = inl refl
 count_few track_line = inr refl
-count_few cartLine = inl refl
+count_few cart_line = inl refl
 count_few (call_line q) = inr refl
 
 -- The tests are asked of any job with these counts: here is one.

@@ -12,7 +12,7 @@ use borrow.Author.Tests.{eqb-true, eq-eqb}
 use Rattle.model.specs.Limits.{max_cells}
 use Rattle.model.specs.Job as model
 use Rattle.model.specs.Job.{track, call}
-use Rattle.model.specs.ReadJob.{Kind, floor_line, track_line, cartLine, call_line, no_job, add, leads, member}
+use Rattle.model.specs.ReadJob.{Kind, floor_line, track_line, cart_line, call_line, no_job, add, leads, member}
 use Rattle.model.proofs.Basics.{and_left, and_right, and_both, nope}
 use Rattle.job.specs.Bits.{bit_at, with_bit, pair_at}
 use Rattle.reader.specs.Lines.{Small, cart_row, call_row, table_size, place_of, noted, Noted}
@@ -29,13 +29,13 @@ noted_zeros n = record {
 pub place_small : (k : Kind) (a b : ℕ) → Small k a b → place_of k a b < table_size
 place_small floor_line a b s = omega arith
 place_small track_line a b s = omega (arith, pair_small a b s.0 s.1)
-place_small cartLine a b s = omega arith
+place_small cart_line a b s = omega arith
 place_small (call_line q) a b s = omega arith
 
 pub noted_length : (seen : List ℕ) (k : Kind) (a b : ℕ) → length (noted seen k a b) ≡ length seen
 noted_length seen floor_line a b = refl
 noted_length seen track_line a b = bits_length seen (pair_at a b)
-noted_length seen cartLine a b = bits_length seen (cart_row + a)
+noted_length seen cart_line a b = bits_length seen (cart_row + a)
 noted_length seen (call_line q) a b = bits_length seen (call_row + a)
 
 -- One track or one cell more.
@@ -123,7 +123,7 @@ module _ (seen : List ℕ) (j : model.Job) (long : 8 * length seen ≡ table_siz
     carts = λ a h. kept (pair_at u v) (cart_row + a) (omega (arith, pair_small u v s t)) (λ e. omega (arith, pair_small u v s t)) (m.carts a h);
     calls = λ a h. kept (pair_at u v) (call_row + a) (omega (arith, pair_small u v s t)) (λ e. omega (arith, pair_small u v s t)) (m.calls a h);
   }
-  noted_add cartLine u v s = record {
+  noted_add cart_line u v s = record {
     tracks = λ a b h k. kept (cart_row + u) (pair_at a b) (omega arith) (λ e. omega (arith, pair_small a b h k)) (m.tracks a b h k);
     carts = λ a h. told_cell cart_row u a j.carts (omega arith) (m.carts a h);
     calls = λ a h. kept (cart_row + u) (call_row + a) (omega arith) (λ e. omega arith) (m.calls a h);

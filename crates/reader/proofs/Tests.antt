@@ -17,7 +17,7 @@ use Rattle.model.specs.Limits.{max_cells, max_steps}
 use Rattle.model.specs.Job as model
 use Rattle.model.specs.Job.{CallKind, lift, bay}
 use Rattle.model.specs.ReadJob as read
-use Rattle.model.specs.ReadJob.{floor_line, track_line, cartLine, call_line, is_empty, may_follow, in_range}
+use Rattle.model.specs.ReadJob.{floor_line, track_line, cart_line, call_line, is_empty, may_follow, in_range}
 use Rattle.model.proofs.Basics.{and_left, and_right}
 use Rattle.reader.specs.declared.fill.Kind.{Kind}
 use Rattle.reader.specs.declared.fill.Kind.TheVariants.{Floor, Track, Cart, Call, Bay}
@@ -44,7 +44,7 @@ module _ (c : Counts) (j : model.Job) (k : SameCounts c j) where
   pub tracks_follow : may_follow j track_line ≡ (ltb 0 c.cells && eqb c.carts 0 && eqb c.calls 0)
   tracks_follow = simp (k.cells, k.carts, k.calls, empty_count)
 
-  pub carts_follow : may_follow j cartLine ≡ (ltb 0 c.cells && eqb c.calls 0)
+  pub carts_follow : may_follow j cart_line ≡ (ltb 0 c.cells && eqb c.calls 0)
   carts_follow = simp (k.cells, k.calls, empty_count)
 
 pub range_small : (j : model.Job) (k : read.Kind) (a b : ℕ) → j.cells ≤ max_cells → in_range j k a b ≡ true → Small k a b
@@ -53,7 +53,7 @@ range_small j track_line a b h e =
     let l = ltb-true a j.cells (and_left (ltb a j.cells) (ltb b j.cells) e) in
     let r = ltb-true b j.cells (and_right (ltb a j.cells) (ltb b j.cells) e) in
     (omega arith, omega arith)
-range_small j cartLine a b h e = let l = ltb-true a j.cells e in omega arith
+range_small j cart_line a b h e = let l = ltb-true a j.cells e in omega arith
 range_small j (call_line q) a b h e =
     let l = ltb-true a j.cells (and_left (ltb a j.cells) (ltb b max_steps) e) in
     (omega arith, ltb-true b max_steps (and_right (ltb a j.cells) (ltb b max_steps) e))

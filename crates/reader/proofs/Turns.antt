@@ -13,7 +13,7 @@ use Rattle.model.specs.Limits.{max_cells, max_tracks, max_carts, max_calls, max_
 use Rattle.model.specs.Job as model
 use Rattle.model.specs.Text.{lines_of, scaled_of}
 use Rattle.model.specs.ReadJob as read
-use Rattle.model.specs.ReadJob.{floor_line, track_line, cartLine, call_line, refused, accepted, add, go_on, line_says, lines_say, whole_job, read_job}
+use Rattle.model.specs.ReadJob.{floor_line, track_line, cart_line, call_line, refused, accepted, add, go_on, line_says, lines_say, whole_job, read_job}
 use Rattle.text.specs.Scan.{line_of}
 use Rattle.text.proofs.LineLaws.{lines_done, next_cut, next_more}
 use Rattle.reader.specs.declared.fill.Kind.{Kind}
@@ -96,7 +96,7 @@ so_far_first s h = record {
 cells_small : (j : model.Job) (k : read.Kind) (a b : ℕ) → j.cells ≤ max_cells → Small k a b → (add j k a b).cells ≤ max_cells
 cells_small j floor_line a b h s = s
 cells_small j track_line a b h s = h
-cells_small j cartLine a b h s = h
+cells_small j cart_line a b h s = h
 cells_small j (call_line q) a b h s = h
 
 module _ {s : List ℕ} {job : Job} {seen : List ℕ} {at line : ℕ} (k : ReadSoFar s job seen at line) where

@@ -11,7 +11,7 @@ use Rattle.model.specs.declared.answer.Answer.TheVariants.{BadLine}
 use Rattle.model.specs.Job as model
 use Rattle.model.specs.Job.{lift, bay}
 use Rattle.model.specs.Text.{fields_of, scaled_of, opens, floor_word, track_word, cart_word, call_word, bay_word}
-use Rattle.model.specs.ReadJob.{Said, wrong, floor_line, track_line, cartLine, call_line, fields_say, line_says}
+use Rattle.model.specs.ReadJob.{Said, wrong, floor_line, track_line, cart_line, call_line, fields_say, line_says}
 use Rattle.model.specs.ReadJob as read
 use Rattle.model.proofs.Words.{opens_long}
 use Rattle.reader.specs.declared.fill.Kind.{Kind}
@@ -58,7 +58,7 @@ line_by j l = go (opens floor_word l) (opens track_word l) (opens cart_word l) (
 
     go : (f t c d e : Bool) →
         word_says j l (cond f (Opens Floor 6) (cond t (Opens Track 6) (cond c (Opens Cart 5) (cond d (Opens Call 5) (cond e (Opens Bay 4) Unknown))))) ≡
-        cond f (say floor_line 6) (cond t (say track_line 6) (cond c (say cartLine 5) (cond d (say (call_line lift) 5) (cond e (say (call_line bay) 4) (wrong BadLine)))))
+        cond f (say floor_line 6) (cond t (say track_line 6) (cond c (say cart_line 5) (cond d (say (call_line lift) 5) (cond e (say (call_line bay) 4) (wrong BadLine)))))
     go true t c d e = refl
     go false true c d e = refl
     go false false true d e = refl

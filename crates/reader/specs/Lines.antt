@@ -8,7 +8,7 @@ use Rattle.model.specs.Job as model
 use Rattle.model.specs.Job.{lift, bay}
 use Rattle.model.specs.Text.{numbers_by, scaled_of, opens, floor_word, track_word, cart_word, call_word, bay_word}
 use Rattle.model.specs.ReadJob as read
-use Rattle.model.specs.ReadJob.{floor_line, track_line, cartLine, call_line}
+use Rattle.model.specs.ReadJob.{floor_line, track_line, cart_line, call_line}
 use Rattle.reader.specs.declared.fill.Kind.{Kind}
 use Rattle.reader.specs.declared.fill.Kind.TheVariants.{Floor, Track, Cart, Call, Bay}
 use Rattle.reader.specs.declared.line.Fault.{Fault}
@@ -27,7 +27,7 @@ use Rattle.job.specs.Bits.{bit_at, with_bit, pairs_below, pair_at}
 abbrev pub kind_of : Kind → read.Kind
 kind_of Floor = floor_line
 kind_of Track = track_line
-kind_of Cart = cartLine
+kind_of Cart = cart_line
 kind_of Call = call_line lift
 kind_of Bay = call_line bay
 
@@ -91,7 +91,7 @@ held c from to starts kinds targets deadlines = record {
 abbrev pub Small : read.Kind → ℕ → ℕ → Type 0
 Small floor_line a b = a ≤ max_cells
 Small track_line a b = (a < max_cells) × (b < max_cells)
-Small cartLine a b = a < max_cells
+Small cart_line a b = a < max_cells
 Small (call_line q) a b = (a < max_cells) × (b < max_steps)
 
 -- The arrays of a job can take a line: its numbers are small, and there is room.
@@ -120,19 +120,19 @@ table_size = call_row + max_cells
 abbrev pub place_of : read.Kind → ℕ → ℕ → ℕ
 place_of floor_line a b = 0
 place_of track_line a b = pair_at a b
-place_of cartLine a b = cart_row + a
+place_of cart_line a b = cart_row + a
 place_of (call_line q) a b = call_row + a
 
 abbrev pub noted : List ℕ → read.Kind → ℕ → ℕ → List ℕ
 noted seen floor_line a b = seen
 noted seen track_line a b = with_bit seen (place_of track_line a b)
-noted seen cartLine a b = with_bit seen (place_of cartLine a b)
+noted seen cart_line a b = with_bit seen (place_of cart_line a b)
 noted seen (call_line q) a b = with_bit seen (place_of (call_line q) a b)
 
 -- The table says which cells a track joins, and which cells have a cart, and which a call or bay.
 pub record Noted (seen : List ℕ) (j : model.Job) : Type 0 where
   pub tracks : (a b : ℕ) → a < max_cells → b < max_cells → bit_at seen (place_of track_line a b) ≡ (read.leads a b j.tracks || read.leads b a j.tracks)
-  pub carts : (a : ℕ) → a < max_cells → bit_at seen (place_of cartLine a 0) ≡ read.member a j.carts
+  pub carts : (a : ℕ) → a < max_cells → bit_at seen (place_of cart_line a 0) ≡ read.member a j.carts
   pub calls : (a : ℕ) → a < max_cells → bit_at seen (place_of (call_line lift) a 0) ≡ read.member a (map (λ q. q.cell) j.calls)
 
 -- Whether the numbers of a line pass a test. A line that has numbers passed the first two.
