@@ -1,6 +1,4 @@
 pub mod BitLaws
-pub mod UpTo
-pub mod Arrays
+pub mod Lists
 pub mod Triangle
-pub mod Rows
 pub mod Tested

@@ -1,3 +1,3 @@
 pub mod Bits
-pub mod Arrays
+pub mod Lists
 pub mod Held

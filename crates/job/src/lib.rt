@@ -1,6 +1,7 @@
-// A job as arrays, its last step and least buffers, and a table of bits.
+// A job as lists, its last step and least buffers, the lines of a sheet as they are held, and a table of bits.
 #![tactic(auto)]
 
 pub mod bits;
+pub mod held;
 pub mod size;
 pub mod state;

@@ -1,49 +1,41 @@
 // The last step of a job, and the least lengths of the buffers lent for it.
-ghost use Rattle.std.specs.Prelude.{◌≡◌, ◌<◌, ◌≤◌, get_or};
-ghost use Rattle.model.specs.Limits.{max_cells, max_calls, max_steps};
-ghost use Rattle.model.specs.Job.{lift, call, latest, horizon, store_least, sheet_least};
-ghost use Rattle.job.specs.Arrays.{up_to, job_of, Sized};
+ghost use Rattle.std.specs.Prelude.{◌≡◌, ◌<◌, ◌≤◌, map};
+ghost use Rattle.model.specs.Limits.{max_cells, max_steps};
+ghost use Rattle.model.specs.Job.{latest, horizon, store_least, sheet_least};
+ghost use Rattle.job.specs.Lists.{as_call, job_of};
 
-use crate::state::Job;
-use model::Limits;
-use model::bytes::wide;
+use crate::state::{Call, Job};
 
-// The largest of the first `calls` deadlines, 0 if there are none.
-pub fn horizon(deadlines: &[u8; Limits::CALLS], calls: usize) -> usize
-    requires { calls ≤ max_calls }
-    ensures { (result ≡ latest (up_to (λ k. call lift 0 (get_or deadlines.now k 0)) calls)) × (result < max_steps) }
+// The largest deadline, 0 if there are no calls.
+pub fn horizon(calls: &[Call]) -> usize
+    ensures { (result ≡ latest (map as_call calls.now)) × (result < max_steps) }
 {
     let mut last = 0;
-    let mut k = 0;
-    while k < calls {
-        let step = wide(deadlines[k]);
-        if last < step {
-            last = step;
-        }
-        k += 1;
+    for call in calls {
+        last = last.max(usize::from(call.deadline));
     }
     last
 }
 
-pub fn last_step(job: Job) -> usize
-    requires { Sized job }
-    ensures { (result ≡ horizon (job_of job)) × (result < max_steps) }
-{
-    horizon(&job.deadlines, job.calls)
-}
+impl Job {
+    pub fn last_step(&self) -> usize
+        ensures { (result ≡ horizon (job_of self.now)) × (result < max_steps) }
+    {
+        self::horizon(self.calls.as_slice())
+    }
 
-pub fn store_least(job: Job) -> usize
-    requires { Sized job × (job.cells ≤ max_cells) }
-    ensures { result ≡ store_least (job_of job) }
-{
-    let steps = last_step(job) + 1;
-    steps * 32 * (job.cells + 2 * job.tracks) + 4096
-}
+    pub fn store_least(&self) -> usize
+        requires { self.now.cells ≤ max_cells }
+        ensures { result ≡ store_least (job_of self.now) }
+    {
+        let steps = self.last_step() + 1;
+        steps * 32 * (self.cells + 2 * self.tracks.len()) + 4096
+    }
 
-pub fn sheet_least(job: Job) -> usize
-    requires { Sized job }
-    ensures { result ≡ sheet_least (job_of job) }
-{
-    let steps = last_step(job) + 1;
-    job.carts * (4 * steps + 16) + 64
+    pub fn sheet_least(&self) -> usize
+        ensures { result ≡ sheet_least (job_of self.now) }
+    {
+        let steps = self.last_step() + 1;
+        self.carts.len() * (4 * steps + 16) + 64
+    }
 }

@@ -1,27 +1,33 @@
-// A job as arrays with their counts.
+// A job as its lines say it. The lists lie in the job itself, each with room for as many as the limit allows.
+use arrayvec::ArrayVec;
 use model::Limits;
 
-// The kind of a call, as a byte.
-pub const LIFT: u8 = 0;
+// The two cells that a track joins, in the order of its line.
+#[derive(Clone, Copy, Debug, Default, PartialEq, Eq)]
+pub struct Track {
+    pub from: u8,
+    pub to: u8,
+}
 
-pub const BAY: u8 = 1;
+#[derive(Clone, Copy, Debug, Default, PartialEq, Eq)]
+pub enum CallKind {
+    #[default]
+    Lift,
+    Bay,
+}
 
-// The kind of a choke point, as a byte: a cell at a step, or a whole call.
-pub const CELL: u8 = 0;
+#[derive(Clone, Copy, Debug, Default, PartialEq, Eq)]
+pub struct Call {
+    pub kind: CallKind,
+    pub cell: u8,
+    pub deadline: u8,
+}
 
-pub const WHOLE: u8 = 1;
-
-// The first `tracks` entries of `from` and `to` are the tracks, and so for carts and calls. Of a call: its kind, its cell and its deadline.
-#[derive(Clone, Copy)]
+// A cart is the cell that it starts on.
+#[derive(Drop)]
 pub struct Job {
     pub cells: usize,
-    pub tracks: usize,
-    pub from: [u8; Limits::TRACKS],
-    pub to: [u8; Limits::TRACKS],
-    pub carts: usize,
-    pub starts: [u8; Limits::CARTS],
-    pub calls: usize,
-    pub kinds: [u8; Limits::CALLS],
-    pub targets: [u8; Limits::CALLS],
-    pub deadlines: [u8; Limits::CALLS],
+    pub tracks: ArrayVec<Track, { Limits::TRACKS }>,
+    pub carts: ArrayVec<u8, { Limits::CARTS }>,
+    pub calls: ArrayVec<Call, { Limits::CALLS }>,
 }

@@ -1,31 +1,16 @@
--- `size::horizon` meets its contract. The loop's invariant: `last` is the largest of the first k deadlines. The measure is the number of deadlines that
--- are left. Assumes nothing.
+-- `size::horizon` goes over the calls. Invariant: `last` is the largest deadline of those before the index. Assumes nothing.
+use Rattle.std.proofs.Common.{◌≡◌, ℕ}
+use Prim.Native.Nat.{max}
 use native.Mathlib.Omega.{arith}
-use mathlib.Core.Path.{◌≡◌}
-use Rattle.job.proofs.Arrays.{latest_suc}
-use Rattle.job.proofs.size.horizon.Invariants.{due}
+use Rattle.std.specs.Ordering.{ord_max, nat_cmp}
+use Rattle.job.proofs.Lists.{latest_more}
 use Rattle.job.proofs.size.horizon.Goals as goal
-use Rattle.job.proofs.size.horizon.Goals.{else-last-step, then-last-step}
 
-pub loop-k-preserved : goal.loop-k-preserved
-loop-k-preserved c =
-    let l = c.loop-k in
-    let d = c.args.deadlines.now in
-    let s = c.wide-step.ensures in
-    let e = latest_suc (due d) l.k in (
-      omega arith,
-      elim c.if-last-step.branch [
-        | then-last-step w ↦ omega arith
-        | else-last-step w ↦ omega arith
-      ],
-      elim c.if-last-step.branch [
-        | then-last-step w ↦ omega (arith, s.0, l.invariant.2)
-        | else-last-step w ↦ omega (arith, s.0, l.invariant.2)
-      ],
-    )
+greater : (a b : ℕ) → ord_max nat_cmp a b ≡ max a b
+greater a b = grind arith
 
-pub returns : goal.returns
-returns c =
-    let l = c.loop-k in
-    let e : l.k ≡ c.args.calls = omega arith in
-    (rw (← e) l.invariant.2, l.invariant.1)
+pub loop-call-preserved : goal.loop-call-preserved
+loop-call-preserved c =
+    let l = c.loop-call in
+    let m = greater l.last c.from.result in
+    (omega (arith, c.max-last.ensures, m), omega (arith, c.max-last.ensures, m, c.from.ensures, latest_more c.args.calls.now l.call-index c.loop-call-test.true))
