@@ -4,14 +4,16 @@ use mathlib.Core.Path.{◌≡◌, ◌∙◌}
 use mathlib.Core.List.{List, []}
 use mathlib.Core.Bool.{Bool, true, false, not}
 use lib.ListN.{length, drop}
+use Rattle.text.specs.Scan.{found}
+use Rattle.std.specs.Prelude.{None}
+use Rattle.std.specs.Prelude as std
+use Rattle.text.specs.declared.Number.{Number}
 use Rattle.model.specs.Bytes.{bytes}
 use Rattle.model.specs.Limits.{max_side}
 use Rattle.model.specs.Text.{Lines, lines_of}
 use Rattle.model.specs.FirstBad.{line_due, rest_says}
 use Rattle.model.specs.GridMap.{Drawn, bad, drawn, word_line, size_line, row_line, read_map}
 use Rattle.model.proofs.Basics.{nope}
-use Rattle.text.specs.declared.scan.Scan.{Scan}
-use Rattle.text.specs.declared.scan.Scan.TheVariants.{Value, Fault}
 use Rattle.gridmap.specs.Lines.{SaidAt, UnsaidAt, WordAt, SizeAt}
 use Rattle.gridmap.proofs.Lines.{due_said, due_unsaid}
 
@@ -25,10 +27,10 @@ module _ (word s : List ℕ) (at : ℕ) where
   is_word true e h = h
   is_word false e h = nope (cc)
 
-  pub no_size : (r : Scan) → r ≡ Fault → SizeAt word s at r → UnsaidAt (size_line word) s at
+  pub no_size : (r : std.Option Number) → r ≡ None → SizeAt word s at r → UnsaidAt (size_line word) s at
   no_size r e h = rw e at h
 
-  pub is_size : (r : Scan) (v next : ℕ) → r ≡ Value v next → SizeAt word s at r → SaidAt (size_line word) s at v next × (0 < v) × (v ≤ max_side)
+  pub is_size : (r : std.Option Number) (v next : ℕ) → r ≡ found v next → SizeAt word s at r → SaidAt (size_line word) s at v next × (0 < v) × (v ≤ max_side)
   is_size r v next e h = rw e at h
 
 abbrev rows_from : ℕ → ℕ → Lines → Drawn

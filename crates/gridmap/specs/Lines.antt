@@ -1,11 +1,12 @@
 -- A line at a place of a text, as a reader of one line knows it.
+use Rattle.std.specs.Prelude.{Some, None}
+use Rattle.std.specs.Prelude as std
+use Rattle.text.specs.declared.Number.{Number}
 use Rattle.std.specs.Prelude.{ℕ, ◌+◌, ◌/◌, ◌%◌, ◌<◌, ◌≤◌, ◌≡◌, List, ◌⊎◌, Bool, true, false, ◌&&◌, ltb, length, get_or, take, drop}
 use Rattle.std.proofs.Math.Option.{Option, none, some}
 use Rattle.model.specs.Limits.{max_side}
 use Rattle.model.specs.Text.{Lines, more, lines_of, starts_with}
 use Rattle.model.specs.GridMap.{word_line, size_line}
-use Rattle.text.specs.declared.scan.Scan.{Scan}
-use Rattle.text.specs.declared.scan.Scan.TheVariants.{Value, Fault}
 
 module _ {A : Type 0} (say : List ℕ → Option A) (s : List ℕ) (at : ℕ) where
   -- The line at `at` says a, and `next` is the place behind its line feed.
@@ -34,10 +35,10 @@ pub record Digits (s : List ℕ) (p n next : ℕ) : Type 0 where
   pub bytes : ((n < 10) × (p + 1 < length s) × (get_or s p 0 ≡ 48 + n) × (get_or s (p + 1) 0 ≡ 10) × (next ≡ p + 1 + 1))
       ⊎ ((10 ≤ n) × (p + 1 + 1 < length s) × (get_or s p 0 ≡ 48 + n / 10) × (get_or s (p + 1) 0 ≡ 48 + n % 10) × (get_or s (p + 1 + 1) 0 ≡ 10) × (next ≡ p + 1 + 1 + 1))
 
-abbrev pub DigitsAt : List ℕ → ℕ → Scan → Type 0
-DigitsAt s p Fault = (n next : ℕ) → Digits s p n next → ⊥
-DigitsAt s p (Value v next) = Digits s p v next
+abbrev pub DigitsAt : List ℕ → ℕ → std.Option Number → Type 0
+DigitsAt s p None = (n next : ℕ) → Digits s p n next → ⊥
+DigitsAt s p (Some n) = Digits s p n.value n.next
 
-abbrev pub SizeAt : List ℕ → List ℕ → ℕ → Scan → Type 0
-SizeAt word s at Fault = UnsaidAt (size_line word) s at
-SizeAt word s at (Value v next) = SaidAt (size_line word) s at v next × (0 < v) × (v ≤ max_side)
+abbrev pub SizeAt : List ℕ → List ℕ → ℕ → std.Option Number → Type 0
+SizeAt word s at None = UnsaidAt (size_line word) s at
+SizeAt word s at (Some n) = SaidAt (size_line word) s at n.value n.next × (0 < n.value) × (n.value ≤ max_side)

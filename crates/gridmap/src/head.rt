@@ -5,7 +5,8 @@ ghost use Rattle.gridmap.specs.Lines.{opens_at, WordAt, DigitsAt, SizeAt};
 
 use model::Limits;
 use model::bytes::wide;
-use text::scan::{Scan, opens_with};
+use text::Number;
+use text::scan::opens_with;
 
 // Whether the word stands at a place, and a byte behind it.
 fn opens_at(map: &[u8], at: usize, word: &[u8]) -> bool
@@ -31,58 +32,58 @@ pub fn word_line(map: &[u8], at: usize, word: &[u8]) -> bool
 }
 
 // A number from 1 to 64, and so of one or two digits, that a line feed ends; and the place behind that.
-fn size_at(map: &[u8], first: usize) -> Scan
+fn size_at(map: &[u8], first: usize) -> Option<Number>
     requires { first < length map.now }
     ensures { DigitsAt map.now first result }
 {
     let a = wide(map[first]);
     if a < 49 {
-        return Scan::Fault;
+        return None;
     }
     if 57 < a {
-        return Scan::Fault;
+        return None;
     }
     let second = first + 1;
     if map.len() <= second {
-        return Scan::Fault;
+        return None;
     }
     let b = wide(map[second]);
     if b == 10 {
-        return Scan::Value {
+        return Some(Number {
             value: a - 48,
             next: second + 1,
-        };
+        });
     }
     if b < 48 {
-        return Scan::Fault;
+        return None;
     }
     if 57 < b {
-        return Scan::Fault;
+        return None;
     }
     let value = (a - 48) * 10 + (b - 48);
     if Limits::SIDE < value {
-        return Scan::Fault;
+        return None;
     }
     let third = second + 1;
     if map.len() <= third {
-        return Scan::Fault;
+        return None;
     }
     if map[third] != 10 {
-        return Scan::Fault;
+        return None;
     }
-    Scan::Value {
+    Some(Number {
         value,
         next: third + 1,
-    }
+    })
 }
 
 // The size behind the word, if the line at a place is the two.
-pub fn size_line(map: &[u8], at: usize, word: &[u8]) -> Scan
+pub fn size_line(map: &[u8], at: usize, word: &[u8]) -> Option<Number>
     requires { (at ≤ length map.now) × (line_of word.now ≡ word.now) }
     ensures { SizeAt word.now map.now at result }
 {
     if !opens_at(map, at, word) {
-        return Scan::Fault;
+        return None;
     }
     size_at(map, at + word.len())
 }

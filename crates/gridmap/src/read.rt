@@ -10,7 +10,7 @@ ghost use Rattle.gridmap.specs.Drawing.{Draws, RowRead};
 use crate::head::{size_line, word_line};
 use crate::letters::{cell, wall};
 use model::Limits;
-use text::scan::Scan;
+use text::Number;
 
 // The longest map: lines of 12, 10, 9 and 4 bytes, and the rows with their line feeds.
 pub const MOST: usize = 35 + Limits::SIDE * (Limits::SIDE + 1);
@@ -98,17 +98,21 @@ pub fn read_map(map: &[u8], places: &mut [usize]) -> Drawing
     if !word_line(map, 0, b"type octile") {
         return Drawing::Bad { line: 1 };
     }
-    let Scan::Value {
-        value: height,
-        next: third,
-    } = size_line(map, 12, b"height ")
+    let Some(
+        Number {
+            value: height,
+            next: third,
+        },
+    ) = size_line(map, 12, b"height ")
     else {
         return Drawing::Bad { line: 2 };
     };
-    let Scan::Value {
-        value: width,
-        next: fourth,
-    } = size_line(map, third, b"width ")
+    let Some(
+        Number {
+            value: width,
+            next: fourth,
+        },
+    ) = size_line(map, third, b"width ")
     else {
         return Drawing::Bad { line: 3 };
     };

@@ -10,10 +10,10 @@ use native.Mathlib.Omega.{arith}
 use lib.Dec.{ltb, eqb}
 use lib.ListN.{length, drop, drop_of_length-le}
 use borrow.Author.Tests.{ltb-true, ltb-false, eqb-true, eq-eqb, ne_eqb}
+use Rattle.std.specs.Prelude.{None}
 use Rattle.model.specs.Text.{fields_of, and_number, numbers_by, scaled_of}
 use Rattle.model.proofs.Basics.{nope}
-use Rattle.text.specs.declared.scan.Scan.TheVariants as scan
-use Rattle.text.specs.Scan.{field_of, scaled_at}
+use Rattle.text.specs.Scan.{found, field_of, scaled_at}
 use Rattle.text.proofs.Numbers.{field_first, fields-from, fields_past, fields_some, fields_from, number_none, parts}
 use Rattle.reader.specs.declared.line.Fault.TheVariants.{Form}
 use Rattle.reader.specs.declared.line.Numbers.TheVariants.{Bad, Good}
@@ -26,7 +26,7 @@ pub data Got (s : List ℕ) (k a b at : ℕ) : Type 0 where
   two : (f g : List ℕ) → k ≡ 2 → fields_of s ≡ f ∷ g ∷ fields_from s at → scaled_of f ≡ some a → scaled_of g ≡ some b → Got s k a b at
 
 -- A number stands inside the text: past its end there is none.
-pub number_inside : (s : List ℕ) (at v next : ℕ) → scaled_at s at ≡ scan.Value v next → at < length s
+pub number_inside : (s : List ℕ) (at v next : ℕ) → scaled_at s at ≡ found v next → at < length s
 number_inside s at v next e = go (ltb at (length s)) refl (parts scaled_of s at v next e).0
   where
     go : (t : Bool) → ltb at (length s) ≡ t → scaled_of (field_of (drop at s)) ≡ some v → at < length s
@@ -34,7 +34,7 @@ number_inside s at v next e = go (ltb at (length s)) refl (parts scaled_of s at 
     go false q h = let n : drop at s ≡ [] = drop_of_length-le s (ltb-false _ _ q) in let f : scaled_of (field_of (drop at s)) ≡ none = ap (λ l. scaled_of (field_of l)) n in nope (cc)
 
 -- Where a scan finds no number, the fields from there on are not all numbers, if there are any.
-rest_none : (s : List ℕ) (at : ℕ) → scaled_at s at ≡ scan.Fault → 0 < length (fields_from s at) → numbers_by scaled_of (fields_from s at) ≡ none
+rest_none : (s : List ℕ) (at : ℕ) → scaled_at s at ≡ None → 0 < length (fields_from s at) → numbers_by scaled_of (fields_from s at) ≡ none
 rest_none s at e left = go (ltb (length s) at) refl
   where
     go : (t : Bool) → ltb (length s) at ≡ t → numbers_by scaled_of (fields_from s at) ≡ none
@@ -42,7 +42,7 @@ rest_none s at e left = go (ltb (length s) at) refl
     go false q = ap (numbers_by scaled_of) (fields-from s at (ltb-false _ _ q)) ∙ number_none scaled_of s at e
 
 module _ (s : List ℕ) (k a b at : ℕ) where
-  pub got_more : Got s k a b at → k < 2 → (v next : ℕ) → scaled_at s at ≡ scan.Value v next → Got s (k + 1) b v (next + 1)
+  pub got_more : Got s k a b at → k < 2 → (v next : ℕ) → scaled_at s at ≡ found v next → Got s (k + 1) b v (next + 1)
   got_more g l v next e =
       go (field_first scaled_of s at v next e (omega (arith, number_inside s at v next e))) (parts scaled_of s at v next e).0 g
     where
@@ -69,7 +69,7 @@ module _ (s : List ℕ) (k a b at : ℕ) where
     given : (o : Option (List ℕ)) → length (fields_of s) ≡ n → numbers_by scaled_of (fields_of s) ≡ o → numbers_given n (fields_of s) ≡ two_of o
     given o h e = simp (eq-eqb _ _ h) (ap two_of e)
 
-    pub got_fault : k < n → scaled_at s at ≡ scan.Fault → Bad (first_fault n (fields_of s)) ≡ numbers_given n (fields_of s)
+    pub got_fault : k < n → scaled_at s at ≡ None → Bad (first_fault n (fields_of s)) ≡ numbers_given n (fields_of s)
     got_fault l e = go (eqb (length (fields_of s)) n) refl
       where
         none_read : 0 < length (fields_from s at) → numbers_by scaled_of (fields_of s) ≡ none

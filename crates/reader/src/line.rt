@@ -12,7 +12,7 @@ use crate::fill::{Counts, Kind};
 use job::bits;
 use model::Limits;
 use model::answer::Answer;
-use text::scan::Scan;
+use text::Number;
 
 // The first test that a line fails.
 #[derive(Clone, Copy)]
@@ -98,7 +98,7 @@ fn numbers_of(fields: &[u8], count: usize) -> Numbers
     let mut b = 0;
     let mut at = 0;
     for _ in 0..count {
-        let Scan::Value { value, next } = text::exponent::number(fields, at) else {
+        let Some(Number { value, next }) = text::exponent::number(fields, at) else {
             return Numbers::Bad(first_fault(fields, count));
         };
         a = b;

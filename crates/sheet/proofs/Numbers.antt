@@ -10,11 +10,11 @@ use native.Mathlib.Numerals.{add-one}
 use lib.Dec.{ltb, leb, eqb}
 use lib.ListN.{length, drop, length-append, take}
 use borrow.Author.Tests.{ltb-true, ltb-false, lt-ltb, le-ltb, le-leb, lt-leb, eqb-true}
+use Rattle.std.specs.Prelude.{None}
 use Rattle.model.specs.Text.{fields_of, number_of, and_number, numbers_of, starts_with}
 use Rattle.model.specs.ReadSheet.{all_below}
 use Rattle.model.proofs.Basics.{nope, and_left, and_right, and_both}
-use Rattle.text.specs.declared.scan.Scan.TheVariants.{Value, Fault}
-use Rattle.text.specs.Scan.{field_at, field_of, scanned, number_at}
+use Rattle.text.specs.Scan.{found, field_at, field_of, scanned, number_at}
 use Rattle.text.proofs.Numbers.{fields_some, number_none, number_last, number_more}
 use Rattle.sheet.specs.declared.Two.{Two}
 use Rattle.sheet.specs.declared.Two.TheVariants as T
@@ -38,10 +38,10 @@ past w l e = ap (λ t. cond t (numbers_at l (length w)) none) e
 
 -- One number.
 module _ (s : List ℕ) (at : ℕ) where
-  pub only_none : number_at s at ≡ Fault → only_of (numbers_at s at) ≡ none
+  pub only_none : number_at s at ≡ None → only_of (numbers_at s at) ≡ none
   only_none e = ap only_of (number_none number_of s at e)
 
-  module _ (v next : ℕ) (e : number_at s at ≡ Value v next) where
+  module _ (v next : ℕ) (e : number_at s at ≡ found v next) where
     pub only_last : length s ≤ next → only_of (numbers_at s at) ≡ some v
     only_last h = ap only_of (number_last number_of s at v next e h)
 
@@ -63,17 +63,17 @@ behind_none s next h = simp (le-ltb _ _ h)
 
 -- Two numbers.
 module _ (s : List ℕ) (at : ℕ) where
-  pub two_none : number_at s at ≡ Fault → has_two (numbers_at s at) ≡ false
+  pub two_none : number_at s at ≡ None → has_two (numbers_at s at) ≡ false
   two_none e = ap has_two (number_none number_of s at e)
 
-  module _ (a next : ℕ) (e : number_at s at ≡ Value a next) where
+  module _ (a next : ℕ) (e : number_at s at ≡ found a next) where
     pub two_last : length s ≤ next → has_two (numbers_at s at) ≡ false
     two_last h = ap has_two (number_last number_of s at a next e h)
 
-    pub two_half : next < length s → number_at s (next + 1) ≡ Fault → has_two (numbers_at s at) ≡ false
+    pub two_half : next < length s → number_at s (next + 1) ≡ None → has_two (numbers_at s at) ≡ false
     two_half h f = ap has_two (number_more number_of s at a next e h ∙ ap (and_number (some a)) (number_none number_of s (next + 1) f))
 
-    pub two_both : next < length s → (b end : ℕ) → number_at s (next + 1) ≡ Value b end → numbers_at s at ≡ with_two a b (behind s end)
+    pub two_both : next < length s → (b end : ℕ) → number_at s (next + 1) ≡ found b end → numbers_at s at ≡ with_two a b (behind s end)
     two_both h b end f = number_more number_of s at a next e h ∙ ap (and_number (some a)) (and_behind s (next + 1) b end f)
 
 module _ (w l : List ℕ) (r : Two) (read : TwoPast w l r) where
@@ -101,7 +101,7 @@ opened_none a w (b ∷ l) h e = go (eqb b a) refl e
     go true q e = rw (eqb-true b a q) (h l)
     go false q e = nope (cc)
 
-pub word_no_number : (u w l : List ℕ) (a : ℕ) → ((s : List ℕ) → number_of (field_of (a ∷ s)) ≡ none) → starts_with (u ++ (a ∷ w)) l ≡ true → number_at l (length u) ≡ Fault
+pub word_no_number : (u w l : List ℕ) (a : ℕ) → ((s : List ℕ) → number_of (field_of (a ∷ s)) ≡ none) → starts_with (u ++ (a ∷ w)) l ≡ true → number_at l (length u) ≡ None
 unfolding field_at
 word_no_number u w l a h e = ap (scanned (length u) (length (field_of (drop (length u) l)))) (opened_none a w (drop (length u) l) h (starts_rest u (a ∷ w) l e))
 
@@ -127,7 +127,7 @@ below_not m v [] ns h = simp (le-ltb v m h)
 below_not m v (a ∷ l) ns h = rw (below_not m v l ns h) (and-false (ltb a m))
 
 module _ (limit most : ℕ) (s : List ℕ) (at : ℕ) (l : List ℕ) (p : ℕ) (so : numbers_at s at ≡ prefixed l (numbers_at s p)) where
-  pub cells_none : number_at s p ≡ Fault → cells_given limit most (numbers_at s at) ≡ none
+  pub cells_none : number_at s p ≡ None → cells_given limit most (numbers_at s at) ≡ none
   cells_none e = ap (cells_given limit most) (so ∙ ap (prefixed l) (number_none number_of s p e))
 
   -- there are more than may be
@@ -139,7 +139,7 @@ module _ (limit most : ℕ) (s : List ℕ) (at : ℕ) (l : List ℕ) (p : ℕ) (
           let k : most < length (l ++ (m ∷ ns)) = omega (arith, length-append l (m ∷ ns)) in
           simp (lt-leb _ _ k)
 
-  module _ (v next : ℕ) (e : number_at s p ≡ Value v next) where
+  module _ (v next : ℕ) (e : number_at s p ≡ found v next) where
     pub cells_known : limit ≤ v → cells_given limit most (numbers_at s at) ≡ none
     cells_known h = ap (cells_given limit most) (so ∙ ap (prefixed l) (and_behind s p v next e)) ∙ go (behind s next)
       where

@@ -8,6 +8,8 @@ use native.Mathlib.Numerals.{add-one}
 use lib.Dec.{ltb, leb, eqb}
 use lib.ListN.{length, get_or, take, drop}
 use borrow.Author.Tests.{ltb-true, lt-ltb, le-ltb, le-leb, lt-leb, eq-eqb, ne_eqb}
+use Rattle.text.specs.Scan.{found}
+use Rattle.std.specs.Prelude.{None}
 use Rattle.model.specs.Limits.{max_steps}
 use Rattle.model.specs.Job.{Job, call_of, horizon}
 use Rattle.model.specs.Bytes.{bytes}
@@ -18,7 +20,6 @@ use Rattle.model.specs.FirstBad.{lines_due, rest_says}
 use Rattle.model.specs.ReadSheet.{Sheet, bad, cannot, size_fits, numbers_after, path_of, path_line, spares_say, point_of, is_lift, known_whole, whole_of, choke_line, count_says, head_says}
 use Rattle.model.proofs.Basics.{nope}
 use Rattle.job.specs.Arrays.{call_kind}
-use Rattle.text.specs.declared.scan.Scan.TheVariants.{Value, Fault}
 use Rattle.sheet.specs.declared.PathLine.{PathLine}
 use Rattle.sheet.specs.declared.PathLine.TheVariants as P
 use Rattle.sheet.specs.declared.ChokeLine.{ChokeLine}
@@ -147,7 +148,7 @@ module _ {l : List ℕ} {a b next : ℕ} (two : Found (choke_word ++ (9 ∷ []))
   no_whole j o e = go (opens whole_word l) refl
     where
       go : (t : Bool) → opens whole_word l ≡ t → cond t (whole_of j (numbers_of (after whole_word l))) (point_of j (numbers_after choke_word l)) ≡ point_of j (with_two a b o)
-      go true q = let f : Value a two.past_first ≡ Fault = sym two.first ∙ word_no_number (choke_word ++ (9 ∷ [])) (bytes "ALL\t") l 67 (λ s. refl) q in nope (cc)
+      go true q = let f : found a two.past_first ≡ None = sym two.first ∙ word_no_number (choke_word ++ (9 ∷ [])) (bytes "ALL\t") l 67 (λ s. refl) q in nope (cc)
       go false q = ap (point_of j) (two.numbers ∙ ap (with_two a b) e)
 
   pub choke_over : {cells latest calls : ℕ} {kinds : List ℕ} → next < length l → ChokeSaid cells latest calls kinds l C.Bad

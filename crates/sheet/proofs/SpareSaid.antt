@@ -9,12 +9,12 @@ use native.Mathlib.Numerals.{add-one}
 use lib.Dec.{ltb}
 use lib.ListN.{length, take}
 use borrow.Author.Tests.{lt-ltb, le-ltb, eq-eqb, ne_eqb}
+use Rattle.std.specs.Prelude.{None}
 use Rattle.model.specs.Job.{Job, bay, horizon}
 use Rattle.model.specs.Plan.{Ride}
 use Rattle.model.specs.Text.{and_number, number_of, opens, spare_word}
 use Rattle.model.specs.ReadSheet.{spare_of, spare_line}
-use Rattle.text.specs.declared.scan.Scan.TheVariants.{Value, Fault}
-use Rattle.text.specs.Scan.{number_at}
+use Rattle.text.specs.Scan.{found, number_at}
 use Rattle.text.proofs.Numbers.{number_none}
 use Rattle.sheet.specs.declared.SpareLine.{SpareLine}
 use Rattle.sheet.specs.declared.SpareLine.TheVariants.{Bad, Good}
@@ -38,10 +38,10 @@ module _ {cells carts d : ℕ} (row l : List ℕ) where
   spare_unlike e = (λ j t. sym (ap (spare_of j) (past (spare_word ++ (9 ∷ [])) l e)), tt)
 
   module _ (opened : opens spare_word l ≡ true) where
-    pub spare_none : number_at l 6 ≡ Fault → SpareSaid cells carts d row l Bad
+    pub spare_none : number_at l 6 ≡ None → SpareSaid cells carts d row l Bad
     spare_none e = (λ j t. sym (ap (spare_of j) (past (spare_word ++ (9 ∷ [])) l opened ∙ number_none number_of l 6 e)), tt)
 
-    module _ (a next : ℕ) (e : number_at l 6 ≡ Value a next) where
+    module _ (a next : ℕ) (e : number_at l 6 ≡ found a next) where
       says : (j : Job) → SparesTold j cells carts d → {x : Bool} → ltb a carts ≡ x → (o : Option (List ℕ)) → behind l next ≡ o
           → spare_line j l ≡ cond x (on_spare a (fitting bay d (cells_given cells (suc d) o))) none
       says j t f o g =

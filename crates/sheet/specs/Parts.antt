@@ -1,4 +1,7 @@
 -- What the parts of the sheet's reader answer: of the fields of a line, of a line, of the lines after the first.
+use Rattle.std.specs.Prelude.{Some, None}
+use Rattle.std.specs.Prelude as std
+use Rattle.text.specs.declared.Number.{Number}
 use Rattle.std.specs.Prelude.{ℕ, zero, suc, ◌+◌, ◌<◌, ◌≤◌, ◌≡◌, List, [], ◌∷◌, Bool, true, false, cond, ◌&&◌, ltb, leb, eqb, length, get_or, take, drop}
 use Rattle.std.proofs.Math.Option.{Option, none, some}
 use Rattle.model.specs.Limits.{max_steps}
@@ -8,9 +11,7 @@ use Rattle.model.specs.Choke.{Choke}
 use Rattle.model.specs.Text.{Lines, fields_of, and_number, numbers_of, starts_with}
 use Rattle.model.specs.FirstBad.{lines_due, rest_says}
 use Rattle.model.specs.ReadSheet.{Sheet, bad, cannot, all_below, path_line, spares_say, choke_line}
-use Rattle.text.specs.declared.scan.Scan.{Scan}
-use Rattle.text.specs.declared.scan.Scan.TheVariants.{Value, Fault}
-use Rattle.text.specs.Scan.{number_at}
+use Rattle.text.specs.Scan.{found, number_at}
 use Rattle.job.specs.Arrays.{call_kind}
 use Rattle.job.specs.Held.{choke_of}
 use Rattle.sheet.specs.declared.Two.{Two}
@@ -39,9 +40,9 @@ only_of (some []) = none
 only_of (some (n ∷ [])) = some n
 only_of (some (n ∷ m ∷ ns)) = none
 
-abbrev pub only_read : Scan → Option ℕ
-only_read Fault = none
-only_read (Value v next) = some v
+abbrev pub only_read : std.Option Number → Option ℕ
+only_read None = none
+only_read (Some n) = some n.value
 
 abbrev pub has_two : Option (List ℕ) → Bool
 has_two none = false
@@ -62,7 +63,7 @@ pub record Found (word l : List ℕ) (a b next : ℕ) : Type 0 where
   pub numbers : numbers_past word l ≡ with_two a b (behind l next)
   pub inside : next ≤ length l
   pub past_first : ℕ
-  pub first : number_at l (length word) ≡ Value a past_first
+  pub first : number_at l (length word) ≡ found a past_first
 
 abbrev pub TwoPast : List ℕ → List ℕ → Two → Type 0
 TwoPast word l T.Missing = has_two (numbers_past word l) ≡ false

@@ -18,7 +18,7 @@ ghost use Rattle.sheet.specs.Parts.{numbers_at, numbers_past, only_of, only_read
 use job::state::{CELL, Job, LIFT, WHOLE};
 use model::Limits;
 use model::bytes::wide;
-use text::scan::Scan;
+use text::Number;
 
 // What a sheet is, by its form.
 #[derive(Clone, Copy)]
@@ -70,19 +70,19 @@ enum Head {
 }
 
 // The only number behind a word with its tab.
-fn only_number(line: &[u8], word: &[u8]) -> Scan
+fn only_number(line: &[u8], word: &[u8]) -> Option<Number>
     ensures { only_read result ≡ only_of (numbers_past word.now line.now) }
 {
     if !text::scan::opens_with(line, word) {
-        return Scan::Fault;
+        return None;
     }
-    let Scan::Value { value, next } = text::scan::number(line, word.len()) else {
-        return Scan::Fault;
+    let Some(Number { value, next }) = text::scan::number(line, word.len()) else {
+        return None;
     };
     if next < line.len() {
-        return Scan::Fault;
+        return None;
     }
-    Scan::Value { value, next }
+    Some(Number { value, next })
 }
 
 fn two_numbers(line: &[u8], word: &[u8]) -> Two
@@ -91,16 +91,18 @@ fn two_numbers(line: &[u8], word: &[u8]) -> Two
     if !text::scan::opens_with(line, word) {
         return Two::Missing;
     }
-    let Scan::Value { value: first, next } = text::scan::number(line, word.len()) else {
+    let Some(Number { value: first, next }) = text::scan::number(line, word.len()) else {
         return Two::Missing;
     };
     if line.len() <= next {
         return Two::Missing;
     }
-    let Scan::Value {
-        value: second,
-        next: end,
-    } = text::scan::number(line, next + 1)
+    let Some(
+        Number {
+            value: second,
+            next: end,
+        },
+    ) = text::scan::number(line, next + 1)
     else {
         return Two::Missing;
     };
@@ -119,7 +121,7 @@ fn read_cells(line: &[u8], at: usize, limit: usize, most: usize, out: &mut [u8])
     let mut i = 0;
     let mut p = at;
     while i < most {
-        let Scan::Value { value, next } = text::scan::number(line, p) else {
+        let Some(Number { value, next }) = text::scan::number(line, p) else {
             return 0;
         };
         if limit <= value {
@@ -197,7 +199,7 @@ fn spare_line(line: &[u8], cells: usize, carts: usize, latest: usize, row: &mut 
         return SpareLine::Bad;
     }
     // behind the word and its tab
-    let Scan::Value { value: cart, next } = text::scan::number(line, 6) else {
+    let Some(Number { value: cart, next }) = text::scan::number(line, 6) else {
         return SpareLine::Bad;
     };
     if carts <= cart {
@@ -217,10 +219,12 @@ fn whole_line(line: &[u8], calls: usize, kinds: &[u8; Limits::CALLS]) -> ChokeLi
     requires { calls ≤ max_calls }
     ensures { (j : model.Job) → CallsTold j calls kinds.now → choke_read result ≡ whole_of j (numbers_after whole_word line.now) }
 {
-    let Scan::Value {
-        value: call,
-        next: _,
-    } = only_number(line, b"CHOKE\tCALL\t")
+    let Some(
+        Number {
+            value: call,
+            next: _,
+        },
+    ) = only_number(line, b"CHOKE\tCALL\t")
     else {
         return ChokeLine::Bad;
     };
@@ -276,7 +280,7 @@ fn choke_line(
 fn cannot_line(line: &[u8], calls: usize) -> Head
     ensures { result ≡ cannot_head calls (only_of (numbers_after cannot_word line.now)) }
 {
-    let Scan::Value { value, next: _ } = only_number(line, b"CANNOT\t") else {
+    let Some(Number { value, next: _ }) = only_number(line, b"CANNOT\t") else {
         return Head::Bad;
     };
     if calls <= value {
@@ -292,7 +296,7 @@ fn head_line(line: &[u8], calls: usize) -> Head
     if !text::scan::opens_with(line, b"PLAN\t") {
         return cannot_line(line, calls);
     }
-    let Scan::Value { value, next: _ } = only_number(line, b"PLAN\t") else {
+    let Some(Number { value, next: _ }) = only_number(line, b"PLAN\t") else {
         return Head::Bad;
     };
     if value != calls {

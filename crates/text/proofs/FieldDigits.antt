@@ -15,8 +15,8 @@ use Rattle.model.specs.Text.{is_digit, number_of, digits_of, behind_digits, powe
 use Rattle.model.specs.ReadJob.{is_empty}
 use Rattle.model.proofs.Basics.{nope, either_way}
 use Rattle.model.proofs.Digits.{both_long, plain_digits}
-use Rattle.text.specs.declared.scan.Scan.TheVariants.{Value, Fault}
-use Rattle.text.specs.Scan.{field_of, scanned, field_at, number_at, scaled_at, digits_at, with_power}
+use Rattle.std.specs.Prelude.{None}
+use Rattle.text.specs.Scan.{found, field_of, scanned, field_at, number_at, scaled_at, digits_at, with_power}
 use Rattle.text.proofs.Numbers.{of_small, scanned_behind, scanned_fault, scanned_value}
 
 -- A tab is no digit.
@@ -64,20 +64,20 @@ module _ (s : List ℕ) (at : ℕ) where
   unfolding field_at
   scaled_by = by_parts (λ d r. scaled (number_of d) (power_of r))
 
-  module _ (e : digits_at s at ≡ Fault) where
+  module _ (e : digits_at s at ≡ None) where
     no_digits : number_of front ≡ none
     unfolding digits_at
     no_digits = scanned_fault at (length front) (number_of front) e
 
-    pub number_without : Fault ≡ number_at s at
+    pub number_without : None ≡ number_at s at
     number_without =
         let r = field_of (drop (at + length front) s) in
         sym (number_by ∙ ap (λ o. scanned (at + length front) (length r) (cond (is_empty r) o none)) no_digits ∙ ap (scanned (at + length front) (length r)) (either_way (is_empty r) none))
 
-    pub scaled_without : Fault ≡ scaled_at s at
+    pub scaled_without : None ≡ scaled_at s at
     scaled_without = let r = field_of (drop (at + length front) s) in sym (scaled_by ∙ ap (λ o. scanned (at + length front) (length r) (scaled o (power_of r))) no_digits)
 
-  module _ (v next : ℕ) (e : digits_at s at ≡ Value v next) where
+  module _ (v next : ℕ) (e : digits_at s at ≡ found v next) where
     digits_parts : (number_of front ≡ some v) × (next ≡ at + length front)
     unfolding digits_at
     digits_parts = scanned_value at (length front) v next (number_of front) e
@@ -88,14 +88,14 @@ module _ (s : List ℕ) (at : ℕ) where
     number_rest : let r = field_of (drop next s) in number_at s at ≡ scanned next (length r) (cond (is_empty r) (some v) none)
     number_rest = let (o, n) = digits_parts in rw (n, ← o) number_by
 
-    pub number_ends : is_empty (field_of (drop next s)) ≡ true → Value v next ≡ number_at s at
+    pub number_ends : is_empty (field_of (drop next s)) ≡ true → found v next ≡ number_at s at
     number_ends h = sym (number_rest ∙ go (field_of (drop next s)) h)
       where
-        go : (r : List ℕ) → is_empty r ≡ true → scanned next (length r) (cond (is_empty r) (some v) none) ≡ Value v next
-        go [] h = ap (Value v) (omega arith)
+        go : (r : List ℕ) → is_empty r ≡ true → scanned next (length r) (cond (is_empty r) (some v) none) ≡ found v next
+        go [] h = ap (found v) (omega arith)
         go (b ∷ r) h = nope (cc)
 
-    pub number_goes_on : is_empty (field_of (drop next s)) ≡ false → Fault ≡ number_at s at
+    pub number_goes_on : is_empty (field_of (drop next s)) ≡ false → None ≡ number_at s at
     number_goes_on h = let r = field_of (drop next s) in sym (number_rest ∙ ap (λ t. scanned next (length r) (cond t (some v) none)) h)
 
     pub scaled_rest : with_power s next v ≡ scaled_at s at

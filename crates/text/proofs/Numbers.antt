@@ -12,8 +12,9 @@ use lib.Seq.{drop-drop}
 use borrow.Author.Tests.{ltb-true, ltb-false, leb-true, le-leb, lt-leb}
 use Rattle.model.specs.Text.{on_field, fields_of, is_digit, number_from, number_of, and_number, numbers_by}
 use Rattle.model.proofs.Basics.{nope, and_left, and_right}
-use Rattle.text.specs.declared.scan.Scan.TheVariants.{Value, Fault}
-use Rattle.text.specs.Scan.{field_of, scanned, field_at, number_at}
+use Rattle.std.specs.Prelude.{None}
+use Rattle.text.specs.declared.Number.{Number}
+use Rattle.text.specs.Scan.{found, field_of, scanned, field_at, number_at}
 
 -- Fields.
 pub fields_some : (l : List ℕ) → 0 < length (fields_of l)
@@ -107,27 +108,29 @@ of_small n (b ∷ f) e = go (is_digit b) refl e
     go false q e = nope (cc)
     go true q e = let low = digit_low b q in (omega arith, from_small (b - 48) n f (omega arith) e)
 
-pub scanned_fault : (at k : ℕ) (o : Option ℕ) → scanned at k o ≡ Fault → o ≡ none
+pub scanned_fault : (at k : ℕ) (o : Option ℕ) → scanned at k o ≡ None → o ≡ none
 scanned_fault at k none e = refl
 scanned_fault at k (some v) e = nope (cc)
 
-pub scanned_value : (at k v next : ℕ) (o : Option ℕ) → scanned at k o ≡ Value v next → (o ≡ some v) × (next ≡ at + k)
+pub scanned_value : (at k v next : ℕ) (o : Option ℕ) → scanned at k o ≡ found v next → (o ≡ some v) × (next ≡ at + k)
 scanned_value at k v next none e = nope (cc)
-scanned_value at k v next (some w) e = (cc, cc)
+scanned_value at k v next (some w) e =
+    let n : record { value = w; next = at + k } ≡ record { value = v; next = next } = cc in
+    (ap some (ap (λ (x : Number). x.value) n), sym (ap (λ (x : Number). x.next) n))
 
 pub scanned_behind : (at k m : ℕ) (o : Option ℕ) → scanned at (k + m) o ≡ scanned (at + k) m o
 scanned_behind at k m none = refl
-scanned_behind at k m (some v) = ap (Value v) (omega arith)
+scanned_behind at k m (some v) = ap (found v) (omega arith)
 
 -- The field at `at`, read as a number of whatever kind.
 module _ (number : List ℕ → Option ℕ) (s : List ℕ) (at : ℕ) where
-  pub number_none : field_at number s at ≡ Fault → numbers_by number (fields_of (drop at s)) ≡ none
+  pub number_none : field_at number s at ≡ None → numbers_by number (fields_of (drop at s)) ≡ none
   unfolding field_at
   number_none e =
       let (fs, h) = fields_first (drop at s) in
       ap (numbers_by number) h ∙ ap (λ o. and_number o (numbers_by number fs)) (scanned_fault at (length (field_of (drop at s))) (number (field_of (drop at s))) e)
 
-  module _ (v next : ℕ) (e : field_at number s at ≡ Value v next) where
+  module _ (v next : ℕ) (e : field_at number s at ≡ found v next) where
     pub parts : (number (field_of (drop at s)) ≡ some v) × (next ≡ at + length (field_of (drop at s)))
     unfolding field_at
     parts = scanned_value at (length (field_of (drop at s))) v next (number (field_of (drop at s))) e
@@ -165,7 +168,7 @@ pub record Bound (s : List ℕ) (at v next : ℕ) : Type 0 where
   pub high : next ≤ length s
   pub small : v < 1000
 
-pub number_bound : (s : List ℕ) (at v next : ℕ) → number_at s at ≡ Value v next → at ≤ length s → Bound s at v next
+pub number_bound : (s : List ℕ) (at v next : ℕ) → number_at s at ≡ found v next → at ≤ length s → Bound s at v next
 number_bound s at v next e h =
     let (f, n) = parts number_of s at v next e in
     let (long, small) = of_small v (field_of (drop at s)) f in

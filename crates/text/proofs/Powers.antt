@@ -14,8 +14,8 @@ use borrow.Author.Tests.{eqb-true, eq-eqb, ne_eqb}
 use Rattle.model.specs.Text.{is_digit, is_mark, number_of, without_plus, one_digit, power_of, scaled}
 use Rattle.model.specs.ReadJob.{is_empty}
 use Rattle.model.proofs.Basics.{nope, either_way}
-use Rattle.text.specs.declared.scan.Scan.TheVariants.{Value, Fault}
-use Rattle.text.specs.Scan.{field_of, scanned, field_at, number_at, with_power, plus_size}
+use Rattle.std.specs.Prelude.{None}
+use Rattle.text.specs.Scan.{found, field_of, scanned, field_at, number_at, with_power, plus_size}
 use Rattle.text.proofs.FieldDigits.{goes_on}
 use Rattle.text.proofs.Numbers.{digit_low, scanned_behind, scanned_fault, parts}
 
@@ -61,16 +61,16 @@ digit_small (b ∷ []) p e h = go (is_digit b) refl e
 
 -- An exponent, or none.
 module _ (s : List ℕ) (at v : ℕ) where
-  pub power_none : is_empty (field_of (drop at s)) ≡ true → Value v at ≡ with_power s at v
+  pub power_none : is_empty (field_of (drop at s)) ≡ true → found v at ≡ with_power s at v
   unfolding field_at
   power_none h = go (field_of (drop at s)) h
     where
-      go : (r : List ℕ) → is_empty r ≡ true → Value v at ≡ scanned at (length r) (scaled (some v) (power_of r))
-      go [] h = let e : v ≡ v * 10 ^ 0 = omega arith in let f : at ≡ at + 0 = omega arith in ap (λ x. Value x at) e ∙ ap (Value (v * 10 ^ 0)) f
+      go : (r : List ℕ) → is_empty r ≡ true → found v at ≡ scanned at (length r) (scaled (some v) (power_of r))
+      go [] h = let e : v ≡ v * 10 ^ 0 = omega arith in let f : at ≡ at + 0 = omega arith in ap (λ x. found x at) e ∙ ap (found (v * 10 ^ 0)) f
       go (b ∷ r) h = nope (cc)
 
   module _ (on : is_empty (field_of (drop at s)) ≡ false) where
-    pub power_bad : is_mark (get_or s at 0) ≡ false → Fault ≡ with_power s at v
+    pub power_bad : is_mark (get_or s at 0) ≡ false → None ≡ with_power s at v
     unfolding field_at
     power_bad m = rw (goes_on s at on).1 (simp m)
 
@@ -89,17 +89,17 @@ module _ (s : List ℕ) (at v : ℕ) where
           ∙ scanned_behind at (suc (plus_size l)) (length r) (scaled (some v) (one_digit r))
           ∙ ap (λ x. scanned x (length r) (scaled (some v) (one_digit r))) (omega arith)))
 
-      not_one : one_digit (field_of (drop from s)) ≡ none → Fault ≡ with_power s at v
+      not_one : one_digit (field_of (drop from s)) ≡ none → None ≡ with_power s at v
       not_one h = let r = field_of (drop from s) in sym (marked ∙ ap (λ o. scanned from (length r) (scaled (some v) o)) h)
 
-      pub power_fault : number_at s from ≡ Fault → Fault ≡ with_power s at v
+      pub power_fault : number_at s from ≡ None → None ≡ with_power s at v
       unfolding field_at
       power_fault e =
           let r = field_of (drop from s) in
           not_one (ap (λ o. cond (eqb (length r) 1) o none) (scanned_fault from (length r) (number_of r) e) ∙ either_way (eqb (length r) 1) none)
 
-      module _ (p next : ℕ) (e : number_at s from ≡ Value p next) where
-        pub power_long : (next ≡ from + 1 → ⊥) → Fault ≡ with_power s at v
+      module _ (p next : ℕ) (e : number_at s from ≡ found p next) where
+        pub power_long : (next ≡ from + 1 → ⊥) → None ≡ with_power s at v
         power_long h = let n = (parts number_of s from p next e).1 in not_one (simp (ne_eqb (length (field_of (drop from s))) 1 (λ k. h (omega arith))))
 
         module _ (h : next ≡ from + 1) where
@@ -109,11 +109,11 @@ module _ (s : List ℕ) (at v : ℕ) where
           pub power_small : p < 10
           power_small = digit_small (field_of (drop from s)) p (parts number_of s from p next e).0 single
 
-          pub power_one : Value (v * 10 ^ p) next ≡ with_power s at v
+          pub power_one : found (v * 10 ^ p) next ≡ with_power s at v
           power_one =
               let r = field_of (drop from s) in
               let o : one_digit r ≡ some p = simp (eq-eqb (length r) 1 single) (parts number_of s from p next e).0 in
-              sym (marked ∙ ap (λ x. scanned from (length r) (scaled (some v) x)) o ∙ ap (Value (v * 10 ^ p)) (sym (parts number_of s from p next e).1))
+              sym (marked ∙ ap (λ x. scanned from (length r) (scaled (some v) x)) o ∙ ap (found (v * 10 ^ p)) (sym (parts number_of s from p next e).1))
 
 -- Ten to a power of one digit, times a number of three.
 pub power_fits : (v p : ℕ) → v < 1000 → p < 10 → v * 10 ^ p ≤ 999000000000

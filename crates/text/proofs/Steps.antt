@@ -14,9 +14,10 @@ use lib.Seq.{drop-cons}
 use borrow.Author.Tests.{ltb-true, eqb-true, eq-eqb, ne_eqb}
 use Rattle.model.specs.Text.{is_digit, starts_with, on_field, fields_of, number_from, number_of, digits_of}
 use Rattle.model.proofs.Basics.{and_right}
-use Rattle.text.specs.declared.scan.Scan.{Scan}
-use Rattle.text.specs.declared.scan.Scan.TheVariants.{Value, Fault}
-use Rattle.text.specs.Scan.{line_of, scanned, may_go_on, ended}
+use Rattle.std.specs.Prelude as std
+use Rattle.std.specs.Prelude.{None}
+use Rattle.text.specs.declared.Number.{Number}
+use Rattle.text.specs.Scan.{found, line_of, scanned, may_go_on, ended}
 use Rattle.text.proofs.Numbers.{fields_some, fields_tab, scanned_behind}
 
 -- A line's end.
@@ -75,9 +76,9 @@ may_small n v z e =
     (or-true (eqb n 0) (ltb 0 v && ltb v 100) e)
 
 -- The digits that go on at `at`, after some with the value v (n is 0 where there are none).
-unfoldable pub scan_from : ℕ → ℕ → ℕ → List ℕ → Scan
+unfoldable pub scan_from : ℕ → ℕ → ℕ → List ℕ → std.Option Number
 scan_from at n v [] = ended at n v
-scan_from at n v (b ∷ l) = cond (is_digit b) (cond (may_go_on n v) (scan_from (at + 1) 1 (v * 10 + (b - 48)) l) Fault) (ended at n v)
+scan_from at n v (b ∷ l) = cond (is_digit b) (cond (may_go_on n v) (scan_from (at + 1) 1 (v * 10 + (b - 48)) l) None) (ended at n v)
 
 module _ (s : List ℕ) (i n v : ℕ) where
   pub scan_end : length s ≤ i → scan_from i n v (drop i s) ≡ ended i n v
@@ -89,7 +90,7 @@ module _ (s : List ℕ) (i n v : ℕ) where
     unfolding scan_from
     scan_stop d = rw (drop-cons s i 0) (simp d)
 
-    pub scan_long : is_digit (get_or s i 0) ≡ true → may_go_on n v ≡ false → scan_from i n v (drop i s) ≡ Fault
+    pub scan_long : is_digit (get_or s i 0) ≡ true → may_go_on n v ≡ false → scan_from i n v (drop i s) ≡ None
     unfolding scan_from
     scan_long d e = rw (drop-cons s i 0) (simp (d, e))
 
@@ -102,19 +103,19 @@ scanned_next at k o = sym (scanned_behind at 1 k o) ∙ ap (λ n. scanned at n o
 
 scan_after : (at v : ℕ) (l : List ℕ) → scan_from at 1 v l ≡ scanned at (length (digits_of l)) (number_from v (digits_of l))
 unfolding scan_from
-scan_after at v [] = ap (Value v) (omega arith)
+scan_after at v [] = ap (found v) (omega arith)
 scan_after at v (b ∷ l) =
     let w = v * 10 + (b - 48) in
     go (is_digit b) refl (scan_after (at + 1) w l ∙ scanned_next at (length (digits_of l)) (number_from w (digits_of l)))
   where
-    by : (x y : Bool) (r : Scan) (k : ℕ) (o : Option ℕ) → r ≡ scanned at k o → cond (x && y) r Fault ≡ scanned at k (cond (x && y) o none)
+    by : (x y : Bool) (r : std.Option Number) (k : ℕ) (o : Option ℕ) → r ≡ scanned at k o → cond (x && y) r None ≡ scanned at k (cond (x && y) o none)
     by false y r k o h = refl
     by true false r k o h = refl
     by true true r k o h = h
 
     go : (d : Bool) → is_digit b ≡ d → scan_from (at + 1) 1 (v * 10 + (b - 48)) l ≡ scanned at (suc (length (digits_of l))) (number_from (v * 10 + (b - 48)) (digits_of l))
         → scan_from at 1 v (b ∷ l) ≡ scanned at (length (digits_of (b ∷ l))) (number_from v (digits_of (b ∷ l)))
-    go false q h = simp q (ap (Value v) (omega arith))
+    go false q h = simp q (ap (found v) (omega arith))
     go true q h = simp q (by (ltb 0 v) (ltb v 100) _ _ _ h)
 
 pub scan_digits : (at : ℕ) (l : List ℕ) → scan_from at 0 0 l ≡ scanned at (length (digits_of l)) (number_of (digits_of l))

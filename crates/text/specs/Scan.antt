@@ -1,9 +1,9 @@
 -- A line and a number at a place of a text.
-use Rattle.std.specs.Prelude.{ℕ, ◌+◌, List, [], ◌∷◌, Bool, cond, ◌&&◌, ◌||◌, length, drop, ltb, eqb}
-use Rattle.std.proofs.Math.Option.{Option, none, some}
+use Rattle.std.specs.Prelude.{ℕ, ◌+◌, List, [], ◌∷◌, Bool, cond, ◌&&◌, ◌||◌, length, drop, ltb, eqb, Option, Some, None}
+use Rattle.std.proofs.Math.Option as math
+use Rattle.std.proofs.Math.Option.{none, some}
 use Rattle.model.specs.Text.{number_of, digits_of, power_of, scaled, scaled_of}
-use Rattle.text.specs.declared.scan.Scan.{Scan}
-use Rattle.text.specs.declared.scan.Scan.TheVariants.{Value, Fault}
+use Rattle.text.specs.declared.Number.{Number}
 
 -- what stands before the first line feed, or the whole
 abbrev pub line_of : List ℕ → List ℕ
@@ -15,28 +15,32 @@ abbrev pub field_of : List ℕ → List ℕ
 field_of [] = []
 field_of (b ∷ s) = cond (eqb b 9) [] (b ∷ field_of s)
 
+-- the number v, with the place after it
+abbrev pub found : ℕ → ℕ → Option Number
+found v next = Some (record { value = v; next = next })
+
 -- the number of a field of `size` bytes that starts at `at`, if it is one
-abbrev pub scanned : ℕ → ℕ → Option ℕ → Scan
-scanned at size none = Fault
-scanned at size (some v) = Value v (at + size)
+abbrev pub scanned : ℕ → ℕ → math.Option ℕ → Option Number
+scanned at size none = None
+scanned at size (some v) = found v (at + size)
 
 -- the field at `at`, read by `number`
-unfoldable pub field_at : (List ℕ → Option ℕ) → List ℕ → ℕ → Scan
+unfoldable pub field_at : (List ℕ → math.Option ℕ) → List ℕ → ℕ → Option Number
 field_at number s at = scanned at (length (field_of (drop at s))) (number (field_of (drop at s)))
 
-abbrev pub number_at : List ℕ → ℕ → Scan
+abbrev pub number_at : List ℕ → ℕ → Option Number
 number_at s at = field_at number_of s at
 
 -- with an exponent, or without one
-abbrev pub scaled_at : List ℕ → ℕ → Scan
+abbrev pub scaled_at : List ℕ → ℕ → Option Number
 scaled_at s at = field_at scaled_of s at
 
 -- the number that the digits at `at` are
-unfoldable pub digits_at : List ℕ → ℕ → Scan
+unfoldable pub digits_at : List ℕ → ℕ → Option Number
 digits_at s at = scanned at (length (digits_of (drop at s))) (number_of (digits_of (drop at s)))
 
 -- the number v with the exponent that the field at `at` is, if it is one
-abbrev pub with_power : List ℕ → ℕ → ℕ → Scan
+abbrev pub with_power : List ℕ → ℕ → ℕ → Option Number
 with_power s at v = field_at (λ f. scaled (some v) (power_of f)) s at
 
 -- how many `+` stand in front, at most one
@@ -49,5 +53,5 @@ abbrev pub may_go_on : ℕ → ℕ → Bool
 may_go_on n v = eqb n 0 || (ltb 0 v && ltb v 100)
 
 -- the digits end before `at`: their value is v, and n is 0 where there are none
-abbrev pub ended : ℕ → ℕ → ℕ → Scan
-ended at n v = cond (eqb n 0) Fault (Value v at)
+abbrev pub ended : ℕ → ℕ → ℕ → Option Number
+ended at n v = cond (eqb n 0) None (found v at)

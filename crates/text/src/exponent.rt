@@ -3,8 +3,7 @@ ghost use Rattle.std.specs.Prelude.{◌≡◌, ◌+◌, ◌*◌, ◌^◌, ◌<�
 ghost use Rattle.model.specs.Text.{is_mark};
 ghost use Rattle.text.specs.Scan.{scaled_at, with_power, plus_size};
 
-use crate::scan;
-use crate::scan::Scan;
+use crate::{Number, scan};
 
 fn mark(b: u8) -> bool
     ensures { result ≡ is_mark b }
@@ -38,35 +37,31 @@ fn raised(value: usize, power: usize) -> usize
 }
 
 // A number with the exponent that is the rest of its field, from `at` on, or with none where nothing is left.
-fn with_power(s: &[u8], at: usize, value: usize) -> Scan
+fn with_power(s: &[u8], at: usize, value: usize) -> Option<Number>
     requires { value < 1000 }
     ensures { result ≡ with_power s.now at value }
 {
     if scan::field_ends(s, at) {
-        return Scan::Value { value, next: at };
+        return Some(Number { value, next: at });
     }
     if !mark(s[at]) {
-        return Scan::Fault;
+        return None;
     }
     let from = past_plus(s, at + 1);
-    let Scan::Value { value: power, next } = scan::number(s, from) else {
-        return Scan::Fault;
-    };
-    if next != from + 1 {
-        return Scan::Fault;
+    let power = scan::number(s, from)?;
+    if power.next != from + 1 {
+        return None;
     }
-    Scan::Value {
-        value: raised(value, power),
-        next,
-    }
+    Some(Number {
+        value: raised(value, power.value),
+        next: power.next,
+    })
 }
 
 // The number that is the field from `at` on, with an exponent or without one.
-pub fn number(s: &[u8], at: usize) -> Scan
+pub fn number(s: &[u8], at: usize) -> Option<Number>
     ensures { result ≡ scaled_at s.now at }
 {
-    let Scan::Value { value, next } = scan::digits(s, at) else {
-        return Scan::Fault;
-    };
-    with_power(s, next, value)
+    let number = scan::digits(s, at)?;
+    with_power(s, number.next, number.value)
 }

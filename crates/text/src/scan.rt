@@ -4,14 +4,8 @@ ghost use Rattle.model.specs.Text.{is_digit, starts_with, fields_of};
 ghost use Rattle.model.specs.ReadJob.{is_empty};
 ghost use Rattle.text.specs.Scan.{line_of, field_of, number_at, digits_at, may_go_on, ended};
 
+use crate::Number;
 use model::bytes::wide;
-
-// A number and the place after it, or none. The number may be too large for any use: it has no bound but that of its spelling.
-#[derive(Drop)]
-pub enum Scan {
-    Value { value: usize, next: usize },
-    Fault,
-}
 
 // Where the line that starts at `at` ends: before its line feed, or at the end where it has none.
 fn line_end(s: &[u8], at: usize) -> usize
@@ -90,17 +84,17 @@ fn may_go_on(n: usize, v: usize) -> bool
     n == 0 || (0 < v && v < 100)
 }
 
-fn finish(i: usize, n: usize, v: usize) -> Scan
+fn finish(i: usize, n: usize, v: usize) -> Option<Number>
     ensures { result ≡ ended i n v }
 {
     if n == 0 {
-        return Scan::Fault;
+        return None;
     }
-    Scan::Value { value: v, next: i }
+    Some(Number { value: v, next: i })
 }
 
 // The number that the digits from `at` on are, and the place behind them.
-pub fn digits(s: &[u8], at: usize) -> Scan
+pub fn digits(s: &[u8], at: usize) -> Option<Number>
     ensures { result ≡ digits_at s.now at }
 {
     let mut i = at;
@@ -112,7 +106,7 @@ pub fn digits(s: &[u8], at: usize) -> Scan
             return finish(i, n, v);
         }
         if !may_go_on(n, v) {
-            return Scan::Fault;
+            return None;
         }
         v = v * 10 + (wide(b) - 48);
         n = 1;
@@ -129,14 +123,12 @@ pub fn field_ends(s: &[u8], at: usize) -> bool
 }
 
 // The number that is the field from `at` on.
-pub fn number(s: &[u8], at: usize) -> Scan
+pub fn number(s: &[u8], at: usize) -> Option<Number>
     ensures { result ≡ number_at s.now at }
 {
-    let Scan::Value { value, next } = digits(s, at) else {
-        return Scan::Fault;
-    };
-    if !field_ends(s, next) {
-        return Scan::Fault;
+    let number = digits(s, at)?;
+    if !field_ends(s, number.next) {
+        return None;
     }
-    Scan::Value { value, next }
+    Some(number)
 }

@@ -11,10 +11,10 @@ returns-in_default c = ap (cannot_head c.args.calls) (sym (ap only_read c.in_def
 
 pub returns-then-calls-value : goal.returns-then-calls-value
 returns-then-calls-value c =
-    let h : c.args.calls ≤ c.in-Value.value = omega (arith, c.if-calls-value.true) in
-    rw (← c.only_number.ensures, c.in-Value.is) (simp (le-ltb _ _ h))
+    let h : c.args.calls ≤ c.in-Some.field-0.value = omega (arith, c.if-calls-value.true) in
+    rw (← c.only_number.ensures, c.in-Some.is) (simp (le-ltb _ _ h))
 
 pub returns : goal.returns
 returns c =
-    let h : c.in-Value.value < c.args.calls = omega (arith, c.if-calls-value.false) in
-    rw (← c.only_number.ensures, c.in-Value.is) (simp (lt-ltb _ _ h))
+    let h : c.in-Some.field-0.value < c.args.calls = omega (arith, c.if-calls-value.false) in
+    rw (← c.only_number.ensures, c.in-Some.is) (simp (lt-ltb _ _ h))

@@ -14,10 +14,10 @@ returns-in_default c =
 
 pub returns-then-value-calls : goal.returns-then-value-calls
 returns-then-value-calls c =
-    head_wrong c.args.line.now (sym c.opens_with.ensures ∙ c.if-not-opens_with.false) c.only_number.ensures _ c.in-Value.value
-    (ap only_read c.in-Value.is) c.if-value-calls.true
+    head_wrong c.args.line.now (sym c.opens_with.ensures ∙ c.if-not-opens_with.false) c.only_number.ensures _ c.in-Some.field-0.value
+    (ap only_read c.in-Some.is) c.if-value-calls.true
 
 pub returns : goal.returns
 returns c =
-    head_plan c.args.line.now (sym c.opens_with.ensures ∙ c.if-not-opens_with.false) c.only_number.ensures _ c.in-Value.value
-    (ap only_read c.in-Value.is) c.if-value-calls.false
+    head_plan c.args.line.now (sym c.opens_with.ensures ∙ c.if-not-opens_with.false) c.only_number.ensures _ c.in-Some.field-0.value
+    (ap only_read c.in-Some.is) c.if-value-calls.false

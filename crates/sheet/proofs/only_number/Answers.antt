@@ -19,8 +19,8 @@ returns-in_default c = sym (opened (goal.at.returns-in_default c).After-number �
 
 pub returns-then-next-line : goal.returns-then-next-line
 returns-then-next-line c =
-    sym (opened (goal.at.returns-then-next-line c).After-number ∙ only_more _ _ c.in-Value.value c.in-Value.next (sym c.number.ensures ∙ c.in-Value.is) c.if-next-line.true)
+    sym (opened (goal.at.returns-then-next-line c).After-number ∙ only_more _ _ c.in-Some.field-0.value c.in-Some.field-0.next (sym c.number.ensures ∙ c.in-Some.is) c.if-next-line.true)
 
 pub returns : goal.returns
 returns c =
-    sym (opened (goal.at.returns c).After-number ∙ only_last _ _ c.in-Value.value c.in-Value.next (sym c.number.ensures ∙ c.in-Value.is) c.if-next-line.false)
+    sym (opened (goal.at.returns c).After-number ∙ only_last _ _ c.in-Some.field-0.value c.in-Some.field-0.next (sym c.number.ensures ∙ c.in-Some.is) c.if-next-line.false)

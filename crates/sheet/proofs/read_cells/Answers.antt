@@ -26,7 +26,7 @@ pub returns-then-limit-value : goal.returns-then-limit-value
 returns-then-limit-value c =
     let l = c.loop-i in
     let a = c.args in (
-      sym (cells_known a.limit a.most a.line.now a.at (take l.i l.out) l.p l.invariant.4 c.in-Value.value c.in-Value.next (sym c.number.ensures ∙ c.in-Value.is) c.if-limit-value.true),
+      sym (cells_known a.limit a.most a.line.now a.at (take l.i l.out) l.p l.invariant.4 c.in-Some.field-0.value c.in-Some.field-0.next (sym c.number.ensures ∙ c.in-Some.is) c.if-limit-value.true),
       omega arith,
     )
 
@@ -38,8 +38,8 @@ returns-then-line-next c =
     let l = c.loop-i in
     let a = c.args in
     let few : l.i < a.most = omega arith in (
-      cells_end a.limit a.most a.line.now a.at (take l.i l.out) l.p l.invariant.4 c.in-Value.value c.in-Value.next (sym c.number.ensures ∙ c.in-Value.is) l.invariant.3
-          c.if-limit-value.false c.if-line-next.true l.i (set l.out l.i c.in-Value.value) (length-take-le l.i l.out (omega arith)) few (taken l.out l.i c.in-Value.value (omega arith)),
+      cells_end a.limit a.most a.line.now a.at (take l.i l.out) l.p l.invariant.4 c.in-Some.field-0.value c.in-Some.field-0.next (sym c.number.ensures ∙ c.in-Some.is) l.invariant.3
+          c.if-limit-value.false c.if-line-next.true l.i (set l.out l.i c.in-Some.field-0.value) (length-take-le l.i l.out (omega arith)) few (taken l.out l.i c.in-Some.field-0.value (omega arith)),
       omega arith,
     )
 
@@ -47,13 +47,13 @@ pub loop-i-preserved : goal.loop-i-preserved
 loop-i-preserved c =
     let l = c.loop-i in
     let a = c.args in
-    let t = taken l.out l.i c.in-Value.value (omega arith) in (
+    let t = taken l.out l.i c.in-Some.field-0.value (omega arith) in (
       omega arith,
       omega arith,
       simp length-set l.invariant.2,
-      ap (all_below a.limit) t ∙ below_snoc a.limit c.in-Value.value (take l.i l.out) l.invariant.3 c.if-limit-value.false,
-      cells_more a.limit a.most a.line.now a.at (take l.i l.out) l.p l.invariant.4 c.in-Value.value c.in-Value.next (sym c.number.ensures ∙ c.in-Value.is) c.if-line-next.false
-          ∙ ap (λ x. prefixed x (numbers_at a.line.now (c.in-Value.next + 1))) (sym t),
+      ap (all_below a.limit) t ∙ below_snoc a.limit c.in-Some.field-0.value (take l.i l.out) l.invariant.3 c.if-limit-value.false,
+      cells_more a.limit a.most a.line.now a.at (take l.i l.out) l.p l.invariant.4 c.in-Some.field-0.value c.in-Some.field-0.next (sym c.number.ensures ∙ c.in-Some.is) c.if-line-next.false
+          ∙ ap (λ x. prefixed x (numbers_at a.line.now (c.in-Some.field-0.next + 1))) (sym t),
     )
 
 pub returns : goal.returns

@@ -19,21 +19,21 @@ returns-in_default c = spare_none c.args.row.now c.args.line.now (opened (goal.a
 
 pub returns-then-carts-cart : goal.returns-then-carts-cart
 returns-then-carts-cart c =
-    spare_no_cart c.args.row.now c.args.line.now (opened (goal.at.returns-then-carts-cart c).After-number) c.in-Value.cart c.in-Value.next (sym c.number.ensures ∙ c.in-Value.is) c.if-carts-cart.true
+    spare_no_cart c.args.row.now c.args.line.now (opened (goal.at.returns-then-carts-cart c).After-number) c.in-Some.field-0.value c.in-Some.field-0.next (sym c.number.ensures ∙ c.in-Some.is) c.if-carts-cart.true
 
 pub returns-then-line-next : goal.returns-then-line-next
 returns-then-line-next c =
-    spare_ends c.args.row.now c.args.line.now (opened (goal.at.returns-then-line-next c).After-number) c.in-Value.cart c.in-Value.next (sym c.number.ensures ∙ c.in-Value.is)
+    spare_ends c.args.row.now c.args.line.now (opened (goal.at.returns-then-line-next c).After-number) c.in-Some.field-0.value c.in-Some.field-0.next (sym c.number.ensures ∙ c.in-Some.is)
     c.if-carts-cart.false c.if-line-next.true
 
 pub returns-then-read_cells-latest : goal.returns-then-read_cells-latest
 returns-then-read_cells-latest c =
     let r = c.read_cells in
-    spare_unfit r.new.out c.args.line.now (opened (goal.at.returns-then-read_cells-latest c).After-number) c.in-Value.cart c.in-Value.next (sym c.number.ensures ∙ c.in-Value.is) c.if-carts-cart.false
+    spare_unfit r.new.out c.args.line.now (opened (goal.at.returns-then-read_cells-latest c).After-number) c.in-Some.field-0.value c.in-Some.field-0.next (sym c.number.ensures ∙ c.in-Some.is) c.if-carts-cart.false
     c.if-line-next.false r.result (omega arith) r.ensures.0 c.if-read_cells-latest.true
 
 pub returns : goal.returns
 returns c =
     let r = c.read_cells in
-    spare_good r.new.out c.args.line.now (opened (goal.at.returns c).After-number) c.in-Value.cart c.in-Value.next (sym c.number.ensures ∙ c.in-Value.is) c.if-carts-cart.false
+    spare_good r.new.out c.args.line.now (opened (goal.at.returns c).After-number) c.in-Some.field-0.value c.in-Some.field-0.next (sym c.number.ensures ∙ c.in-Some.is) c.if-carts-cart.false
     c.if-line-next.false r.result (omega arith) r.ensures.0 c.if-read_cells-latest.false

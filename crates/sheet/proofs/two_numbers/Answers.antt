@@ -21,19 +21,19 @@ returns-in_default c = ap has_two (opened (goal.at.returns-in_default c).After-n
 
 pub returns-then-line-next : goal.returns-then-line-next
 returns-then-line-next c =
-    ap has_two (opened (goal.at.returns-then-line-next c).After-number) ∙ two_last _ _ c.in-Value.first c.in-Value.next (sym c.number.ensures ∙ c.in-Value.is) c.if-line-next.true
+    ap has_two (opened (goal.at.returns-then-line-next c).After-number) ∙ two_last _ _ c.in-Some.field-0.value c.in-Some.field-0.next (sym c.number.ensures ∙ c.in-Some.is) c.if-line-next.true
 
 pub returns-in_default-number : goal.returns-in_default-number
 returns-in_default-number c =
     ap has_two (opened (goal.at.returns-in_default-number c).After-number)
-    ∙ two_half _ _ c.in-Value.first c.in-Value.next (sym c.number.ensures ∙ c.in-Value.is) c.if-line-next.false (sym c.number-2.ensures ∙ c.in_default-number.is)
+    ∙ two_half _ _ c.in-Some.field-0.value c.in-Some.field-0.next (sym c.number.ensures ∙ c.in-Some.is) c.if-line-next.false (sym c.number-2.ensures ∙ c.in_default-number.is)
 
 pub returns : goal.returns
 returns c =
-    let f = sym c.number.ensures ∙ c.in-Value.is in
-    let e = sym c.number-2.ensures ∙ c.in-Value-number.is in record {
-      numbers = opened (goal.at.returns c).After-number ∙ two_both _ _ c.in-Value.first c.in-Value.next f c.if-line-next.false c.in-Value-number.second c.in-Value-number.end e;
-      inside = (number_bound c.args.line.now _ c.in-Value-number.second c.in-Value-number.end e (omega arith)).high;
-      past_first = c.in-Value.next;
+    let f = sym c.number.ensures ∙ c.in-Some.is in
+    let e = sym c.number-2.ensures ∙ c.in-Some-number.is in record {
+      numbers = opened (goal.at.returns c).After-number ∙ two_both _ _ c.in-Some.field-0.value c.in-Some.field-0.next f c.if-line-next.false c.in-Some-number.field-0.value c.in-Some-number.field-0.next e;
+      inside = (number_bound c.args.line.now _ c.in-Some-number.field-0.value c.in-Some-number.field-0.next e (omega arith)).high;
+      past_first = c.in-Some.field-0.next;
       first = f;
     }

@@ -10,14 +10,14 @@ returns-in_default c = whole_none c.args.line.now c.only_number.ensures (ap only
 pub returns-then-calls-call : goal.returns-then-calls-call
 returns-then-calls-call c =
     let a = c.args in
-    whole_no_call a.line.now c.only_number.ensures a.calls a.kinds.now c.in-Value.call (ap only_read c.in-Value.is) c.if-calls-call.true
+    whole_no_call a.line.now c.only_number.ensures a.calls a.kinds.now c.in-Some.field-0.value (ap only_read c.in-Some.is) c.if-calls-call.true
 
 pub returns-then-kinds-call-ne-LIFT : goal.returns-then-kinds-call-ne-LIFT
 returns-then-kinds-call-ne-LIFT c =
     let a = c.args in
-    whole_bay a.line.now c.only_number.ensures a.calls a.kinds.now c.in-Value.call (ap only_read c.in-Value.is) c.if-calls-call.false c.if-kinds-call-ne-LIFT.true
+    whole_bay a.line.now c.only_number.ensures a.calls a.kinds.now c.in-Some.field-0.value (ap only_read c.in-Some.is) c.if-calls-call.false c.if-kinds-call-ne-LIFT.true
 
 pub returns : goal.returns
 returns c =
     let a = c.args in
-    whole_good a.line.now c.only_number.ensures a.calls a.kinds.now c.in-Value.call (ap only_read c.in-Value.is) c.if-calls-call.false c.if-kinds-call-ne-LIFT.false
+    whole_good a.line.now c.only_number.ensures a.calls a.kinds.now c.in-Some.field-0.value (ap only_read c.in-Some.is) c.if-calls-call.false c.if-kinds-call-ne-LIFT.false

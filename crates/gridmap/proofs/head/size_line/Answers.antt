@@ -4,8 +4,9 @@ use mathlib.Core.List.{List}
 use mathlib.Core.Bool.{true, false≢true}
 use Prim.Native.Nat.{ℕ, ◌+◌}
 use lib.ListN.{length}
-use Rattle.text.specs.declared.scan.Scan.{Scan}
-use Rattle.text.specs.declared.scan.Scan.TheVariants.{Value, Fault}
+use Rattle.std.specs.Prelude.{Some, None}
+use Rattle.std.specs.Prelude as std
+use Rattle.text.specs.declared.Number.{Number}
 use Rattle.model.proofs.Written.{free}
 use Rattle.gridmap.specs.Lines.{opens_at, DigitsAt, SizeAt}
 use Rattle.gridmap.proofs.Lines.{line_free, opens_inside, size_said, size_unsaid}
@@ -24,9 +25,9 @@ pub size_at-requires : goal.size_at-requires
 size_at-requires c = let a = c.args in opens_inside a.word.now a.map.now a.at (opened (goal.at.size_at-requires c).Else-not-opens_at)
 
 -- by what stands behind the word
-by_digits : (word s : List ℕ) (at : ℕ) (r : Scan) → free 10 word ≡ true → opens_at word s at ≡ true → DigitsAt s (at + length word) r → SizeAt word s at r
-by_digits word s at Fault e o d = size_unsaid word s at (λ _. d)
-by_digits word s at (Value v next) e o d = (size_said word s at e o v next d, d.low, d.high)
+by_digits : (word s : List ℕ) (at : ℕ) (r : std.Option Number) → free 10 word ≡ true → opens_at word s at ≡ true → DigitsAt s (at + length word) r → SizeAt word s at r
+by_digits word s at None e o d = size_unsaid word s at (λ _. d)
+by_digits word s at (Some n) e o d = (size_said word s at e o n.value n.next d, d.low, d.high)
 
 pub returns : goal.returns
 returns c =

@@ -11,7 +11,7 @@ use Rattle.gridmap.specs.Lines.{SaidAt}
 use Rattle.gridmap.specs.Drawing.{Draws}
 use Rattle.gridmap.proofs.Whole.{no_word, is_word, no_size, is_size, first_bad, second_bad, third_bad, fourth_bad, past_fourth}
 use Rattle.gridmap.proofs.read.read_map.Goals as goal
-use Rattle.gridmap.proofs.read.read_map.Goals.{Else-not-word_line, Else-not-word_line-2, In-Value, In-Value-size_line}
+use Rattle.gridmap.proofs.read.read_map.Goals.{Else-not-word_line, Else-not-word_line-2, In-Some, In-Some-size_line}
 
 pub returns-then-not-word_line : goal.returns-then-not-word_line
 returns-then-not-word_line c =
@@ -31,54 +31,54 @@ returns-in_default c =
       omega arith,
     )
 
-second : (c : In-Value) → let v = c.in-Value in SaidAt (size_line (bytes "height ")) c.args.map.now 12 v.height v.third × (0 < v.height) × (v.height ≤ max_side)
-second c = let v = c.in-Value in is_size (bytes "height ") c.args.map.now 12 c.size_line.result v.height v.third v.is c.size_line.ensures
+second : (c : In-Some) → let v = c.in-Some.field-0 in SaidAt (size_line (bytes "height ")) c.args.map.now 12 v.value v.next × (0 < v.value) × (v.value ≤ max_side)
+second c = let v = c.in-Some.field-0 in is_size (bytes "height ") c.args.map.now 12 c.size_line.result v.value v.next c.in-Some.is c.size_line.ensures
 
 pub size_line-requires-2 : goal.size_line-requires-2
-size_line-requires-2 c = ((second (goal.at.size_line-requires-2 c).In-Value).0.inside, refl)
+size_line-requires-2 c = ((second (goal.at.size_line-requires-2 c).In-Some).0.inside, refl)
 
 pub returns-in_default-size_line : goal.returns-in_default-size_line
 returns-in_default-size_line c =
     let s = c.args.map.now in
-    let u = no_size (bytes "width ") s c.in-Value.third c.size_line-2.result c.in_default-size_line.is c.size_line-2.ensures in
-    (third_bad s (first (goal.at.returns-in_default-size_line c).Else-not-word_line) (second (goal.at.returns-in_default-size_line c).In-Value).0 u, omega arith)
+    let u = no_size (bytes "width ") s c.in-Some.field-0.next c.size_line-2.result c.in_default-size_line.is c.size_line-2.ensures in
+    (third_bad s (first (goal.at.returns-in_default-size_line c).Else-not-word_line) (second (goal.at.returns-in_default-size_line c).In-Some).0 u, omega arith)
 
-third : (c : In-Value-size_line) → let v = c.in-Value in let w = c.in-Value-size_line in
-    SaidAt (size_line (bytes "width ")) c.args.map.now v.third w.width w.fourth × (0 < w.width) × (w.width ≤ max_side)
+third : (c : In-Some-size_line) → let v = c.in-Some.field-0 in let w = c.in-Some-size_line.field-0 in
+    SaidAt (size_line (bytes "width ")) c.args.map.now v.next w.value w.next × (0 < w.value) × (w.value ≤ max_side)
 third c =
-    let v = c.in-Value in
-    let w = c.in-Value-size_line in
-    is_size (bytes "width ") c.args.map.now v.third c.size_line-2.result w.width w.fourth w.is c.size_line-2.ensures
+    let v = c.in-Some.field-0 in
+    let w = c.in-Some-size_line.field-0 in
+    is_size (bytes "width ") c.args.map.now v.next c.size_line-2.result w.value w.next c.in-Some-size_line.is c.size_line-2.ensures
 
 pub word_line-requires-2 : goal.word_line-requires-2
-word_line-requires-2 c = ((third (goal.at.word_line-requires-2 c).In-Value-size_line).0.inside, refl)
+word_line-requires-2 c = ((third (goal.at.word_line-requires-2 c).In-Some-size_line).0.inside, refl)
 
 pub returns-then-not-word_line-2 : goal.returns-then-not-word_line-2
 returns-then-not-word_line-2 c =
     let s = c.args.map.now in
-    let u = no_word (bytes "map") s c.in-Value-size_line.fourth c.word_line-2.result (ap not c.if-not-word_line-2.true) c.word_line-2.ensures in (
-      fourth_bad s (first (goal.at.returns-then-not-word_line-2 c).Else-not-word_line) (second (goal.at.returns-then-not-word_line-2 c).In-Value).0 (third
-          (goal.at.returns-then-not-word_line-2 c).In-Value-size_line).0 u,
+    let u = no_word (bytes "map") s c.in-Some-size_line.field-0.next c.word_line-2.result (ap not c.if-not-word_line-2.true) c.word_line-2.ensures in (
+      fourth_bad s (first (goal.at.returns-then-not-word_line-2 c).Else-not-word_line) (second (goal.at.returns-then-not-word_line-2 c).In-Some).0 (third
+          (goal.at.returns-then-not-word_line-2 c).In-Some-size_line).0 u,
       omega arith,
     )
 
-fourth : (c : Else-not-word_line-2) → SaidAt (word_line (bytes "map")) c.args.map.now c.in-Value-size_line.fourth (bytes "map") (c.in-Value-size_line.fourth + 3 + 1)
+fourth : (c : Else-not-word_line-2) → SaidAt (word_line (bytes "map")) c.args.map.now c.in-Some-size_line.field-0.next (bytes "map") (c.in-Some-size_line.field-0.next + 3 + 1)
 fourth c =
-    is_word (bytes "map") c.args.map.now c.in-Value-size_line.fourth c.word_line-2.result (ap not c.if-not-word_line-2.false) c.word_line-2.ensures
+    is_word (bytes "map") c.args.map.now c.in-Some-size_line.field-0.next c.word_line-2.result (ap not c.if-not-word_line-2.false) c.word_line-2.ensures
 
 pub overflow_add-fourth : goal.overflow_add-fourth
 overflow_add-fourth c = record { fits = omega (arith, (fourth (goal.at.overflow_add-fourth c).Else-not-word_line-2).inside) }
 
 pub read_rows-requires : goal.read_rows-requires
 read_rows-requires c =
-    let h = second (goal.at.read_rows-requires c).In-Value in
-    let w = third (goal.at.read_rows-requires c).In-Value-size_line in
+    let h = second (goal.at.read_rows-requires c).In-Some in
+    let w = third (goal.at.read_rows-requires c).In-Some-size_line in
     (omega (arith, (fourth (goal.at.read_rows-requires c).Else-not-word_line-2).inside), h.2, w.2, search rules)
 
 pub returns : goal.returns
 returns c =
     let s = c.args.map.now in
-    let e : c.in-Value-size_line.fourth + 3 + 1 ≡ c.in-Value-size_line.fourth + 4 = omega arith in
-    let q = past_fourth s (first (goal.at.returns c).Else-not-word_line) (second (goal.at.returns c).In-Value).0
-    (third (goal.at.returns c).In-Value-size_line).0 (fourth (goal.at.returns c).Else-not-word_line-2) in
+    let e : c.in-Some-size_line.field-0.next + 3 + 1 ≡ c.in-Some-size_line.field-0.next + 4 = omega arith in
+    let q = past_fourth s (first (goal.at.returns c).Else-not-word_line) (second (goal.at.returns c).In-Some).0
+    (third (goal.at.returns c).In-Some-size_line).0 (fourth (goal.at.returns c).Else-not-word_line-2) in
     subst (λ d. Draws d c.read_rows.new.places c.read_rows.result) (sym (rw e at q)) c.read_rows.ensures

@@ -6,14 +6,13 @@ use mathlib.Core.Path.{◌≡◌, refl, sym, ap, ◌∙◌}
 use mathlib.Core.Logic.{⊎_elim}
 use native.Mathlib.Omega.{arith}
 use Rattle.model.specs.Text.{scaled_of}
-use Rattle.text.specs.declared.scan.Scan.TheVariants as scan
-use Rattle.text.specs.Scan.{scaled_at}
+use Rattle.text.specs.Scan.{found, scaled_at}
 use Rattle.text.proofs.Numbers.{fields-from, next_inside}
 use Rattle.reader.proofs.Scans.{nothing, number_inside, got_fault, got_more, got_one, got_over, got_two}
 use Rattle.reader.specs.declared.line.Numbers.TheVariants.{Bad}
 use borrow.Author.Rules.{rules}
 use Rattle.reader.proofs.line.numbers_of.Goals as goal
-use Rattle.reader.proofs.line.numbers_of.Goals.{At-loop, In-Value}
+use Rattle.reader.proofs.line.numbers_of.Goals.{At-loop, In-Some}
 
 pub loop-init : goal.loop-init
 loop-init c = (search rules, nothing refl (sym (fields-from c.args.fields.now 0 (omega arith))))
@@ -29,8 +28,8 @@ returns-in_default c =
     (sym c.number.ensures ∙ c.in_default.is)
 
 -- A number stands at `at`.
-value : (c : In-Value) → scaled_at c.args.fields.now c.loop.at ≡ scan.Value c.in-Value.value c.in-Value.next
-value c = sym c.number.ensures ∙ c.in-Value.is
+value : (c : In-Some) → scaled_at c.args.fields.now c.loop.at ≡ found c.in-Some.field-0.value c.in-Some.field-0.next
+value c = sym c.number.ensures ∙ c.in-Some.is
 
 pub overflow_add-at : goal.overflow_add-at
 overflow_add-at c =
@@ -38,15 +37,15 @@ overflow_add-at c =
     let at = c.loop.at in
     omega (
       arith,
-      next_inside scaled_of s at c.in-Value.value c.in-Value.next (value (goal.at.overflow_add-at c).In-Value) (omega
-          (arith, number_inside s at c.in-Value.value c.in-Value.next (value (goal.at.overflow_add-at c).In-Value))),
+      next_inside scaled_of s at c.in-Some.field-0.value c.in-Some.field-0.next (value (goal.at.overflow_add-at c).In-Some) (omega
+          (arith, number_inside s at c.in-Some.field-0.value c.in-Some.field-0.next (value (goal.at.overflow_add-at c).In-Some))),
     )
 
 pub loop-preserved : goal.loop-preserved
 loop-preserved c = (
   omega arith,
-  got_more c.args.fields.now _ _ _ _ c.loop.invariant.1 (omega (arith, few (goal.at.loop-preserved c).At-loop)) c.in-Value.value c.in-Value.next (value
-      (goal.at.loop-preserved c).In-Value),
+  got_more c.args.fields.now _ _ _ _ c.loop.invariant.1 (omega (arith, few (goal.at.loop-preserved c).At-loop)) c.in-Some.field-0.value c.in-Some.field-0.next (value
+      (goal.at.loop-preserved c).In-Some),
 )
 
 pub returns-then-at-fields : goal.returns-then-at-fields

@@ -7,12 +7,11 @@ use native.Mathlib.Omega.{arith}
 use lib.ListN.{length, get_or, drop}
 use Rattle.model.specs.Text.{is_mark}
 use Rattle.model.specs.ReadJob.{is_empty}
-use Rattle.text.specs.declared.scan.Scan.TheVariants.{Value}
-use Rattle.text.specs.Scan.{field_of, number_at}
+use Rattle.text.specs.Scan.{found, field_of, number_at}
 use Rattle.text.proofs.FieldDigits.{goes_on}
 use Rattle.text.proofs.Powers.{plus_small, power_bad, power_fault, power_long, power_none, power_one, power_small}
 use Rattle.text.proofs.exponent.with_power.Goals as goal
-use Rattle.text.proofs.exponent.with_power.Goals.{Else-field_ends, Else-not-mark, In-Value}
+use Rattle.text.proofs.exponent.with_power.Goals.{Else-field_ends, Else-not-mark, In_ok-power}
 
 pub returns-then-field_ends : goal.returns-then-field_ends
 returns-then-field_ends c = let a = c.args in power_none a.s.now a.at a.value (sym c.field_ends.ensures ∙ c.if-field_ends.true)
@@ -39,11 +38,13 @@ overflow_add-at c = omega (arith, inside (goal.at.overflow_add-at c).Else-field_
 marked : (c : Else-not-mark) → is_mark (get_or c.args.s.now c.args.at 0) ≡ true
 marked c = sym c.mark.ensures ∙ c.if-not-mark.false
 
-pub returns-in_default : goal.returns-in_default
-returns-in_default c =
+pub returns-in_err-power : goal.returns-in_err-power
+returns-in_err-power c =
     let a = c.args in
-    power_fault a.s.now a.at a.value (on (goal.at.returns-in_default c).Else-field_ends) (marked (goal.at.returns-in_default c).Else-not-mark) c.past_plus-from.result c.past_plus-from.ensures
-    (sym c.number.ensures ∙ c.in_default.is)
+    c.from_residual.ensures
+    ∙ power_fault a.s.now a.at a.value (on (goal.at.returns-in_err-power c).Else-field_ends) (marked
+    (goal.at.returns-in_err-power c).Else-not-mark) c.past_plus-from.result c.past_plus-from.ensures
+    (sym c.in_err-power.ensures)
 
 pub overflow_add-from : goal.overflow_add-from
 overflow_add-from c =
@@ -52,32 +53,32 @@ overflow_add-from c =
     omega (arith, inside (goal.at.overflow_add-from c).Else-field_ends, f, plus_small (drop (a.at + 1) a.s.now))
 
 -- A number stands there.
-digit : (c : In-Value) → number_at c.args.s.now c.past_plus-from.result ≡ Value c.in-Value.power c.in-Value.next
-digit c = sym c.number.ensures ∙ c.in-Value.is
+digit : (c : In_ok-power) → let p = c.in_ok-power.power in number_at c.args.s.now c.past_plus-from.result ≡ found p.value p.next
+digit c = sym c.in_ok-power.ensures
 
-pub returns-then-next-from : goal.returns-then-next-from
-returns-then-next-from c =
+pub returns-then-power-from : goal.returns-then-power-from
+returns-then-power-from c =
     let a = c.args in
-    power_long a.s.now a.at a.value (on (goal.at.returns-then-next-from c).Else-field_ends) (marked
-    (goal.at.returns-then-next-from c).Else-not-mark) c.past_plus-from.result c.past_plus-from.ensures c.in-Value.power c.in-Value.next
-    (digit (goal.at.returns-then-next-from c).In-Value)
-    c.if-next-from.true
+    power_long a.s.now a.at a.value (on (goal.at.returns-then-power-from c).Else-field_ends) (marked
+    (goal.at.returns-then-power-from c).Else-not-mark) c.past_plus-from.result c.past_plus-from.ensures c.in_ok-power.power.value c.in_ok-power.power.next
+    (digit (goal.at.returns-then-power-from c).In_ok-power)
+    c.if-power-from.true
 
 pub raised-requires : goal.raised-requires
 raised-requires c =
     let a = c.args in (
       c.requires,
       power_small a.s.now a.at a.value (on (goal.at.raised-requires c).Else-field_ends) (marked
-          (goal.at.raised-requires c).Else-not-mark) c.past_plus-from.result c.past_plus-from.ensures c.in-Value.power c.in-Value.next
-          (digit (goal.at.raised-requires c).In-Value)
-          c.if-next-from.false,
+          (goal.at.raised-requires c).Else-not-mark) c.past_plus-from.result c.past_plus-from.ensures c.in_ok-power.power.value c.in_ok-power.power.next
+          (digit (goal.at.raised-requires c).In_ok-power)
+          c.if-power-from.false,
     )
 
 pub returns : goal.returns
 returns c =
     let a = c.args in
-    ap (λ x. Value x c.in-Value.next) c.raised.ensures
+    ap (λ x. found x c.in_ok-power.power.next) c.raised.ensures
     ∙ power_one a.s.now a.at a.value (on (goal.at.returns c).Else-field_ends) (marked (goal.at.returns c).Else-not-mark) c.past_plus-from.result
-    c.past_plus-from.ensures c.in-Value.power c.in-Value.next
-    (digit (goal.at.returns c).In-Value)
-    c.if-next-from.false
+    c.past_plus-from.ensures c.in_ok-power.power.value c.in_ok-power.power.next
+    (digit (goal.at.returns c).In_ok-power)
+    c.if-power-from.false
