@@ -1,5 +1,5 @@
 // Reading: where a line ends, the word it opens with, its fields and their numbers.
-ghost use Rattle.std.specs.Prelude.{◌≡◌, ◌+◌, ◌≤◌, length, drop};
+ghost use Rattle.std.specs.Prelude.{◌≡◌, ◌==◌, ◌+◌, ◌≤◌, ◌∷◌, ◌++◌, length, drop, position, MatchOption};
 ghost use Rattle.model.specs.Text.{is_digit, starts_with, fields_of};
 ghost use Rattle.model.specs.ReadJob.{is_empty};
 ghost use Rattle.text.specs.Scan.{line_of, field_of, number_at, digits_at, may_go_on, ended};
@@ -7,36 +7,21 @@ ghost use Rattle.text.specs.Scan.{line_of, field_of, number_at, digits_at, may_g
 use crate::Number;
 use model::bytes::wide;
 
-// Where the line that starts at `at` ends: before its line feed, or at the end where it has none.
-fn line_end(s: &[u8], at: usize) -> usize
-    requires { at ≤ length s.now }
-    ensures { result ≡ at + length (line_of (drop at s.now)) }
+// The place of the first line feed, if there is one.
+fn feed(s: &[u8]) -> Option<usize>
+    ensures { result ≡ position (λ b. b == 10) s.now }
 {
-    let mut i = at;
-    while i < s.len() {
-        if s[i] == 10 {
-            return i;
-        }
-        i += 1;
-    }
-    i
+    s.iter().position(|b| *b == b'\n')
 }
 
-// The place behind the line that starts at `at` and its line feed: past the end where it has none.
-pub fn line_past(s: &[u8], at: usize) -> usize
+// The line that starts at `at`, without its line feed, if one ends it.
+pub fn line(s: &[u8], at: usize) -> Option<&[u8]>
     requires { at ≤ length s.now }
-    ensures { result ≡ at + length (line_of (drop at s.now)) + 1 }
+    ensures { MatchOption result (line_of (drop at s.now) ≡ drop at s.now) (λ l. (l.now ≡ line_of (drop at s.now)) × (drop at s.now ≡ l.now ++ 10 ∷ drop (at + length l.now + 1) s.now)) }
 {
-    line_end(s, at) + 1
-}
-
-// That line, without its line feed, by the place behind it.
-pub fn line_before(s: &[u8], at: usize, past: usize) -> &[u8]
-    requires { (at ≤ length s.now) × (past ≡ at + length (line_of (drop at s.now)) + 1) }
-    ensures { result.now ≡ line_of (drop at s.now) }
-{
-    let end = past - 1;
-    &s[at..end]
+    let rest = &s[at..];
+    let n = feed(rest)?;
+    Some(&rest[..n])
 }
 
 // Whether s starts with word.
