@@ -10,13 +10,13 @@ ghost use Rattle.aim.specs.Queue.{Queue};
 use floor::tables::row;
 use model::Limits;
 use model::bytes::wide;
-use network::planes::{Grid, used};
+use network::planes::Store;
 
 // Whether a cart stands on the cell at step 0, where a node's place is its cell, that no call has yet.
-fn is_free(cart_on: &[u8], store: &[u8], grid: Grid, c: usize) -> bool
-    requires { (c < length cart_on.now) × Within grid store.now c }
+fn is_free(cart_on: &[u8], store: &Store<'_>, c: usize) -> bool
+    requires { (c < length cart_on.now) × Within store.now.grid store.now.bytes.now c }
 {
-    cart_on[c] != 0 && used(store, grid, c) == 0
+    cart_on[c] != 0 && !store.used(c)
 }
 
 // Puts the cells of c's row that were not seen at the end of the queue, with the way back to c, up to the first free cart. Answers where the queue ends then. It never has
@@ -24,8 +24,7 @@ fn is_free(cart_on: &[u8], store: &[u8], grid: Grid, c: usize) -> bool
 fn expand(
     row: &[u8],
     cart_on: &[u8],
-    store: &[u8],
-    grid: Grid,
+    store: &Store<'_>,
     c: usize,
     queue: &mut [u8; Limits::CELLS],
     seen: &mut [u8; Limits::CELLS],
@@ -33,20 +32,20 @@ fn expand(
     place: &mut [u8; Limits::CELLS],
     end: usize,
 ) -> usize
-    requires { Cells grid.cells row.now × (length row.now ≤ max_cells) × (length cart_on.now ≡ max_cells) × Spacious grid store.now × (grid.cells ≤ grid.nodes) × (c < max_cells) × Queue grid.cells queue.old end }
-    ensures { Queue grid.cells queue.new result }
+    requires { Cells store.now.grid.cells row.now × (length row.now ≤ max_cells) × (length cart_on.now ≡ max_cells) × Spacious store.now.grid store.now.bytes.now × (store.now.grid.cells ≤ store.now.grid.nodes) × (c < max_cells) × Queue store.now.grid.cells queue.old end }
+    ensures { Queue store.now.grid.cells queue.new result }
 {
     let mut tail = end;
     for i in 0..row.len() {
         let b = row[i];
         let x = wide(b);
-        if seen[x] == 0 && tail < grid.cells {
+        if seen[x] == 0 && tail < store.grid.cells {
             seen[x] = 1;
             to[x] = c as u8;
             place[x] = i as u8;
             queue[tail] = b;
             tail += 1;
-            if is_free(cart_on, store, grid, x) {
+            if is_free(cart_on, store, x) {
                 return tail;
             }
         }
@@ -83,12 +82,11 @@ pub fn aim(
     near: &[u8],
     begin: &[u16],
     cart_on: &[u8],
-    store: &[u8],
-    grid: Grid,
+    store: &Store<'_>,
     cell: usize,
     hint: &mut [u8],
 ) -> usize
-    requires { Rows grid.cells near.now begin.now × (grid.cells ≤ max_cells) × (length cart_on.now ≡ max_cells) × Spacious grid store.now × (grid.cells ≤ grid.nodes) × (cell < grid.cells) × (length hint.old ≡ max_cells) }
+    requires { Rows store.now.grid.cells near.now begin.now × (store.now.grid.cells ≤ max_cells) × (length cart_on.now ≡ max_cells) × Spacious store.now.grid store.now.bytes.now × (store.now.grid.cells ≤ store.now.grid.nodes) × (cell < store.now.grid.cells) × (length hint.old ≡ max_cells) }
     ensures { (length hint.new ≡ max_cells) × (result ≤ max_cells) }
 {
     let mut queue = [0u8; Limits::CELLS];
@@ -101,14 +99,14 @@ pub fn aim(
     let mut tail = 1;
     while head < tail {
         let x = wide(queue[tail - 1]);
-        if is_free(cart_on, store, grid, x) {
+        if is_free(cart_on, store, x) {
             hint[x] = 0;
-            return trace(hint, &to, &place, grid.cells, x, cell);
+            return trace(hint, &to, &place, store.grid.cells, x, cell);
         }
         let c = wide(queue[head]);
         let row = row(near, begin, c);
         tail = expand(
-            row, cart_on, store, grid, c, &mut queue, &mut seen, &mut to, &mut place, tail,
+            row, cart_on, store, c, &mut queue, &mut seen, &mut to, &mut place, tail,
         );
         head += 1;
     }

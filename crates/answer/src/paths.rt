@@ -9,30 +9,30 @@ ghost use Rattle.answer.specs.Trail.{HasCart, CameFrom, Trail};
 
 use model::Limits;
 use model::bytes::wide;
-use network::planes::{Grid, Node, place, prev, used};
+use network::planes::{Node, Store};
 
 // The cell that the cart on the node, at a step after 0, came from. Two carts that would trade places both stand instead.
-fn came_from(store: &[u8], grid: Grid, node: Node) -> usize
-    requires { ((j : model.Job) × KeepsAll j grid store.now × HasCart j store.now (as_point node)) × (0 < node.step) × (node.step < grid.top) }
-    ensures { (j : model.Job) → KeepsAll j grid store.now → HasCart j store.now (as_point node) → CameFrom j store.now (as_point node) result }
+fn came_from(store: &Store<'_>, node: Node) -> usize
+    requires { ((j : model.Job) × KeepsAll j store.now.grid store.now.bytes.now × HasCart j store.now.bytes.now (as_point node)) × (0 < node.step) × (node.step < store.now.grid.top) }
+    ensures { (j : model.Job) → KeepsAll j store.now.grid store.now.bytes.now → HasCart j store.now.bytes.now (as_point node) → CameFrom j store.now.bytes.now (as_point node) result }
 {
     let cell = node.cell;
     let step = node.step;
-    let from = prev(store, grid, place(grid, node));
-    let other = place(grid, Node { cell: from, step });
-    if used(store, grid, other) == 0 {
+    let from = store.prev(store.grid.place(node));
+    let other = store.grid.place(Node { cell: from, step });
+    if !store.used(other) {
         return from;
     }
-    if prev(store, grid, other) != cell {
+    if store.prev(other) != cell {
         return from;
     }
     cell
 }
 
 // Follows the cart on the node back to step 0. Its cells go into the row, and the first of them is the answer.
-fn follow(store: &[u8], grid: Grid, row: &mut [u8], node: Node) -> usize
-    requires { ((j : model.Job) × KeepsAll j grid store.now × HasCart j store.now (as_point node)) × (node.step < length row.old) × (node.step < grid.top) }
-    ensures { (j : model.Job) → KeepsAll j grid store.now → HasCart j store.now (as_point node) → Trail j store.now (as_point node) row.old row.new result }
+fn follow(store: &Store<'_>, row: &mut [u8], node: Node) -> usize
+    requires { ((j : model.Job) × KeepsAll j store.now.grid store.now.bytes.now × HasCart j store.now.bytes.now (as_point node)) × (node.step < length row.old) × (node.step < store.now.grid.top) }
+    ensures { (j : model.Job) → KeepsAll j store.now.grid store.now.bytes.now → HasCart j store.now.bytes.now (as_point node) → Trail j store.now.bytes.now (as_point node) row.old row.new result }
 {
     let cell = node.cell;
     let step = node.step;
@@ -40,10 +40,9 @@ fn follow(store: &[u8], grid: Grid, row: &mut [u8], node: Node) -> usize
     if step == 0 {
         return cell;
     }
-    let from = came_from(store, grid, node);
+    let from = came_from(store, node);
     follow(
         store,
-        grid,
         row,
         Node {
             cell: from,
@@ -57,15 +56,14 @@ pub fn write_paths(
     targets: &[u8; Limits::CALLS],
     calls: usize,
     cart_on: &[u8],
-    store: &[u8],
-    grid: Grid,
+    store: &Store<'_>,
     first: &mut [u8],
     second: &[u8],
     lasts: &mut [u8],
     rows: &mut [u8],
 )
-    requires { ((j : model.Job) × FullFlow j targets.now calls cart_on.now second.now grid store.now) × Room first.old second.now lasts.old rows.old }
-    ensures { Room first.new second.now lasts.new rows.new × ((j : model.Job) → FullFlow j targets.now calls cart_on.now second.now grid store.now → PathsTraced j second.now store.now first.new lasts.new rows.new calls) }
+    requires { ((j : model.Job) × FullFlow j targets.now calls cart_on.now second.now store.now.grid store.now.bytes.now) × Room first.old second.now lasts.old rows.old }
+    ensures { Room first.new second.now lasts.new rows.new × ((j : model.Job) → FullFlow j targets.now calls cart_on.now second.now store.now.grid store.now.bytes.now → PathsTraced j second.now store.now.bytes.now first.new lasts.new rows.new calls) }
 {
     let mut i = 0;
     while i < calls {
@@ -73,12 +71,12 @@ pub fn write_paths(
         let cell = wide(targets[q]);
         let call = Node {
             cell,
-            step: grid.top,
+            step: store.grid.top,
         };
-        let step = prev(store, grid, place(grid, call));
+        let step = store.prev(store.grid.place(call));
         let a = i * Limits::STEPS;
         let e = a + Limits::STEPS;
-        let c = follow(store, grid, &mut rows[a..e], Node { cell, step });
+        let c = follow(store, &mut rows[a..e], Node { cell, step });
         first[i] = cart_on[c] - 1;
         lasts[i] = step as u8;
         i += 1;

@@ -4,86 +4,81 @@ ghost use Rattle.model.specs.Lists.{In};
 ghost use Rattle.model.specs.Limits.{max_cells, max_steps};
 ghost use Rattle.model.specs.Job as model;
 ghost use Rattle.model.specs.Choke.{point};
-ghost use Rattle.network.specs.Store.{place_in, used_at, Spacious};
+ghost use Rattle.network.specs.Store.{place_in, used_at, Spacious, SameStore, Wrote};
 ghost use Rattle.network.specs.Keeping.{KeepsAll, LooseAt, SameStarts};
 ghost use Rattle.network.specs.Holds.{Holds};
 ghost use Rattle.answer.specs.Spares.{linked, StartsMore, Unkept, AllKept};
 
 use model::Limits;
 use model::bytes::wide;
-use network::planes::{Grid, LEADS, Node, place, prev, set_next, set_prev, set_used, used};
+use network::planes::{Node, Store, Use};
 
 // The cart on the cell at the step stands: the bytes of the two nodes say so.
-fn link(store: &mut [u8], grid: Grid, cell: usize, step: usize)
-    requires { Spacious grid store.old × (place_in grid cell step < grid.nodes) × (place_in grid cell (suc step) < grid.nodes) × (cell < max_cells) × (step < max_steps) }
-    ensures { store.new ≡ linked grid store.old cell step }
+fn link(store: &mut Store<'_>, cell: usize, step: usize)
+    requires { Spacious store.old.grid store.old.bytes.now × (place_in store.old.grid cell step < store.old.grid.nodes) × (place_in store.old.grid cell (suc step) < store.old.grid.nodes) × (cell < max_cells) × (step < max_steps) }
+    ensures { Wrote store.old store.new (linked store.old.grid store.old.bytes.now cell step) }
 {
-    let u = place(grid, Node { cell, step });
-    let v = place(
-        grid,
-        Node {
-            cell,
-            step: step + 1,
-        },
-    );
-    set_next(store, grid, u, cell);
-    set_prev(store, grid, v, cell);
+    let grid = store.grid;
+    let u = grid.place(Node { cell, step });
+    let v = grid.place(Node {
+        cell,
+        step: step + 1,
+    });
+    store.set_next(u, cell);
+    store.set_prev(v, cell);
 }
 
 // The cart whose line ends on the cell at the step stands. Whoever was to come there stands instead, and so on; answers the cell of the one that nobody was to come to.
-fn stand(store: &mut [u8], grid: Grid, cell: usize, step: usize) -> usize
-    requires { ((j : model.Job) × LooseAt j grid store.old (point cell step)) × (step + 1 < grid.top) }
-    ensures { (length store.new ≡ length store.old) × ((j : model.Job) → LooseAt j grid store.old (point cell step) → LooseAt j grid store.new (point result (suc step)) × SameStarts j store.old store.new) }
+fn stand(store: &mut Store<'_>, cell: usize, step: usize) -> usize
+    requires { ((j : model.Job) × LooseAt j store.old.grid store.old.bytes.now (point cell step)) × (step + 1 < store.old.grid.top) }
+    ensures { SameStore store.old store.new × ((j : model.Job) → LooseAt j store.old.grid store.old.bytes.now (point cell step) → LooseAt j store.old.grid store.new.bytes.now (point result (suc step)) × SameStarts j store.old.bytes.now store.new.bytes.now) }
 {
+    let grid = store.grid;
     let mut at = cell;
-    let mut v = place(
-        grid,
-        Node {
+    let mut v = grid.place(Node {
+        cell: at,
+        step: step + 1,
+    });
+    while store.used(v) {
+        let came = store.prev(v);
+        link(store, at, step);
+        at = came;
+        v = grid.place(Node {
             cell: at,
             step: step + 1,
-        },
-    );
-    while used(store, grid, v) != 0 {
-        let came = prev(store, grid, v);
-        link(store, grid, at, step);
-        at = came;
-        v = place(
-            grid,
-            Node {
-                cell: at,
-                step: step + 1,
-            },
-        );
+        });
     }
-    link(store, grid, at, step);
-    set_used(store, grid, v, LEADS);
+    link(store, at, step);
+    store.set_used(v, Use::Leads);
     at
 }
 
 // Gives the cart on the cell, which no line uses yet, a line to the last step.
-fn keep(store: &mut [u8], grid: Grid, cell: usize)
-    requires { ((j : model.Job) × KeepsAll j grid store.old × In cell j.carts) × (used_at grid store.old (place_in grid cell 0) ≡ 0) }
-    ensures { (length store.new ≡ length store.old) × ((j : model.Job) → KeepsAll j grid store.old → In cell j.carts → KeepsAll j grid store.new × StartsMore j store.old store.new cell) }
+fn keep(store: &mut Store<'_>, cell: usize)
+    requires { ((j : model.Job) × KeepsAll j store.old.grid store.old.bytes.now × In cell j.carts) × (used_at store.old.grid store.old.bytes.now (place_in store.old.grid cell 0) ≡ 0) }
+    ensures { SameStore store.old store.new × ((j : model.Job) → KeepsAll j store.old.grid store.old.bytes.now → In cell j.carts → KeepsAll j store.old.grid store.new.bytes.now × StartsMore j store.old.bytes.now store.new.bytes.now cell) }
 {
-    set_used(store, grid, place(grid, Node { cell, step: 0 }), LEADS);
+    let grid = store.grid;
+    store.set_used(grid.place(Node { cell, step: 0 }), Use::Leads);
     let mut at = cell;
     let mut t = 0;
     while t + 1 < grid.top {
-        at = stand(store, grid, at, t);
+        at = stand(store, at, t);
         t += 1;
     }
 }
 
 // Gives each cart that no line uses one of its own.
-pub fn keep_spares(starts: &[u8; Limits::CARTS], carts: usize, store: &mut [u8], grid: Grid)
-    requires { (j : model.Job) × Unkept j starts.now carts grid store.old }
-    ensures { (length store.new ≡ length store.old) × ((j : model.Job) → Unkept j starts.now carts grid store.old → AllKept j grid store.new) }
+pub fn keep_spares(starts: &[u8; Limits::CARTS], carts: usize, store: &mut Store<'_>)
+    requires { (j : model.Job) × Unkept j starts.now carts store.old.grid store.old.bytes.now }
+    ensures { SameStore store.old store.new × ((j : model.Job) → Unkept j starts.now carts store.old.grid store.old.bytes.now → AllKept j store.old.grid store.new.bytes.now) }
 {
+    let grid = store.grid;
     let mut k = 0;
     while k < carts {
         let cell = wide(starts[k]);
-        if used(store, grid, place(grid, Node { cell, step: 0 })) == 0 {
-            keep(store, grid, cell);
+        if !store.used(grid.place(Node { cell, step: 0 })) {
+            keep(store, cell);
         }
         k += 1;
     }

@@ -13,39 +13,39 @@ ghost use Rattle.answer.specs.Trail.{MeetsNone, GoesTo, WalkRow};
 
 use model::Limits;
 use model::bytes::wide;
-use network::planes::{Grid, Node, next, place, prev, used};
+use network::planes::{Node, Store};
 
 // The cell that the cart on the node, at a step before the last, goes on to; most stand. Two that would trade places both stand instead.
-fn goes_to(store: &[u8], grid: Grid, node: Node) -> usize
-    requires { ((j : model.Job) × KeepsAll j grid store.now × MeetsNone j store.now (as_point node)) × (node.step + 1 < grid.top) }
-    ensures { (j : model.Job) → KeepsAll j grid store.now → MeetsNone j store.now (as_point node) → GoesTo j store.now (as_point node) result }
+fn goes_to(store: &Store<'_>, node: Node) -> usize
+    requires { ((j : model.Job) × KeepsAll j store.now.grid store.now.bytes.now × MeetsNone j store.now.bytes.now (as_point node)) × (node.step + 1 < store.now.grid.top) }
+    ensures { (j : model.Job) → KeepsAll j store.now.grid store.now.bytes.now → MeetsNone j store.now.bytes.now (as_point node) → GoesTo j store.now.bytes.now (as_point node) result }
 {
     let cell = node.cell;
     let step = node.step + 1;
-    let on = next(store, grid, place(grid, node));
+    let on = store.next(store.grid.place(node));
     if on == cell {
         return on;
     }
-    let beside = place(grid, Node { cell, step });
-    if used(store, grid, beside) == 0 {
+    let beside = store.grid.place(Node { cell, step });
+    if !store.used(beside) {
         return on;
     }
-    if prev(store, grid, beside) != on {
+    if store.prev(beside) != on {
         return on;
     }
     cell
 }
 
 // Follows the cart that starts on the cell. Its cells go into the row.
-fn go_on(store: &[u8], grid: Grid, row: &mut [u8], cell: usize)
-    requires { ((j : model.Job) × KeepsAll j grid store.now × MeetsNone j store.now (point cell 0)) × (grid.top ≤ length row.old) }
-    ensures { (j : model.Job) → KeepsAll j grid store.now → MeetsNone j store.now (point cell 0) → WalkRow j store.now cell grid.top row.new }
+fn go_on(store: &Store<'_>, row: &mut [u8], cell: usize)
+    requires { ((j : model.Job) × KeepsAll j store.now.grid store.now.bytes.now × MeetsNone j store.now.bytes.now (point cell 0)) × (store.now.grid.top ≤ length row.old) }
+    ensures { (j : model.Job) → KeepsAll j store.now.grid store.now.bytes.now → MeetsNone j store.now.bytes.now (point cell 0) → WalkRow j store.now.bytes.now cell store.now.grid.top row.new }
 {
     row[0] = cell as u8;
     let mut at = cell;
     let mut t = 0;
-    while t + 1 < grid.top {
-        at = goes_to(store, grid, Node { cell: at, step: t });
+    while t + 1 < store.grid.top {
+        at = goes_to(store, Node { cell: at, step: t });
         t += 1;
         row[t] = at as u8;
     }
@@ -86,23 +86,22 @@ pub fn write_spares(
     starts: &[u8; Limits::CARTS],
     carts: usize,
     calls: usize,
-    store: &[u8],
-    grid: Grid,
+    store: &Store<'_>,
     first: &mut [u8],
     lasts: &mut [u8],
     rows: &mut [u8],
 )
-    requires { (j : model.Job) × (order : List ℕ) × PathsWritten j starts.now carts calls order grid store.now first.old lasts.old rows.old }
-    ensures { (j : model.Job) (order : List ℕ) → PathsWritten j starts.now carts calls order grid store.now first.old lasts.old rows.old → Room first.new order lasts.new rows.new × RightPlan j (paths_to first.new order lasts.new rows.new calls) (spares_from first.new lasts.new rows.new calls (carts - calls)) }
+    requires { (j : model.Job) × (order : List ℕ) × PathsWritten j starts.now carts calls order store.now.grid store.now.bytes.now first.old lasts.old rows.old }
+    ensures { (j : model.Job) (order : List ℕ) → PathsWritten j starts.now carts calls order store.now.grid store.now.bytes.now first.old lasts.old rows.old → Room first.new order lasts.new rows.new × RightPlan j (paths_to first.new order lasts.new rows.new calls) (spares_from first.new lasts.new rows.new calls (carts - calls)) }
 {
     list_spares(first, calls, carts);
-    let last = (grid.top - 1) as u8;
+    let last = (store.grid.top - 1) as u8;
     let mut k = calls;
     while k < carts {
         let cell = wide(starts[wide(first[k])]);
         let a = k * Limits::STEPS;
         let e = a + Limits::STEPS;
-        go_on(store, grid, &mut rows[a..e], cell);
+        go_on(store, &mut rows[a..e], cell);
         lasts[k] = last;
         k += 1;
     }

@@ -1,3 +1,4 @@
+pub mod StoreLaws
 pub mod ChokeTargets
 pub mod ChokeWalk
 pub mod ChokeLines

@@ -8,6 +8,9 @@ use Rattle.model.specs.Choke.{Point, point}
 use Rattle.network.specs.Graph.{top}
 use Rattle.network.specs.declared.planes.Grid.{Grid}
 use Rattle.network.specs.declared.planes.Node.{Node}
+use Rattle.network.specs.declared.planes.Store.{Store}
+use Rattle.network.specs.declared.planes.Use.{Use}
+use Rattle.network.specs.declared.planes.Use.TheVariants.{Free, Leads, Meets}
 
 -- how many nodes: cells at steps from 0 to H, and a layer for the calls
 abbrev pub nodes : Job → ℕ
@@ -61,6 +64,17 @@ via_at g s i = point (at g s 7 i) (at g s 8 i)
 abbrev pub meets : ℕ
 meets = 2
 
+abbrev pub byte_of : Use → ℕ
+byte_of Free = 0
+byte_of Leads = 1
+byte_of Meets = meets
+
+abbrev pub used_test : Grid → List ℕ → ℕ → Bool
+used_test g s v = not (eqb (used_at g s v) 0)
+
+abbrev pub meets_test : Grid → List ℕ → ℕ → Bool
+meets_test g s v = eqb (used_at g s v) meets
+
 -- where a used node leads on to, and where it came from
 abbrev pub leads_to : Grid → List ℕ → Point → Point
 leads_to g s x = cond (eqb (used_at g s (place_at g x)) meets) (point x.cell g.top) (point (next_at g s (place_at g x)) (x.step + 1))
@@ -96,6 +110,17 @@ Spacious g s = 9 * g.nodes ≤ length s
 -- and v is a place of a plane
 abbrev pub Within : Grid → List ℕ → ℕ → Type 0
 Within g s v = Spacious g s × (v < g.nodes)
+
+-- The store t is s, lent on: the same bytes, cut for the same grid, whatever they are now.
+pub record SameStore (s t : Store) : Type 0 where
+  pub grid : t.grid ≡ s.grid
+  pub lent : t.bytes.ghost_name ≡ s.bytes.ghost_name
+  pub long : length t.bytes.now ≡ length s.bytes.now
+
+-- It has these bytes now.
+pub record Wrote (s t : Store) (b : List ℕ) : Type 0 where
+  pub same : SameStore s t
+  pub bytes : t.bytes.now ≡ b
 
 -- the test of `Inside`
 abbrev pub inside : Job → Point → Bool

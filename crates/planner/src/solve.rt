@@ -8,12 +8,13 @@ ghost use Rattle.job.specs.Arrays.{job_of, Sized};
 ghost use Rattle.job.specs.Held.{Room};
 ghost use Rattle.floor.specs.Tables.{near_size, Tables};
 ghost use Rattle.network.specs.Holds.{Holds};
+ghost use Rattle.network.specs.Store.{SameStore};
 ghost use Rattle.planner.specs.Solved.{Wiped, Begun, ServedAll, Finished, AllServed, PlanHeld, Solved};
 
 use job::state::Job;
 use model::Limits;
 use model::bytes::wide;
-use network::planes::{Grid, Node, wipe};
+use network::planes::{Grid, Node, Store};
 use route::serve::Served;
 
 // A plan, or how many choke points show that there is none.
@@ -51,11 +52,10 @@ fn serve_all(
     shut: &[u16],
     cart_on: &[u8],
     order: &[u8],
-    store: &mut [u8],
-    grid: Grid,
+    store: &mut Store<'_>,
 ) -> Served
-    requires { (j : model.Job) × Begun j targets.now calls near.now begin.now due.now shut.now cart_on.now order.now store.old grid }
-    ensures { (length store.new ≡ length store.old) × ((j : model.Job) → Begun j targets.now calls near.now begin.now due.now shut.now cart_on.now order.now store.old grid → Holds j grid store.new × ServedAll j store.new result) }
+    requires { (j : model.Job) × Begun j targets.now calls near.now begin.now due.now shut.now cart_on.now order.now store.old.bytes.now store.old.grid }
+    ensures { SameStore store.old store.new × ((j : model.Job) → Begun j targets.now calls near.now begin.now due.now shut.now cart_on.now order.now store.old.bytes.now store.old.grid → Holds j store.old.grid store.new.bytes.now × ServedAll j store.new.bytes.now result) }
 {
     let mut hint = [0u8; Limits::CELLS];
     let mut stamp = 1u8;
@@ -63,11 +63,11 @@ fn serve_all(
     while i < calls {
         let q = wide(order[i]);
         let cell = wide(targets[q]);
-        let far = aim::aim(near, begin, cart_on, store, grid, cell, &mut hint);
+        let far = aim::aim(near, begin, cart_on, store, cell, &mut hint);
         let fresh = i == 0;
         let node = Node {
             cell,
-            step: grid.top,
+            step: store.grid.top,
         };
         let served = route::serve::serve(
             near,
@@ -77,7 +77,6 @@ fn serve_all(
             cart_on,
             &hint,
             store,
-            grid,
             node,
             2 * far,
             stamp,
@@ -93,9 +92,9 @@ fn serve_all(
 }
 
 // Fills the tables of the job's floor, and serves its calls over them. The table of carts is lent, since the paths need it too.
-fn serve_job(job: Job, cart_on: &mut [u8], order: &[u8], store: &mut [u8], grid: Grid) -> Served
-    requires { Sized job × (length cart_on.old ≡ max_cells) × Wiped (job_of job) order.now store.old grid }
-    ensures { (length store.new ≡ length store.old) × Finished (job_of job) cart_on.new order.now grid store.new result }
+fn serve_job(job: Job, cart_on: &mut [u8], order: &[u8], store: &mut Store<'_>) -> Served
+    requires { Sized job × (length cart_on.old ≡ max_cells) × Wiped (job_of job) order.now store.old.bytes.now store.old.grid }
+    ensures { SameStore store.old store.new × Finished (job_of job) cart_on.new order.now store.old.grid store.new.bytes.now result }
 {
     let mut near = [0u8; Limits::CELLS + 2 * Limits::TRACKS];
     let mut begin = [0u16; Limits::CELLS + 1];
@@ -112,7 +111,6 @@ fn serve_job(job: Job, cart_on: &mut [u8], order: &[u8], store: &mut [u8], grid:
         cart_on,
         order,
         store,
-        grid,
     )
 }
 
@@ -120,38 +118,27 @@ fn serve_job(job: Job, cart_on: &mut [u8], order: &[u8], store: &mut [u8], grid:
 fn write_plan(
     job: Job,
     cart_on: &[u8],
-    store: &mut [u8],
-    grid: Grid,
+    store: &mut Store<'_>,
     first: &mut [u8],
     second: &[u8],
     lasts: &mut [u8],
     rows: &mut [u8],
 )
-    requires { Sized job × AllServed (job_of job) cart_on.now second.now grid store.old × Room first.old second.now lasts.old rows.old }
-    ensures { (length store.new ≡ length store.old) × Room first.new second.now lasts.new rows.new × PlanHeld (job_of job) first.new second.now lasts.new rows.new }
+    requires { Sized job × AllServed (job_of job) cart_on.now second.now store.old.grid store.old.bytes.now × Room first.old second.now lasts.old rows.old }
+    ensures { SameStore store.old store.new × Room first.new second.now lasts.new rows.new × PlanHeld (job_of job) first.new second.now lasts.new rows.new }
 {
-    answer::spares::keep_spares(&job.starts, job.carts, store, grid);
+    answer::spares::keep_spares(&job.starts, job.carts, store);
     answer::paths::write_paths(
         &job.targets,
         job.calls,
         cart_on,
         store,
-        grid,
         first,
         second,
         lasts,
         rows,
     );
-    answer::staying::write_spares(
-        &job.starts,
-        job.carts,
-        job.calls,
-        store,
-        grid,
-        first,
-        lasts,
-        rows,
-    );
+    answer::staying::write_spares(&job.starts, job.carts, job.calls, store, first, lasts, rows);
 }
 
 // The numbers of each PATH or CHOKE line go into first and second, the last step of the i-th line or the kind of the i-th choke point into lasts, a path's cells into row i; those of
@@ -159,19 +146,18 @@ fn write_plan(
 fn write_answer(
     job: Job,
     cart_on: &[u8],
-    store: &mut [u8],
-    grid: Grid,
+    store: &mut Store<'_>,
     served: Served,
     first: &mut [u8],
     second: &mut [u8],
     lasts: &mut [u8],
     rows: &mut [u8],
 ) -> Solution
-    requires { Sized job × Finished (job_of job) cart_on.now second.old grid store.old served × Room first.old second.old lasts.old rows.old }
-    ensures { (length store.new ≡ length store.old) × Room first.new second.new lasts.new rows.new × Solved (job_of job) result first.new second.new lasts.new rows.new }
+    requires { Sized job × Finished (job_of job) cart_on.now second.old store.old.grid store.old.bytes.now served × Room first.old second.old lasts.old rows.old }
+    ensures { SameStore store.old store.new × Room first.new second.new lasts.new rows.new × Solved (job_of job) result first.new second.new lasts.new rows.new }
 {
     let Served::No(stamp) = served else {
-        write_plan(job, cart_on, store, grid, first, second, lasts, rows);
+        write_plan(job, cart_on, store, first, second, lasts, rows);
         return Solution::Plan;
     };
     let points = answer::cut::list_chokes(
@@ -180,7 +166,6 @@ fn write_answer(
         &job.deadlines,
         job.calls,
         store,
-        grid,
         stamp,
         first,
         second,
@@ -206,11 +191,12 @@ pub fn solve(
     let top = last + 1;
     let nodes = (top + 1) * cells;
     let grid = Grid { cells, top, nodes };
-    wipe(store, grid);
+    let mut store = Store { bytes: store, grid };
+    store.wipe();
     floor::order::by_deadline(&job.targets, &job.deadlines, job.calls, second);
     let mut cart_on = [0u8; Limits::CELLS];
-    let served = serve_job(job, &mut cart_on, second, store, grid);
+    let served = serve_job(job, &mut cart_on, second, &mut store);
     write_answer(
-        job, &cart_on, store, grid, served, first, second, lasts, rows,
+        job, &cart_on, &mut store, served, first, second, lasts, rows,
     )
 }

@@ -2,6 +2,7 @@
 use Prim.Native.Nat.{ℕ, suc, ◌+◌, ◌-◌, ◌<◌, ◌≤◌}
 use mathlib.Core.Path.{◌≡◌, refl, sym, ◌∙◌, ap, subst}
 use mathlib.Core.List.{List}
+use mathlib.Core.Bool.{Bool, true, false}
 use mathlib.Core.Logic.{◌⊎◌, inl, inr, ⊎_elim}
 use native.Mathlib.Omega.{arith}
 use native.Mathlib.Decide.{dec_lt}
@@ -15,9 +16,11 @@ use Rattle.floor.specs.Tables.{Cells, Near, OpenAt, Shut, row_at}
 use Rattle.floor.proofs.JobTables.{row_known}
 use Rattle.network.specs.Graph.{top, Inside}
 use Rattle.network.specs.declared.planes.Grid.{Grid}
+use Rattle.network.specs.declared.planes.Store.{Store}
+use Rattle.network.proofs.StoreLaws.{same_more, is_unused, is_in_use, is_met, is_not_met}
 use Rattle.network.specs.declared.planes.Node.{Node}
 use Rattle.network.specs.Holds.{Holds}
-use Rattle.network.specs.Store.{as_point, place_at, used_at, mark_at, next_at, meets, leads_to, with_mark, with_entry}
+use Rattle.network.specs.Store.{as_point, place_at, used_at, mark_at, next_at, meets, used_test, meets_test, leads_to, with_mark, with_entry, Wrote}
 use Rattle.network.proofs.Points.{point_eq, point_step}
 use Rattle.network.proofs.HoldsLaws.{leads_on, place_below}
 use Rattle.route.specs.Lay.{pushed}
@@ -110,17 +113,24 @@ module _ (f : ℕ → ℕ) {v w a b : ℕ} (ev : v ≡ w) (ea : a ≡ f v) where
   pub untold : (a ≡ b → ⊥) → f w ≡ b → ⊥
   untold ne e = ne (ea ∙ ap f ev ∙ e)
 
--- What the code reads as what the used node x leads on to.
-module _ (g : Grid) (s : List ℕ) (x : Point) {v u m : ℕ} (ev : v ≡ place_at g x) (eu : u ≡ used_at g s v) (em : m ≡ meets) where
-  pub leads_call : u ≡ m → point x.cell g.top ≡ leads_to g s x
-  leads_call e = rw (eq-eqb (used_at g s (place_at g x)) meets (told (used_at g s) ev eu (e ∙ em)))
+-- The tests of a node's use, read at v, where it stands.
+module _ (g : Grid) (s : List ℕ) (x : Point) {v : ℕ} {u : Bool} (ev : v ≡ place_at g x) where
+  pub free_at : u ≡ used_test g s v → u ≡ false → used_at g s (place_at g x) ≡ 0
+  free_at eu e = told (used_at g s) ev refl (is_unused eu e)
 
-  pub leads_next : (u ≡ m → ⊥) → {y : ℕ} → y ≡ next_at g s v → point y (x.step + 1) ≡ leads_to g s x
-  leads_next ne ey = rw (ne_eqb (used_at g s (place_at g x)) meets (untold (used_at g s) ev eu (λ e. ne (e ∙ sym em)))) (point_eq (ey ∙ ap (next_at g s) ev) refl)
+  pub taken_at : u ≡ used_test g s v → u ≡ true → used_at g s (place_at g x) ≡ 0 → ⊥
+  taken_at eu e = untold (used_at g s) ev refl (is_in_use eu e)
 
-pub pushed_by : (g : Grid) (s : List ℕ) {s₁ s₂ : List ℕ} (d : ℕ) {v : ℕ} (stamp : ℕ) (x via : Point) → v ≡ place_at g x → s₁ ≡ with_mark g s v stamp
-    → s₂ ≡ with_entry g s₁ d x via → s₂ ≡ pushed g s d x via stamp
-pushed_by g s d stamp x via ev e₁ e₂ = rw (e₂, e₁, ev)
+  -- What the code reads as what the used node leads on to.
+  pub leads_call : u ≡ meets_test g s v → u ≡ true → point x.cell g.top ≡ leads_to g s x
+  leads_call eu e = rw (eq-eqb (used_at g s (place_at g x)) meets (told (used_at g s) ev refl (is_met eu e)))
+
+  pub leads_next : u ≡ meets_test g s v → u ≡ false → {y : ℕ} → y ≡ next_at g s v → point y (x.step + 1) ≡ leads_to g s x
+  leads_next eu e ey = rw (ne_eqb (used_at g s (place_at g x)) meets (untold (used_at g s) ev refl (is_not_met eu e))) (point_eq (ey ∙ ap (next_at g s) ev) refl)
+
+pub pushed_by : {s t u : Store} (d : ℕ) {v : ℕ} (stamp : ℕ) (x via : Point) → v ≡ place_at s.grid x → Wrote s t (with_mark s.grid s.bytes.now v stamp)
+    → Wrote t u (with_entry t.grid t.bytes.now d x via) → Wrote s u (pushed s.grid s.bytes.now d x via stamp)
+pushed_by d stamp x via ev a b = record { same = same_more a.same b.same; bytes = rw (b.bytes, a.same.grid, a.bytes, ev) }
 
 -- A node that is no call's.
 pub no_call : {j : Job} {g : Grid} {s : List ℕ} {x : Point} → Holds j g s → Inside j x → (x.step ≡ g.top → ⊥) → Stands j g s x
@@ -140,27 +150,27 @@ module _ {j : Job} {g : Grid} {s : List ℕ} {n : Node} (h : Stands j g s (as_po
   low : n.step ≡ g.top → ⊥
   low e = let f : n.step ≡ top j = rw h.0.grid at e in omega (arith, h.1.1)
 
-  module _ {v u : ℕ} (ev : v ≡ place_at g (as_point n)) (eu : u ≡ used_at g s v) where
+  module _ {v : ℕ} {u : Bool} (ev : v ≡ place_at g (as_point n)) (eu : u ≡ used_test g s v) where
     -- It is used, and the code reads y as what it leads on to.
-    module _ (ne : u ≡ 0 → ⊥) {y : Node} (ey : as_point y ≡ leads_to g s (as_point n)) where
+    module _ (used : u ≡ true) {y : Node} (ey : as_point y ≡ leads_to g s (as_point n)) where
       pub after_place : place_at g (as_point y) < g.nodes
-      after_place = subst (λ (z : Point). place_at g z < g.nodes) (sym ey) (place_below h.0 (leads_on h.0 stands_in low (untold (used_at g s) ev eu ne)).1)
+      after_place = subst (λ (z : Point). place_at g z < g.nodes) (sym ey) (place_below h.0 (leads_on h.0 stands_in low (taken_at g s (as_point n) ev eu used)).1)
 
       module _ {stamp w m : ℕ} (ew : w ≡ place_at g (as_point y)) (em : m ≡ mark_at g s w) where
         pub down_none : m ≡ stamp → Finds (Down g s (as_point n)) (Stamped g s stamp) Found.Nothing
         down_none e z via b = rw (b.2 ∙ sym ey) (told (mark_at g s) ew em e)
 
         pub down_push : (m ≡ stamp → ⊥) → Finds (Down g s (as_point n)) (Stamped g s stamp) (Found.Push y n)
-        down_push f = ((refl, untold (used_at g s) ev eu ne, ey), untold (mark_at g s) ew em f)
+        down_push f = ((refl, taken_at g s (as_point n) ev eu used, ey), untold (mark_at g s) ew em f)
 
     module _ (stamp : ℕ) where
       -- It is not.
-      pub by_none : u ≡ 0 → mark_at g s (place_at g (as_point n)) ≡ stamp → Finds (By g s (as_point n)) (Stamped g s stamp) Found.Nothing
+      pub by_none : u ≡ false → mark_at g s (place_at g (as_point n)) ≡ stamp → Finds (By g s (as_point n)) (Stamped g s stamp) Found.Nothing
       by_none e m y via (inl b) = rw b.2 m
-      by_none e m y via (inr b) = absurd (b.1 (told (used_at g s) ev eu e))
+      by_none e m y via (inr b) = absurd (b.1 (free_at g s (as_point n) ev eu e))
 
-      pub by_down : (u ≡ 0 → ⊥) → (r : Found) → Finds (Down g s (as_point n)) (Stamped g s stamp) r → Finds (By g s (as_point n)) (Stamped g s stamp) r
-      by_down ne = found_rest (Down g s (as_point n)) (By g s (as_point n)) (Stamped g s stamp) (λ y via b. inr b) (λ y via q. ⊎_elim (λ b. absurd (untold (used_at g s) ev eu ne b.1)) inl q)
+      pub by_down : u ≡ true → (r : Found) → Finds (Down g s (as_point n)) (Stamped g s stamp) r → Finds (By g s (as_point n)) (Stamped g s stamp) r
+      by_down used = found_rest (Down g s (as_point n)) (By g s (as_point n)) (Stamped g s stamp) (λ y via b. inr b) (λ y via q. ⊎_elim (λ b. absurd (taken_at g s (as_point n) ev eu used b.1)) inl q)
 
 -- What is found by way of one step of a cell.
 pub aims_found : (g : Grid) (s : List ℕ) (c first past ahead stamp : ℕ) (r : Found) {v via : Node} → r ≡ Found.Push v via

@@ -3,7 +3,7 @@ ghost use Rattle.std.specs.Prelude.{◌≡◌, ◌<◌, ◌≤◌, length, get_o
 ghost use Rattle.model.specs.Limits.{max_cells};
 ghost use Rattle.model.specs.Job as model;
 ghost use Rattle.floor.specs.Tables.{Cells, Near, Shut, row_at};
-ghost use Rattle.network.specs.Store.{Within, place_at, as_point, leads_to};
+ghost use Rattle.network.specs.Store.{Within, place_at, as_point, leads_to, SameStore, Wrote};
 ghost use Rattle.network.specs.Holds.{Holds};
 ghost use Rattle.network.specs.Graph.{Inside};
 ghost use Rattle.route.specs.Lay.{pushed};
@@ -12,9 +12,7 @@ ghost use Rattle.route.specs.Finds.{Stands, By, ByRow, Down, FromNode, Stamped, 
 
 use floor::tables::row_at;
 use model::bytes::wide;
-use network::planes::{
-    Grid, MEETS, Node, mark, next, place, position, set_mark, set_position, used, via,
-};
+use network::planes::{Node, Store};
 
 // Where a position leads: nowhere new, or to another position, by way of a node.
 #[derive(Drop)]
@@ -24,32 +22,32 @@ pub enum Found {
 }
 
 // What a used node leads on to: the call on its cell, where that is met, else a cell at the next step.
-fn successor(store: &[u8], grid: Grid, node: Node) -> Node
-    requires { (j : model.Job) × Stands j grid store.now (as_point node) }
-    ensures { as_point result ≡ leads_to grid store.now (as_point node) }
+fn successor(store: &Store<'_>, node: Node) -> Node
+    requires { (j : model.Job) × Stands j store.now.grid store.now.bytes.now (as_point node) }
+    ensures { as_point result ≡ leads_to store.now.grid store.now.bytes.now (as_point node) }
 {
-    let v = place(grid, node);
+    let v = store.grid.place(node);
     let cell = node.cell;
-    if used(store, grid, v) == wide(MEETS) {
-        let step = grid.top;
+    if store.meets(v) {
+        let step = store.grid.top;
         return Node { cell, step };
     }
-    let cell = next(store, grid, v);
+    let cell = store.next(v);
     let step = node.step + 1;
     Node { cell, step }
 }
 
 // To the successor of a used node, which then falls out of the flow, or whose place in it is taken over.
-fn drop_out(store: &[u8], grid: Grid, node: Node, stamp: u8) -> Found
-    requires { (j : model.Job) × Stands j grid store.now (as_point node) }
-    ensures { Finds (Down grid store.now (as_point node)) (Stamped grid store.now stamp) result }
+fn drop_out(store: &Store<'_>, node: Node, stamp: u8) -> Found
+    requires { (j : model.Job) × Stands j store.now.grid store.now.bytes.now (as_point node) }
+    ensures { Finds (Down store.now.grid store.now.bytes.now (as_point node)) (Stamped store.now.grid store.now.bytes.now stamp) result }
 {
-    let v = place(grid, node);
-    if used(store, grid, v) == 0 {
+    let v = store.grid.place(node);
+    if !store.used(v) {
         return Found::Nothing;
     }
-    let to = successor(store, grid, node);
-    if mark(store, grid, place(grid, to)) == stamp {
+    let to = successor(store, node);
+    if store.mark(store.grid.place(to)) == stamp {
         return Found::Nothing;
     }
     Found::Push {
@@ -59,30 +57,30 @@ fn drop_out(store: &[u8], grid: Grid, node: Node, stamp: u8) -> Found
 }
 
 // By way of a node: to it where it is free, else to its successor.
-fn look(store: &[u8], grid: Grid, node: Node, stamp: u8) -> Found
-    requires { (j : model.Job) × Stands j grid store.now (as_point node) }
-    ensures { Finds (By grid store.now (as_point node)) (Stamped grid store.now stamp) result }
+fn look(store: &Store<'_>, node: Node, stamp: u8) -> Found
+    requires { (j : model.Job) × Stands j store.now.grid store.now.bytes.now (as_point node) }
+    ensures { Finds (By store.now.grid store.now.bytes.now (as_point node)) (Stamped store.now.grid store.now.bytes.now stamp) result }
 {
-    let v = place(grid, node);
-    if used(store, grid, v) == 0 {
-        if mark(store, grid, v) == stamp {
+    let v = store.grid.place(node);
+    if !store.used(v) {
+        if store.mark(v) == stamp {
             return Found::Nothing;
         }
         return Found::Push { node, via: node };
     }
-    drop_out(store, grid, node, stamp)
+    drop_out(store, node, stamp)
 }
 
 // By way of the first cell of the row that leads on. From a cell that is closed at the next step nothing comes.
-fn scan(store: &[u8], row: &[u8], shut: &[u16], grid: Grid, step: usize, stamp: u8) -> Found
-    requires { ((j : model.Job) × Holds j grid store.now × Cells j.cells row.now × (step ≤ model.horizon j)) × (length shut.now ≡ max_cells) }
-    ensures { Finds (ByRow grid store.now shut.now row.now step) (Stamped grid store.now stamp) result }
+fn scan(store: &Store<'_>, row: &[u8], shut: &[u16], step: usize, stamp: u8) -> Found
+    requires { ((j : model.Job) × Holds j store.now.grid store.now.bytes.now × Cells j.cells row.now × (step ≤ model.horizon j)) × (length shut.now ≡ max_cells) }
+    ensures { Finds (ByRow store.now.grid store.now.bytes.now shut.now row.now step) (Stamped store.now.grid store.now.bytes.now stamp) result }
 {
     let mut i = 0;
     while i < row.len() {
         let cell = wide(row[i]);
         if step + 1 < shut[cell] as usize {
-            let found = look(store, grid, Node { cell, step }, stamp);
+            let found = look(store, Node { cell, step }, stamp);
             if let Found::Push { node: _, via: _ } = found {
                 return found;
             }
@@ -93,17 +91,9 @@ fn scan(store: &[u8], row: &[u8], shut: &[u16], grid: Grid, step: usize, stamp: 
 }
 
 // By way of the cell that the hint names: a guess, which only saves time. It is small, so that the compiler puts it into the loop of the search.
-fn guess(
-    store: &[u8],
-    row: &[u8],
-    shut: &[u16],
-    grid: Grid,
-    node: Node,
-    hint: usize,
-    stamp: u8,
-) -> Found
-    requires { ((j : model.Job) × Stands j grid store.now (as_point node) × Cells j.cells row.now) × (length shut.now ≡ max_cells) }
-    ensures { Guesses (FromNode grid store.now shut.now row.now (as_point node)) (Stamped grid store.now stamp) result }
+fn guess(store: &Store<'_>, row: &[u8], shut: &[u16], node: Node, hint: usize, stamp: u8) -> Found
+    requires { ((j : model.Job) × Stands j store.now.grid store.now.bytes.now (as_point node) × Cells j.cells row.now) × (length shut.now ≡ max_cells) }
+    ensures { Guesses (FromNode store.now.grid store.now.bytes.now shut.now row.now (as_point node)) (Stamped store.now.grid store.now.bytes.now stamp) result }
 {
     if node.step == 0 {
         return Found::Nothing;
@@ -116,21 +106,21 @@ fn guess(
         return Found::Nothing;
     }
     let step = node.step - 1;
-    look(store, grid, Node { cell, step }, stamp)
+    look(store, Node { cell, step }, stamp)
 }
 
 // Where the node leads: by way of a cell of its row, else to its successor.
-fn find(store: &[u8], row: &[u8], shut: &[u16], grid: Grid, node: Node, stamp: u8) -> Found
-    requires { ((j : model.Job) × Stands j grid store.now (as_point node) × Cells j.cells row.now) × (length shut.now ≡ max_cells) }
-    ensures { Finds (FromNode grid store.now shut.now row.now (as_point node)) (Stamped grid store.now stamp) result }
+fn find(store: &Store<'_>, row: &[u8], shut: &[u16], node: Node, stamp: u8) -> Found
+    requires { ((j : model.Job) × Stands j store.now.grid store.now.bytes.now (as_point node) × Cells j.cells row.now) × (length shut.now ≡ max_cells) }
+    ensures { Finds (FromNode store.now.grid store.now.bytes.now shut.now row.now (as_point node)) (Stamped store.now.grid store.now.bytes.now stamp) result }
 {
     if 0 < node.step {
-        let found = scan(store, row, shut, grid, node.step - 1, stamp);
+        let found = scan(store, row, shut, node.step - 1, stamp);
         if let Found::Push { node: _, via: _ } = found {
             return found;
         }
     }
-    drop_out(store, grid, node, stamp)
+    drop_out(store, node, stamp)
 }
 
 // The same, with the hint tried first.
@@ -138,32 +128,31 @@ fn from_node(
     near: &[u8],
     begin: &[u16],
     shut: &[u16],
-    store: &[u8],
-    grid: Grid,
+    store: &Store<'_>,
     node: Node,
     hint: usize,
     stamp: u8,
 ) -> Found
-    requires { (j : model.Job) × Stands j grid store.now (as_point node) × Near j near.now begin.now × Shut j shut.now }
-    ensures { Finds (FromNode grid store.now shut.now (row_at near.now begin.now shut.now node.cell node.step) (as_point node)) (Stamped grid store.now stamp) result }
+    requires { (j : model.Job) × Stands j store.now.grid store.now.bytes.now (as_point node) × Near j near.now begin.now × Shut j shut.now }
+    ensures { Finds (FromNode store.now.grid store.now.bytes.now shut.now (row_at near.now begin.now shut.now node.cell node.step) (as_point node)) (Stamped store.now.grid store.now.bytes.now stamp) result }
 {
     let row = row_at(near, begin, shut, node.cell, node.step);
-    let found = guess(store, row, shut, grid, node, hint, stamp);
+    let found = guess(store, row, shut, node, hint, stamp);
     if let Found::Push { node: _, via: _ } = found {
         return found;
     }
-    find(store, row, shut, grid, node, stamp)
+    find(store, row, shut, node, stamp)
 }
 
 // By way of the latest of the steps of a cell, from `first` to before `past`, that leads on.
-fn from_steps(store: &[u8], grid: Grid, cell: usize, first: usize, past: usize, stamp: u8) -> Found
-    requires { (j : model.Job) × Holds j grid store.now × (cell < j.cells) × (past ≤ grid.top) }
-    ensures { Tries grid store.now cell first past (Stamped grid store.now stamp) result }
+fn from_steps(store: &Store<'_>, cell: usize, first: usize, past: usize, stamp: u8) -> Found
+    requires { (j : model.Job) × Holds j store.now.grid store.now.bytes.now × (cell < j.cells) × (past ≤ store.now.grid.top) }
+    ensures { Tries store.now.grid store.now.bytes.now cell first past (Stamped store.now.grid store.now.bytes.now stamp) result }
 {
     let mut t = past;
     while first < t {
         t -= 1;
-        let found = look(store, grid, Node { cell, step: t }, stamp);
+        let found = look(store, Node { cell, step: t }, stamp);
         if let Found::Push { node: _, via: _ } = found {
             return found;
         }
@@ -176,15 +165,14 @@ fn from_steps(store: &[u8], grid: Grid, cell: usize, first: usize, past: usize, 
 fn from_call(
     due: &[u16],
     shut: &[u16],
-    store: &[u8],
-    grid: Grid,
+    store: &Store<'_>,
     cell: usize,
     below: usize,
     ahead: usize,
     stamp: u8,
 ) -> Found
-    requires { ((j : model.Job) × Holds j grid store.now × Shut j shut.now × (cell < j.cells) × (get_or due.now cell 0 ≤ grid.top)) × (length due.now ≡ max_cells) }
-    ensures { CallTries grid store.now due.now shut.now cell below ahead (Stamped grid store.now stamp) result }
+    requires { ((j : model.Job) × Holds j store.now.grid store.now.bytes.now × Shut j shut.now × (cell < j.cells) × (get_or due.now cell 0 ≤ store.now.grid.top)) × (length due.now ≡ max_cells) }
+    ensures { CallTries store.now.grid store.now.bytes.now due.now shut.now cell below ahead (Stamped store.now.grid store.now.bytes.now stamp) result }
 {
     let mut past = due[cell] as usize;
     let mut first = 0;
@@ -195,12 +183,12 @@ fn from_call(
         past = below;
     }
     if first <= ahead && ahead < past {
-        let found = look(store, grid, Node { cell, step: ahead }, stamp);
+        let found = look(store, Node { cell, step: ahead }, stamp);
         if let Found::Push { node: _, via: _ } = found {
             return found;
         }
     }
-    from_steps(store, grid, cell, first, past, stamp)
+    from_steps(store, cell, first, past, stamp)
 }
 
 // Where the position leads.
@@ -210,30 +198,29 @@ fn leads(
     due: &[u16],
     shut: &[u16],
     hint: &[u8],
-    store: &[u8],
-    grid: Grid,
+    store: &Store<'_>,
     node: Node,
     below: usize,
     ahead: usize,
     stamp: u8,
 ) -> Found
-    requires { ((j : model.Job) × Holds j grid store.now × Inside j (as_point node) × Near j near.now begin.now × Shut j shut.now × (get_or due.now node.cell 0 ≤ grid.top)) × (length due.now ≡ max_cells) × (length hint.now ≡ max_cells) }
-    ensures { Sees grid store.now near.now begin.now due.now shut.now (as_point node) below ahead stamp result }
+    requires { ((j : model.Job) × Holds j store.now.grid store.now.bytes.now × Inside j (as_point node) × Near j near.now begin.now × Shut j shut.now × (get_or due.now node.cell 0 ≤ store.now.grid.top)) × (length due.now ≡ max_cells) × (length hint.now ≡ max_cells) }
+    ensures { Sees store.now.grid store.now.bytes.now near.now begin.now due.now shut.now (as_point node) below ahead stamp result }
 {
     let c = node.cell;
-    if node.step == grid.top {
-        return from_call(due, shut, store, grid, c, below, ahead, stamp);
+    if node.step == store.grid.top {
+        return from_call(due, shut, store, c, below, ahead, stamp);
     }
-    from_node(near, begin, shut, store, grid, node, wide(hint[c]), stamp)
+    from_node(near, begin, shut, store, node, wide(hint[c]), stamp)
 }
 
 // Marks a node and puts it on the stack.
-fn push(store: &mut [u8], grid: Grid, depth: usize, node: Node, via: Node, stamp: u8)
-    requires { Within grid store.old depth × (place_at grid (as_point node) < grid.nodes) × (node.cell < 256) × (node.step < 65536) × (via.cell < 256) × (via.step < 256) }
-    ensures { store.new ≡ pushed grid store.old depth (as_point node) (as_point via) stamp }
+fn push(store: &mut Store<'_>, depth: usize, node: Node, via: Node, stamp: u8)
+    requires { Within store.old.grid store.old.bytes.now depth × (place_at store.old.grid (as_point node) < store.old.grid.nodes) × (node.cell < 256) × (node.step < 65536) × (via.cell < 256) × (via.step < 256) }
+    ensures { Wrote store.old store.new (pushed store.old.grid store.old.bytes.now depth (as_point node) (as_point via) stamp) }
 {
-    set_mark(store, grid, place(grid, node), stamp);
-    set_position(store, grid, depth, node, via);
+    store.set_mark(store.grid.place(node), stamp);
+    store.set_position(depth, node, via);
 }
 
 // A call on top of the stack again was left by way of one of its steps: it goes on below that one, but from its latest step where it may have been the guess `soon`, which the
@@ -245,19 +232,20 @@ pub fn search(
     shut: &[u16],
     cart_on: &[u8],
     hint: &[u8],
-    store: &mut [u8],
-    grid: Grid,
+    store: &mut Store<'_>,
     node: Node,
     soon: usize,
     stamp: u8,
 ) -> usize
-    requires { (j : model.Job) × Searching j near.now begin.now due.now shut.now cart_on.now hint.now store.old grid (as_point node) }
-    ensures { (j : model.Job) → Searching j near.now begin.now due.now shut.now cart_on.now hint.now store.old grid (as_point node) → Searched j store.old store.new stamp (as_point node) result }
+    requires { (j : model.Job) × Searching j near.now begin.now due.now shut.now cart_on.now hint.now store.old.bytes.now store.old.grid (as_point node) }
+    ensures same { SameStore store.old store.new }
+    ensures searched { (j : model.Job) → Searching j near.now begin.now due.now shut.now cart_on.now hint.now store.old.bytes.now store.old.grid (as_point node) → Searched j store.old.bytes.now store.new.bytes.now stamp (as_point node) result }
 {
-    push(store, grid, 0, node, Node { cell: 0, step: 0 }, stamp);
+    let end = store.grid.top;
+    push(store, 0, node, Node { cell: 0, step: 0 }, stamp);
     let mut depth = 1;
     let mut top = node;
-    let mut below = grid.top;
+    let mut below = end;
     let mut ahead = soon;
     while 0 < depth {
         let c = top.cell;
@@ -265,23 +253,23 @@ pub fn search(
             return depth;
         }
         let found = leads(
-            near, begin, due, shut, hint, store, grid, top, below, ahead, stamp,
+            near, begin, due, shut, hint, store, top, below, ahead, stamp,
         );
-        ahead = grid.top;
+        ahead = end;
         let Found::Push { node, via: by } = found else {
             depth -= 1;
             if 0 < depth {
-                let left = via(store, grid, depth);
+                let left = store.via(depth);
                 below = left.step;
                 if below == soon {
-                    below = grid.top;
+                    below = end;
                 }
-                top = position(store, grid, depth - 1);
+                top = store.position(depth - 1);
             }
             continue;
         };
-        push(store, grid, depth, node, by, stamp);
-        below = grid.top;
+        push(store, depth, node, by, stamp);
+        below = end;
         top = node;
         depth += 1;
     }

@@ -1,13 +1,12 @@
 // One call: served by a search, or found impossible to serve along with those before it.
-ghost use Rattle.std.specs.Prelude.{◌≡◌, length};
 ghost use Rattle.model.specs.Job as model;
-ghost use Rattle.network.specs.Store.{as_point};
+ghost use Rattle.network.specs.Store.{as_point, SameStore};
 ghost use Rattle.network.specs.Holds.{Holds};
 ghost use Rattle.route.specs.Search.{Searching};
 ghost use Rattle.route.specs.Serve.{Sought, Serving, ServedBy};
 
 use crate::{augment, search};
-use network::planes::{Grid, Node};
+use network::planes::{Node, Store};
 
 // With the stamp of the last search.
 #[derive(Drop)]
@@ -24,22 +23,22 @@ fn seek(
     shut: &[u16],
     cart_on: &[u8],
     hint: &[u8],
-    store: &mut [u8],
-    grid: Grid,
+    store: &mut Store<'_>,
     node: Node,
     soon: usize,
     stamp: u8,
 ) -> bool
-    requires { (j : model.Job) × Searching j near.now begin.now due.now shut.now cart_on.now hint.now store.old grid (as_point node) }
-    ensures { (j : model.Job) → Searching j near.now begin.now due.now shut.now cart_on.now hint.now store.old grid (as_point node) → Sought j grid store.old store.new stamp (as_point node) result }
+    requires { (j : model.Job) × Searching j near.now begin.now due.now shut.now cart_on.now hint.now store.old.bytes.now store.old.grid (as_point node) }
+    ensures same { SameStore store.old store.new }
+    ensures sought { (j : model.Job) → Searching j near.now begin.now due.now shut.now cart_on.now hint.now store.old.bytes.now store.old.grid (as_point node) → Sought j store.old.grid store.old.bytes.now store.new.bytes.now stamp (as_point node) result }
 {
     let depth = search::search(
-        near, begin, due, shut, cart_on, hint, store, grid, node, soon, stamp,
+        near, begin, due, shut, cart_on, hint, store, node, soon, stamp,
     );
     if depth == 0 {
         return false;
     }
-    augment::augment(store, grid, depth);
+    augment::augment(store, depth);
     true
 }
 
@@ -52,18 +51,18 @@ pub fn serve(
     shut: &[u16],
     cart_on: &[u8],
     hint: &[u8],
-    store: &mut [u8],
-    grid: Grid,
+    store: &mut Store<'_>,
     node: Node,
     soon: usize,
     stamp: u8,
     fresh: bool,
 ) -> Served
-    requires { (j : model.Job) × Serving j near.now begin.now due.now shut.now cart_on.now hint.now store.old grid (as_point node) stamp fresh }
-    ensures { (length store.new ≡ length store.old) × ((j : model.Job) → Serving j near.now begin.now due.now shut.now cart_on.now hint.now store.old grid (as_point node) stamp fresh → Holds j grid store.new × ServedBy j store.old store.new stamp (as_point node) result) }
+    requires { (j : model.Job) × Serving j near.now begin.now due.now shut.now cart_on.now hint.now store.old.bytes.now store.old.grid (as_point node) stamp fresh }
+    ensures same { SameStore store.old store.new }
+    ensures served { (j : model.Job) → Serving j near.now begin.now due.now shut.now cart_on.now hint.now store.old.bytes.now store.old.grid (as_point node) stamp fresh → Holds j store.old.grid store.new.bytes.now × ServedBy j store.old.bytes.now store.new.bytes.now stamp (as_point node) result }
 {
     if seek(
-        near, begin, due, shut, cart_on, hint, store, grid, node, soon, stamp,
+        near, begin, due, shut, cart_on, hint, store, node, soon, stamp,
     ) {
         return Served::Yes(stamp);
     }
@@ -72,7 +71,7 @@ pub fn serve(
     }
     let again = stamp + 1;
     if seek(
-        near, begin, due, shut, cart_on, hint, store, grid, node, soon, again,
+        near, begin, due, shut, cart_on, hint, store, node, soon, again,
     ) {
         return Served::Yes(again);
     }

@@ -9,11 +9,11 @@ pub is_free-requires : goal.is_free-requires
 is_free-requires c =
     let p = c.requires in
     let l = c.loop-head in
-    let x : c.wide-x.result < c.args.grid.cells = omega (arith, c.wide-x.ensures.0, l.invariant.1.known (l.tail - 1) (omega (arith, c.loop-head-test.true))) in
+    let x : c.wide-x.result < c.args.store.now.grid.cells = omega (arith, c.wide-x.ensures.0, l.invariant.1.known (l.tail - 1) (omega (arith, c.loop-head-test.true))) in
     (omega (arith, p.1, p.2), (p.3, omega (arith, p.4)))
 
 -- The cell at the head of the queue is a known one.
-known : (c : After-wide-c) → c.wide-c.result < c.args.grid.cells
+known : (c : After-wide-c) → c.wide-c.result < c.args.store.now.grid.cells
 known c = omega (arith, c.wide-c.ensures.0, c.loop-head.invariant.1.known c.loop-head.head c.loop-head-test.true)
 
 pub expand-tail-requires : goal.expand-tail-requires

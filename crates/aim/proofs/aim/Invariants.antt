@@ -8,7 +8,7 @@ use Rattle.aim.specs.Queue.{Queue}
 use Rattle.aim.proofs.aim.Given as goal
 
 abbrev pub invariant-loop-head : goal.invariant-loop-head
-invariant-loop-head l = (length l.hint ≡ max_cells) × Queue l.grid.cells l.queue l.tail
+invariant-loop-head l = (length l.hint ≡ max_cells) × Queue l.store.grid.cells l.queue l.tail
 
 abbrev pub decreases-loop-head : goal.decreases-loop-head
-decreases-loop-head l = l.grid.cells - l.head
+decreases-loop-head l = l.store.grid.cells - l.head

@@ -5,7 +5,7 @@ use Rattle.aim.specs.Queue.{Queue}
 use Rattle.aim.proofs.expand.Given as goal
 
 abbrev pub invariant-loop-i : goal.invariant-loop-i
-invariant-loop-i l = (l.i ≤ length l.row) × Queue l.grid.cells l.queue l.tail
+invariant-loop-i l = (l.i ≤ length l.row) × Queue l.store.grid.cells l.queue l.tail
 
 abbrev pub decreases-loop-i : goal.decreases-loop-i
 decreases-loop-i l = length l.row - l.i

@@ -1,9 +1,9 @@
 -- The two tests tell the three ways in which a cart can have come. Both nodes that are read are known ones. Assumes nothing.
-use mathlib.Core.Path.{sym, ◌∙◌}
 use Rattle.model.specs.Job.{Job}
 use Rattle.model.specs.Choke.{point}
 use Rattle.network.specs.Graph.{Inside}
 use Rattle.network.specs.Keeping.{KeepsAll}
+use Rattle.network.proofs.StoreLaws.{is_unused, is_in_use}
 use Rattle.network.proofs.KeepLaws.{keeps_within}
 use Rattle.answer.proofs.PathLinks.{cart_known, other_known, from_free, from_other, from_same}
 use Rattle.answer.proofs.paths.came_from.Goals as goal
@@ -16,7 +16,7 @@ pub prev-from-requires : goal.prev-from-requires
 prev-from-requires c = let (j, h, k) = c.requires.0 in rw c.place.ensures (keeps_within h (cart_known h _ k))
 
 -- The node of the cell that the flow tells.
-other : (c : After-prev-from) → (j : Job) × KeepsAll j c.args.grid c.args.store.now × Inside j (point c.prev-from.result c.args.node.step)
+other : (c : After-prev-from) → (j : Job) × KeepsAll j c.args.store.now.grid c.args.store.now.bytes.now × Inside j (point c.prev-from.result c.args.node.step)
 other c = let (j, h, k) = c.requires.0 in (j, h, other_known h _ k c.requires.1 c.requires.2 c.place.ensures c.prev-from.ensures.0)
 
 pub place-other-requires : goal.place-other-requires
@@ -25,10 +25,10 @@ place-other-requires c = let (j, h, k) = other (goal.at.place-other-requires c).
 pub used-requires : goal.used-requires
 used-requires c = let (j, h, k) = other (goal.at.used-requires c).After-prev-from in rw c.place-other.ensures (keeps_within h k)
 
-pub returns-then-used-eq0 : goal.returns-then-used-eq0
-returns-then-used-eq0 c = λ j h k.
+pub returns-then-not-used : goal.returns-then-not-used
+returns-then-not-used c = λ j h k.
     from_free h _ k c.requires.1 c.requires.2 c.place.ensures c.prev-from.ensures.0 c.place-other.ensures
-    (sym c.used.ensures.0 ∙ c.if-used-eq0.true)
+    (is_unused c.used.ensures c.if-not-used.true)
 
 pub prev-requires : goal.prev-requires
 prev-requires c = let (j, h, k) = other (goal.at.prev-requires c).After-prev-from in rw c.place-other.ensures (keeps_within h k)
@@ -42,4 +42,4 @@ pub returns : goal.returns
 returns c = λ j h k.
     from_same h _ k c.requires.1 c.requires.2 c.place.ensures c.prev-from.ensures.0 c.place-other.ensures
     c.prev.ensures.0
-    (λ e. c.if-used-eq0.false (c.used.ensures.0 ∙ e)) c.if-prev-cell.false
+    (is_in_use c.used.ensures c.if-not-used.false) c.if-prev-cell.false

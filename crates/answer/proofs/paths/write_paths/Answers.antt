@@ -16,7 +16,7 @@ use Rattle.answer.proofs.paths.write_paths.Goals as goal
 use Rattle.answer.proofs.paths.write_paths.Goals.{After-follow-c, After-prev-step}
 
 abbrev Full : After-prev-step → Job → Type 0
-Full c j = FullFlow j c.args.targets.now c.args.calls c.args.cart_on.now c.args.second.now c.args.grid c.args.store.now
+Full c j = FullFlow j c.args.targets.now c.args.calls c.args.cart_on.now c.args.second.now c.args.store.now.grid c.args.store.now.bytes.now
 
 pub loop-i-init : goal.loop-i-init
 loop-i-init c = (omega arith, few c.requires.0.1, c.requires.1, λ j g. traced_none c.requires.1)
@@ -36,7 +36,7 @@ prev-step-requires c =
     rw c.place.ensures (keeps_within g.kept.keeps (node_known g c.loop-i-test.true c.wide-q.ensures.0 c.wide-cell.ensures.0))
 
 -- The node where it is met can be followed.
-follows : (c : After-prev-step) (j : Job) → Full c j → HasCart j c.args.store.now (point c.wide-cell.result c.prev-step.result)
+follows : (c : After-prev-step) (j : Job) → Full c j → HasCart j c.args.store.now.bytes.now (point c.wide-cell.result c.prev-step.result)
 follows c j g = can_follow g c.loop-i-test.true c.wide-q.ensures.0 c.wide-cell.ensures.0 c.place.ensures c.prev-step.ensures.0
 
 pub follow-c-requires : goal.follow-c-requires

@@ -9,7 +9,7 @@ use Rattle.answer.proofs.paths.write_paths.Given as goal
 
 abbrev pub invariant-loop-i : goal.invariant-loop-i
 invariant-loop-i l = (l.i ≤ l.calls) × (l.calls ≤ max_calls) × Room l.first l.second l.lasts l.rows
-    × ((j : Job) → FullFlow j l.targets l.calls l.cart_on l.second l.grid l.store → PathsTraced j l.second l.store l.first l.lasts l.rows l.i)
+    × ((j : Job) → FullFlow j l.targets l.calls l.cart_on l.second l.store.grid l.store.bytes.now → PathsTraced j l.second l.store.bytes.now l.first l.lasts l.rows l.i)
 
 abbrev pub decreases-loop-i : goal.decreases-loop-i
 decreases-loop-i l = l.calls - l.i

@@ -1,14 +1,14 @@
 -- `keep` meets its contract: the cart's node at step 0 begins its line, and `stand` leads that on, step by step. The invariant: its loose end is on the cell `at` at the step t. The measure is the
 -- number of steps left. Assumes nothing.
-use mathlib.Core.Path.{refl, ◌∙◌, ap}
+use mathlib.Core.Path.{◌∙◌, ap}
 use native.Mathlib.Omega.{arith}
 use native.Mathlib.Numerals.{add-one}
-use lib.ListN.{length, length-set}
 use Rattle.model.specs.Lists.{In}
 use Rattle.model.specs.Job.{Job}
 use Rattle.model.specs.Choke.{point}
 use Rattle.network.specs.Store.{with_used}
 use Rattle.network.specs.Keeping.{KeepsAll}
+use Rattle.network.proofs.StoreLaws.{same_more}
 use Rattle.answer.proofs.SpareTurn.{chain_none, chain_more}
 use Rattle.answer.proofs.SpareKeep.{KeptTo, start_within, kept_first, kept_more, kept_last, top_few}
 use Rattle.answer.proofs.spares.keep.Goals as goal
@@ -21,19 +21,19 @@ pub set_used-requires : goal.set_used-requires
 set_used-requires c = rw c.place.ensures (start_within c.requires.0.1 c.args.cell c.requires.0.2)
 
 pub loop-t-init : goal.loop-t-init
-loop-t-init c = (refl, omega (arith, top_few c.requires.0.1), λ j h. chain_none h)
+loop-t-init c = (c.set_used.ensures.same, omega (arith, top_few c.requires.0.1), λ j h. chain_none h)
 
 pub overflow_add-t : goal.overflow_add-t
 overflow_add-t c = omega (arith, top_few c.requires.0.1, c.loop-t.invariant.1)
 
 -- The line begins.
-begun : (c : At-loop-t) (j : Job) → KeepsAll j c.args.grid c.args.store.now → In c.args.cell j.carts
-    → KeptTo j c.args.grid c.args.store.now c.set_used.new.store c.args.cell (point c.args.cell 0)
+begun : (c : At-loop-t) (j : Job) → KeepsAll j c.args.store.now.grid c.args.store.now.bytes.now → In c.args.cell j.carts
+    → KeptTo j c.args.store.now.grid c.args.store.now.bytes.now c.set_used.new.self.bytes.now c.args.cell (point c.args.cell 0)
 begun c j k i =
-    kept_first k c.args.cell i c.requires.1 (c.set_used.ensures ∙ ap (λ v. with_used c.args.grid c.args.store.now v 1) c.place.ensures)
+    kept_first k c.args.cell i c.requires.1 (c.set_used.ensures.bytes ∙ ap (λ v. with_used c.args.store.now.grid c.args.store.now.bytes.now v 1) c.place.ensures)
 
 pub stand-at-requires : goal.stand-at-requires
-stand-at-requires c = let (j, k, i) = c.requires.0 in ((j, (c.loop-t.invariant.2 j (begun (goal.at.stand-at-requires c).At-loop-t j k i).loose).loose), c.loop-t-test.true)
+stand-at-requires c = let (j, k, i) = c.requires.0 in rw c.loop-t.invariant.0.grid ((j, (c.loop-t.invariant.2 j (begun (goal.at.stand-at-requires c).At-loop-t j k i).loose).loose), c.loop-t-test.true)
 
 pub overflow_add-t-in-loop-t : goal.overflow_add-t-in-loop-t
 overflow_add-t-in-loop-t c = omega (arith, top_few c.requires.0.1, c.loop-t.invariant.1)
@@ -44,15 +44,16 @@ loop-t-smaller c = omega (arith, c.loop-t.invariant.1)
 pub loop-t-preserved : goal.loop-t-preserved
 loop-t-preserved c =
     let l = c.loop-t in
-    let e = c.stand-at.ensures in
-    (e.0 ∙ l.invariant.0, omega (arith, c.loop-t-test.true), λ j h. let w = l.invariant.2 j h in let (n, same) = e.1 j w.loose in rw (add-one l.t) (chain_more w n same))
-
-pub shape_of-store : goal.shape_of-store
-shape_of-store c = c.loop-t.invariant.0 ∙ ap length c.set_used.ensures ∙ simp length-set
+    let s = l.invariant.0 in
+    let e = c.stand-at.ensures in (
+      same_more s e.0,
+      omega (arith, c.loop-t-test.true),
+      λ j h. let w = l.invariant.2 j h in let (n, same) = rw s.grid at (e.1 j (rw s.grid w.loose)) in rw (add-one l.t) (chain_more w n same),
+    )
 
 pub returns : goal.returns
 returns c =
     let l = c.loop-t in (
-      l.invariant.0 ∙ ap length c.set_used.ensures ∙ simp length-set,
+      l.invariant.0,
       λ j k i. let b = begun (goal.at.returns c).At-loop-t j k i in let w = l.invariant.2 j b.loose in kept_last (kept_more b (w.loose, w.starts)) l.invariant.1 c.loop-t-test.false,
     )

@@ -2,17 +2,16 @@
 -- many carts move in this step. Assumes nothing.
 use Prim.Native.Nat.{suc}
 use mathlib.Core.Path.{◌≡◌}
-use lib.ListN.{length}
 use Rattle.model.specs.Job.{Job}
 use Rattle.model.specs.Choke.{point}
-use Rattle.network.specs.Store.{place_in}
+use Rattle.network.specs.Store.{place_in, SameStore}
 use Rattle.network.specs.Keeping.{LooseAt}
 use Rattle.answer.proofs.SpareTurn.{movers, ChainTo}
 use Rattle.answer.proofs.spares.stand.Given as goal
 
-abbrev pub invariant-loop-store : goal.invariant-loop-store
-invariant-loop-store l = (l.v ≡ place_in l.grid l.at (suc l.step)) × (length l.store ≡ length l.initial.store)
-    × ((j : Job) → LooseAt j l.grid l.initial.store (point l.cell l.step) → ChainTo j l.grid l.initial.store l.store (point l.at l.step))
+abbrev pub invariant-loop-grid : goal.invariant-loop-grid
+invariant-loop-grid l = (l.v ≡ place_in l.fn.store.grid l.at (suc l.step)) × SameStore l.fn.store l.store
+    × ((j : Job) → LooseAt j l.fn.store.grid l.fn.store.bytes.now (point l.cell l.step) → ChainTo j l.fn.store.grid l.fn.store.bytes.now l.store.bytes.now (point l.at l.step))
 
-abbrev pub decreases-loop-store : goal.decreases-loop-store
-decreases-loop-store l = movers l.grid l.store l.step
+abbrev pub decreases-loop-grid : goal.decreases-loop-grid
+decreases-loop-grid l = movers l.fn.store.grid l.store.bytes.now l.step

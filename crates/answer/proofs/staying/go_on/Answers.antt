@@ -33,9 +33,9 @@ fits : (c : After-goes_to-at) → c.loop-t.t + 1 < length c.loop-t.row
 fits c = let long : length c.loop-t.row ≡ length c.args.row.now = c.loop-t.invariant.0 ∙ simp length-set in
     omega (arith, c.requires.1, c.loop-t-test.true)
 
-goes : (c : After-goes_to-at) (j : Job) → KeepsAll j c.args.grid c.args.store.now
-    → MeetsNone j c.args.store.now (point c.args.cell 0)
-    → WalkedTo j c.args.store.now c.args.cell (set c.loop-t.row (c.loop-t.t + 1) c.goes_to-at.result) c.goes_to-at.result
+goes : (c : After-goes_to-at) (j : Job) → KeepsAll j c.args.store.now.grid c.args.store.now.bytes.now
+    → MeetsNone j c.args.store.now.bytes.now (point c.args.cell 0)
+    → WalkedTo j c.args.store.now.bytes.now c.args.cell (set c.loop-t.row (c.loop-t.t + 1) c.goes_to-at.result) c.goes_to-at.result
     (c.loop-t.t + 1)
 goes c j h u = let w = c.loop-t.invariant.2 j h u in going_more h w c.loop-t-test.true (fits c) c.goes_to-at.result (c.goes_to-at.ensures j h w.unmet)
 

@@ -11,8 +11,8 @@ use Rattle.answer.proofs.StayRows.{WalkedTo}
 use Rattle.answer.proofs.staying.go_on.Given as goal
 
 abbrev pub invariant-loop-t : goal.invariant-loop-t
-invariant-loop-t l = (length l.row ≡ length l.initial.row) × (l.t < l.grid.top) × ((j : Job) → KeepsAll j l.grid l.store → MeetsNone j l.store (point l.cell 0)
-    → WalkedTo j l.store l.cell l.row l.at l.t)
+invariant-loop-t l = (length l.row ≡ length l.initial.row) × (l.t < l.store.grid.top) × ((j : Job) → KeepsAll j l.store.grid l.store.bytes.now → MeetsNone j l.store.bytes.now (point l.cell 0)
+    → WalkedTo j l.store.bytes.now l.cell l.row l.at l.t)
 
 abbrev pub decreases-loop-t : goal.decreases-loop-t
-decreases-loop-t l = l.grid.top - l.t
+decreases-loop-t l = l.store.grid.top - l.t

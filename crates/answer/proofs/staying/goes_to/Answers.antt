@@ -1,6 +1,6 @@
 -- The tests tell the ways in which a cart can go on. All nodes that are read are known ones. Assumes nothing.
-use mathlib.Core.Path.{sym, ◌∙◌}
 use native.Mathlib.Omega.{arith}
+use Rattle.network.proofs.StoreLaws.{is_unused, is_in_use}
 use Rattle.network.proofs.KeepLaws.{keeps_within}
 use Rattle.answer.proofs.SpareKeep.{top_few}
 use Rattle.answer.proofs.StayLinks.{here_known, beside_known, on_stands, on_free, on_other, on_same}
@@ -24,9 +24,9 @@ place-beside-requires c = let (j, h, u) = c.requires.0 in (keeps_within h (besid
 pub used-requires : goal.used-requires
 used-requires c = let (j, h, u) = c.requires.0 in rw c.place-beside.ensures (keeps_within h (beside_known h _ u c.requires.1))
 
-pub returns-then-used-eq0 : goal.returns-then-used-eq0
-returns-then-used-eq0 c = λ j h u.
-    on_free h _ u c.requires.1 c.place.ensures c.next-on.ensures.0 c.place-beside.ensures (sym c.used.ensures.0 ∙ c.if-used-eq0.true)
+pub returns-then-not-used : goal.returns-then-not-used
+returns-then-not-used c = λ j h u.
+    on_free h _ u c.requires.1 c.place.ensures c.next-on.ensures.0 c.place-beside.ensures (is_unused c.used.ensures c.if-not-used.true)
 
 pub prev-requires : goal.prev-requires
 prev-requires c = let (j, h, u) = c.requires.0 in rw c.place-beside.ensures (keeps_within h (beside_known h _ u c.requires.1))
@@ -38,4 +38,4 @@ returns-then-prev-on c = λ j h u.
 pub returns : goal.returns
 returns c = λ j h u.
     on_same h _ u c.requires.1 c.place.ensures c.next-on.ensures.0 c.place-beside.ensures c.prev.ensures.0
-    (λ e. c.if-used-eq0.false (c.used.ensures.0 ∙ e)) c.if-prev-on.false
+    (is_in_use c.used.ensures c.if-not-used.false) c.if-prev-on.false

@@ -25,7 +25,7 @@ loop-k-init c = (omega arith, calls_few c.requires.2, λ j o g. rides_none g)
 -- The rides so far, of the job that there is.
 abbrev SparesSoFar : At-loop-k → Type 0
 SparesSoFar c =
-    RidesTraced c.requires.0 c.requires.1 c.args.store.now c.list_spares.new.first c.loop-k.lasts c.loop-k.rows c.args.calls
+    RidesTraced c.requires.0 c.requires.1 c.args.store.now.bytes.now c.list_spares.new.first c.loop-k.lasts c.loop-k.rows c.args.calls
     c.loop-k.k
 
 so_far : (c : At-loop-k) → SparesSoFar c

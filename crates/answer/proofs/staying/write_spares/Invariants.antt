@@ -9,8 +9,8 @@ use Rattle.answer.proofs.staying.write_spares.Given as goal
 
 abbrev pub invariant-loop-k : goal.invariant-loop-k
 invariant-loop-k l = (l.calls ≤ l.k) × (l.k ≤ l.carts)
-    × ((j : Job) (order : List ℕ) → PathsWritten j l.starts l.carts l.calls order l.grid l.store l.first l.initial.lasts l.initial.rows
-    → RidesTraced j order l.store l.first l.lasts l.rows l.calls l.k)
+    × ((j : Job) (order : List ℕ) → PathsWritten j l.starts l.carts l.calls order l.store.grid l.store.bytes.now l.first l.initial.lasts l.initial.rows
+    → RidesTraced j order l.store.bytes.now l.first l.lasts l.rows l.calls l.k)
 
 abbrev pub decreases-loop-k : goal.decreases-loop-k
 decreases-loop-k l = l.carts - l.k

@@ -3,8 +3,8 @@
 use Rattle.planner.specs.Solved.{Begun}
 use Rattle.model.specs.Job.{Job}
 use Rattle.route.specs.Serve.{Serving}
+use Rattle.network.proofs.StoreLaws.{same_none, same_more}
 use Rattle.planner.proofs.SolveLaws.{so_far_none, aims, call_cell, call_serving, call_served, call_failed, all_served}
-use mathlib.Core.Path.{◌∙◌, refl}
 use native.Mathlib.Omega.{arith}
 use lib.Dec.{eqb}
 use borrow.Author.Rules.{rules}
@@ -13,7 +13,7 @@ use Rattle.planner.proofs.solve.serve_all.Goals as goal
 use Rattle.planner.proofs.solve.serve_all.Goals.{After-aim-far}
 
 pub loop-i-init : goal.loop-i-init
-loop-i-init c = (refl, search rules, omega arith, λ j b. so_far_none b)
+loop-i-init c = (same_none c.args.store.now, search rules, omega arith, λ j b. so_far_none b)
 
 pub aim-far-requires : goal.aim-far-requires
 aim-far-requires c =
@@ -21,44 +21,46 @@ aim-far-requires c =
     let (rows, few_cells, in_nodes) = aims b in
     let v = c.loop-i.invariant.3 _ b in
     let h = call_cell b c.loop-i-test.true c.wide-q.ensures.0 c.wide-cell.ensures.0 in
-    (rows, few_cells, b.tables.carts.size, v.holds.room, in_nodes, h, c.loop-i.invariant.1)
+    rw c.loop-i.invariant.0.grid (rows, few_cells, b.tables.carts.size, v.holds.room, in_nodes, h, c.loop-i.invariant.1)
 
 abbrev Begins : After-aim-far → Job → Type 0
 Begins c j =
     Begun j c.args.targets.now c.args.calls c.args.near.now c.args.begin.now c.args.due.now c.args.shut.now c.args.cart_on.now
-    c.args.order.now c.args.store.now c.args.grid
+    c.args.order.now c.args.store.now.bytes.now c.args.store.now.grid
 
 -- The next call's search may start.
 serving : (c : After-aim-far) (j : Job) → Begins c j
     → Serving j c.args.near.now c.args.begin.now c.args.due.now c.args.shut.now
     c.args.cart_on.now
-    c.aim-far.new.hint c.loop-i.store
-    c.args.grid (point c.wide-cell.result c.args.grid.top) c.loop-i.stamp (eqb c.loop-i.i 0)
+    c.aim-far.new.hint c.loop-i.store.bytes.now
+    c.args.store.now.grid (point c.wide-cell.result c.args.store.now.grid.top) c.loop-i.stamp (eqb c.loop-i.i 0)
 serving c j b =
     call_serving b c.loop-i-test.true c.wide-q.ensures.0 c.wide-cell.ensures.0
     (c.loop-i.invariant.3 j b) c.aim-far.ensures.0
 
 pub serve-served-requires : goal.serve-served-requires
-serve-served-requires c = let (j, b) = c.requires in (j, serving (goal.at.serve-served-requires c).After-aim-far j b)
+serve-served-requires c = let (j, b) = c.requires in (j, rw c.loop-i.invariant.0.grid (serving (goal.at.serve-served-requires c).After-aim-far j b))
 
 pub returns-in_default : goal.returns-in_default
 returns-in_default c =
-    let d = c.serve-served in (
-      d.ensures.0 ∙ c.loop-i.invariant.0,
+    let d = c.serve-served in
+    let g = c.loop-i.invariant.0.grid in (
+      same_more c.loop-i.invariant.0 d.ensures.same,
       λ j b. call_failed b c.loop-i-test.true c.wide-q.ensures.0 c.wide-cell.ensures.0
           (c.loop-i.invariant.3 j b)
-          d.result c.in_default.is (d.ensures.1 j (serving (goal.at.returns-in_default c).After-aim-far j b)),
+          d.result c.in_default.is (rw g at (d.ensures.served j (rw g (serving (goal.at.returns-in_default c).After-aim-far j b)))),
     )
 
 pub loop-i-preserved : goal.loop-i-preserved
 loop-i-preserved c =
-    let d = c.serve-served in (
-      d.ensures.0 ∙ c.loop-i.invariant.0,
+    let d = c.serve-served in
+    let g = c.loop-i.invariant.0.grid in (
+      same_more c.loop-i.invariant.0 d.ensures.same,
       c.aim-far.ensures.0,
       omega (arith, c.loop-i-test.true),
       λ j b. call_served b c.loop-i-test.true c.wide-q.ensures.0 c.wide-cell.ensures.0
           (c.loop-i.invariant.3 j b)
-          d.result c.in-Yes.is (d.ensures.1 j (serving (goal.at.loop-i-preserved c).After-aim-far j b)),
+          d.result c.in-Yes.is (rw g at (d.ensures.served j (rw g (serving (goal.at.loop-i-preserved c).After-aim-far j b)))),
     )
 
 pub returns : goal.returns

@@ -3,6 +3,7 @@
 use Rattle.planner.specs.Solved.{Begun}
 use Rattle.model.specs.Job.{Job}
 use Rattle.planner.proofs.SolveLaws.{SoFar}
+use Rattle.network.specs.Store.{SameStore}
 use Prim.Native.Nat.{◌-◌, ◌≤◌}
 use mathlib.Core.Path.{◌≡◌}
 use lib.ListN.{length}
@@ -10,8 +11,8 @@ use Rattle.model.specs.Limits.{max_cells}
 use Rattle.planner.proofs.solve.serve_all.Given as goal
 
 abbrev pub invariant-loop-i : goal.invariant-loop-i
-invariant-loop-i l = (length l.store ≡ length l.initial.store) × (length l.hint ≡ max_cells) × (l.i ≤ l.calls)
-    × ((j : Job) → Begun j l.targets l.calls l.near l.begin l.due l.shut l.cart_on l.order l.initial.store l.grid → SoFar j l.order l.store l.grid l.i l.stamp)
+invariant-loop-i l = SameStore l.fn.store l.store × (length l.hint ≡ max_cells) × (l.i ≤ l.calls)
+    × ((j : Job) → Begun j l.targets l.calls l.near l.begin l.due l.shut l.cart_on l.order l.fn.store.bytes.now l.fn.store.grid → SoFar j l.order l.store.bytes.now l.fn.store.grid l.i l.stamp)
 
 abbrev pub decreases-loop-i : goal.decreases-loop-i
 decreases-loop-i l = l.calls - l.i

@@ -1,7 +1,7 @@
 -- `write_answer` meets its contract: a flow that serves every call becomes the plan, and the marks of a search that failed show the choke list. Assumes nothing.
 use Rattle.planner.proofs.SolveParts.{full, stuck}
 use Rattle.job.specs.Arrays.{job_of}
-use mathlib.Core.Path.{refl}
+use Rattle.network.proofs.StoreLaws.{same_none}
 use Rattle.planner.proofs.solve.write_answer.Goals as goal
 
 pub write_plan-requires : goal.write_plan-requires
@@ -16,7 +16,7 @@ list_chokes-points-requires c = ((job_of c.args.job, stuck c.args.job c.requires
 pub returns : goal.returns
 returns c =
     let h = c.list_chokes-points.ensures in (
-      refl,
+      same_none c.args.store.now,
       record { firsts = h.0; seconds = h.1; steps = h.2; cells = c.requires.2.cells },
       h.3 (job_of c.args.job) (stuck c.args.job c.requires.1 c.in-No.is),
     )

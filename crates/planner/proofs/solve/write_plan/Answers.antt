@@ -9,26 +9,28 @@ pub keep_spares-requires : goal.keep_spares-requires
 keep_spares-requires c = (job_of c.args.job, unkept c.args.job c.requires.1)
 
 -- Every cart has a line then, and the paths are traced.
-kept : (c : After-keep_spares) → AllKept (job_of c.args.job) c.args.grid c.keep_spares.new.store
+kept : (c : After-keep_spares) → AllKept (job_of c.args.job) c.args.store.now.grid c.keep_spares.new.store.bytes.now
 kept c = c.keep_spares.ensures.1 (job_of c.args.job) (unkept c.args.job c.requires.1)
 
 pub write_paths-requires : goal.write_paths-requires
-write_paths-requires c = ((job_of c.args.job, kept_flow c.args.job c.requires.1 (kept (goal.at.write_paths-requires c).After-keep_spares)), c.requires.2)
+write_paths-requires c = rw c.keep_spares.ensures.0.grid ((job_of c.args.job, kept_flow c.args.job c.requires.1 (kept (goal.at.write_paths-requires c).After-keep_spares)), c.requires.2)
 
 pub write_spares-requires : goal.write_spares-requires
 write_spares-requires c =
+    let g = c.keep_spares.ensures.0.grid in
     let k = kept (goal.at.write_spares-requires c).After-keep_spares in (
       job_of c.args.job,
       c.args.second.now,
-      paths_written c.args.job c.requires.1 k (c.write_paths.ensures.1 (job_of c.args.job) (kept_flow c.args.job c.requires.1 k)),
+      rw g (paths_written c.args.job c.requires.1 k (c.write_paths.ensures.1 (job_of c.args.job) (rw g (kept_flow c.args.job c.requires.1 k)))),
     )
 
 pub returns : goal.returns
 returns c =
     let j = job_of c.args.job in
+    let g = c.keep_spares.ensures.0.grid in
     let k = kept (goal.at.returns c).After-keep_spares in
-    let w = paths_written c.args.job c.requires.1 k (c.write_paths.ensures.1 j (kept_flow c.args.job c.requires.1 k)) in
-    let (room, right) = c.write_spares.ensures j c.args.second.now w in (
+    let w = paths_written c.args.job c.requires.1 k (c.write_paths.ensures.1 j (rw g (kept_flow c.args.job c.requires.1 k))) in
+    let (room, right) = c.write_spares.ensures j c.args.second.now (rw g w) in (
       c.keep_spares.ensures.0,
       room,
       plan_held c.args.job c.write_spares.new.first c.args.second.now c.write_spares.new.lasts c.write_spares.new.rows right,

@@ -39,9 +39,9 @@ look-found-requires c =
 pub returns-in-Push : goal.returns-in-Push
 returns-in-Push c =
     let a = c.args in
-    inr (subst₂ (λ first past. Aims a.grid a.store.now a.cell first past a.ahead (Stamped a.grid a.store.now a.stamp) c.look-found.result)
+    inr (subst₂ (λ first past. Aims a.store.now.grid a.store.now.bytes.now a.cell first past a.ahead (Stamped a.store.now.grid a.store.now.bytes.now a.stamp) c.look-found.result)
     (first_is (goal.at.returns-in-Push c).Joined-shut-cell) (past_is (goal.at.returns-in-Push c).Joined-below-past)
-    (aims_found a.grid a.store.now a.cell _ _ a.ahead a.stamp _ c.in-Push.is c.look-found.ensures c.if-first-ahead.true
+    (aims_found a.store.now.grid a.store.now.bytes.now a.cell _ _ a.ahead a.stamp _ c.in-Push.is c.look-found.ensures c.if-first-ahead.true
     c.if-ahead-past.true))
 
 pub from_steps-requires : goal.from_steps-requires
@@ -50,5 +50,5 @@ from_steps-requires c = let (j, h, o, k, l) = c.requires.0 in (j, h, k, omega (a
 pub returns : goal.returns
 returns c =
     let a = c.args in
-    inl (subst₂ (λ first past. Tries a.grid a.store.now a.cell first past (Stamped a.grid a.store.now a.stamp) c.from_steps.result)
+    inl (subst₂ (λ first past. Tries a.store.now.grid a.store.now.bytes.now a.cell first past (Stamped a.store.now.grid a.store.now.bytes.now a.stamp) c.from_steps.result)
     (first_is (goal.at.returns c).Joined-shut-cell) (past_is (goal.at.returns c).Joined-below-past) c.from_steps.ensures)

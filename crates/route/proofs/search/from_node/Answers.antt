@@ -28,8 +28,8 @@ guess-found-requires c =
 pub returns-in-Push : goal.returns-in-Push
 returns-in-Push c =
     let a = c.args in
-    subst (λ (row : List ℕ). Finds (FromNode a.grid a.store.now a.shut.now row (as_point a.node)) (Stamped a.grid a.store.now a.stamp) c.guess-found.result) c.row_at-row.ensures
-    (guess_found (FromNode a.grid a.store.now a.shut.now c.row_at-row.result.now (as_point a.node)) (Stamped a.grid a.store.now a.stamp) _ c.in-Push.is c.guess-found.ensures)
+    subst (λ (row : List ℕ). Finds (FromNode a.store.now.grid a.store.now.bytes.now a.shut.now row (as_point a.node)) (Stamped a.store.now.grid a.store.now.bytes.now a.stamp) c.guess-found.result) c.row_at-row.ensures
+    (guess_found (FromNode a.store.now.grid a.store.now.bytes.now a.shut.now c.row_at-row.result.now (as_point a.node)) (Stamped a.store.now.grid a.store.now.bytes.now a.stamp) _ c.in-Push.is c.guess-found.ensures)
 
 pub find-requires : goal.find-requires
 find-requires c =

@@ -14,7 +14,7 @@ pub returns-in-Push : goal.returns-in-Push
 returns-in-Push c =
     let a = c.args in
     let l = c.loop-t in
-    steps_push a.grid a.store.now a.cell a.stamp l.t a.past l.invariant.1 a.first (l.t - 1) c.look-found.result c.in-Push.is (omega arith) (omega arith)
+    steps_push a.store.now.grid a.store.now.bytes.now a.cell a.stamp l.t a.past l.invariant.1 a.first (l.t - 1) c.look-found.result c.in-Push.is (omega arith) (omega arith)
     l.invariant.0 c.look-found.ensures
 
 pub loop-t-preserved : goal.loop-t-preserved
@@ -22,11 +22,11 @@ loop-t-preserved c =
     let a = c.args in
     let l = c.loop-t in (
       omega arith,
-      steps_more a.grid a.store.now a.cell a.stamp l.t a.past l.invariant.1 (l.t - 1) (omega arith) (rw c.in_default.is at c.look-found.ensures),
+      steps_more a.store.now.grid a.store.now.bytes.now a.cell a.stamp l.t a.past l.invariant.1 (l.t - 1) (omega arith) (rw c.in_default.is at c.look-found.ensures),
     )
 
 pub returns : goal.returns
 returns c =
     let a = c.args in
     let l = c.loop-t in
-    steps_all a.grid a.store.now a.cell a.stamp l.t a.past l.invariant.1 a.first (omega arith)
+    steps_all a.store.now.grid a.store.now.bytes.now a.cell a.stamp l.t a.past l.invariant.1 a.first (omega arith)

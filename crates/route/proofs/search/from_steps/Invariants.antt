@@ -4,7 +4,7 @@ use Rattle.route.proofs.SearchFinds.{StepsMarked}
 use Rattle.route.proofs.search.from_steps.Given as goal
 
 abbrev pub invariant-loop-t : goal.invariant-loop-t
-invariant-loop-t l = (l.t ≤ l.past) × StepsMarked l.grid l.store l.cell l.stamp l.t l.past
+invariant-loop-t l = (l.t ≤ l.past) × StepsMarked l.store.grid l.store.bytes.now l.cell l.stamp l.t l.past
 
 abbrev pub decreases-loop-t : goal.decreases-loop-t
 decreases-loop-t l = l.t

@@ -21,8 +21,8 @@ pub returns : goal.returns
 returns c =
     let pos = c.if-node-eq0.false in
     let a = c.args in
-    found_guess (By a.grid a.store.now (point c.wide-cell.result (a.node.step - 1))) (FromNode a.grid a.store.now a.shut.now a.row.now (as_point a.node))
-    (Stamped a.grid a.store.now a.stamp) (λ y via b. inl (
+    found_guess (By a.store.now.grid a.store.now.bytes.now (point c.wide-cell.result (a.node.step - 1))) (FromNode a.store.now.grid a.store.now.bytes.now a.shut.now a.row.now (as_point a.node))
+    (Stamped a.store.now.grid a.store.now.bytes.now a.stamp) (λ y via b. inl (
       omega (arith, pos),
       (
         c.wide-cell.result,

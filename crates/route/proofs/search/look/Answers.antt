@@ -2,8 +2,8 @@
 use mathlib.Core.Path.{refl}
 use mathlib.Core.Logic.{inl}
 use native.Mathlib.Omega.{arith}
-use Rattle.network.specs.Store.{used_at, mark_at}
-use Rattle.route.proofs.SearchFinds.{told, untold, stands_place, by_none, by_down}
+use Rattle.network.specs.Store.{as_point, mark_at}
+use Rattle.route.proofs.SearchFinds.{told, untold, free_at, stands_place, by_none, by_down}
 use Rattle.route.proofs.search.look.Goals as goal
 
 pub place-v-requires : goal.place-v-requires
@@ -18,17 +18,17 @@ mark-requires c = let h = c.requires.1 in (h.0.room, omega (arith, stands_place 
 pub returns-then-mark-stamp : goal.returns-then-mark-stamp
 returns-then-mark-stamp c =
     let a = c.args in
-    by_none c.requires.1 c.place-v.ensures c.used.ensures.0 a.stamp c.if-used-eq0.true
-    (told (mark_at a.grid a.store.now) c.place-v.ensures c.mark.ensures c.if-mark-stamp.true)
+    by_none c.requires.1 c.place-v.ensures c.used.ensures a.stamp c.if-not-used.true
+    (told (mark_at a.store.now.grid a.store.now.bytes.now) c.place-v.ensures c.mark.ensures c.if-mark-stamp.true)
 
-pub returns-then-used-eq0 : goal.returns-then-used-eq0
-returns-then-used-eq0 c =
+pub returns-then-not-used : goal.returns-then-not-used
+returns-then-not-used c =
     let a = c.args in (
-      inl (refl, told (used_at a.grid a.store.now) c.place-v.ensures c.used.ensures.0 c.if-used-eq0.true, refl),
-      untold (mark_at a.grid a.store.now) c.place-v.ensures c.mark.ensures c.if-mark-stamp.false,
+      inl (refl, free_at a.store.now.grid a.store.now.bytes.now (as_point a.node) c.place-v.ensures c.used.ensures c.if-not-used.true, refl),
+      untold (mark_at a.store.now.grid a.store.now.bytes.now) c.place-v.ensures c.mark.ensures c.if-mark-stamp.false,
     )
 
 pub returns : goal.returns
 returns c =
-    by_down c.requires.1 c.place-v.ensures c.used.ensures.0 c.args.stamp c.if-used-eq0.false c.drop_out.result
+    by_down c.requires.1 c.place-v.ensures c.used.ensures c.args.stamp c.if-not-used.false c.drop_out.result
     c.drop_out.ensures

@@ -30,7 +30,7 @@ loop-i-preserved c =
     let a = c.args in
     let l = c.loop-i in (
       omega arith,
-      row_more a.grid a.store.now a.shut.now a.row.now a.step a.stamp l.i l.invariant.1 c.wide-cell.result c.wide-cell.ensures.0
+      row_more a.store.now.grid a.store.now.bytes.now a.shut.now a.row.now a.step a.stamp l.i l.invariant.1 c.wide-cell.result c.wide-cell.ensures.0
           (λ o. elim c.if-step-shut.branch [
             | then-step-shut+in_default w ↦ rw w.in_default.is at w.look-found.ensures
             | else-step-shut w ↦ absurd (omega (arith, w.if-step-shut.false, o))
@@ -41,4 +41,4 @@ pub returns : goal.returns
 returns c =
     let a = c.args in
     let l = c.loop-i in
-    row_all a.grid a.store.now a.shut.now a.row.now a.step a.stamp l.i l.invariant.1 (omega arith)
+    row_all a.store.now.grid a.store.now.bytes.now a.shut.now a.row.now a.step a.stamp l.i l.invariant.1 (omega arith)

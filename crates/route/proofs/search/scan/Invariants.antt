@@ -6,7 +6,7 @@ use Rattle.route.proofs.SearchFinds.{RowMarked}
 use Rattle.route.proofs.search.scan.Given as goal
 
 abbrev pub invariant-loop-i : goal.invariant-loop-i
-invariant-loop-i l = (l.i ≤ length l.row) × RowMarked l.grid l.store l.shut l.row l.step l.stamp l.i
+invariant-loop-i l = (l.i ≤ length l.row) × RowMarked l.store.grid l.store.bytes.now l.shut l.row l.step l.stamp l.i
 
 abbrev pub decreases-loop-i : goal.decreases-loop-i
 decreases-loop-i l = length l.row - l.i

@@ -8,13 +8,11 @@ use Rattle.route.proofs.search.successor.Goals as goal
 pub place-v-requires : goal.place-v-requires
 place-v-requires c = stands_place c.requires.1
 
-pub used-requires : goal.used-requires
-used-requires c = let h = c.requires.1 in (h.0.room, omega (arith, stands_place h, c.place-v.ensures))
+pub meets-requires : goal.meets-requires
+meets-requires c = let h = c.requires.1 in (h.0.room, omega (arith, stands_place h, c.place-v.ensures))
 
-pub returns-then-used-wide : goal.returns-then-used-wide
-returns-then-used-wide c =
-    let a = c.args in
-    leads_call a.grid a.store.now (as_point a.node) c.place-v.ensures c.used.ensures.0 c.wide.ensures.0 c.if-used-wide.true
+pub returns-then-meets : goal.returns-then-meets
+returns-then-meets c = leads_call _ _ (as_point c.args.node) c.place-v.ensures c.meets.ensures c.if-meets.true
 
 pub next-cell-requires : goal.next-cell-requires
 next-cell-requires c = let h = c.requires.1 in (h.0.room, omega (arith, stands_place h, c.place-v.ensures))
@@ -23,8 +21,4 @@ pub overflow_add-step : goal.overflow_add-step
 overflow_add-step c = let (j, h) = c.requires in omega (arith, h.1.1, few_steps j h.0.ready.fit)
 
 pub returns : goal.returns
-returns c =
-    let a = c.args in
-    leads_next a.grid a.store.now (as_point a.node) c.place-v.ensures c.used.ensures.0 c.wide.ensures.0
-    c.if-used-wide.false
-    c.next-cell.ensures.0
+returns c = leads_next _ _ (as_point c.args.node) c.place-v.ensures c.meets.ensures c.if-meets.false c.next-cell.ensures.0
