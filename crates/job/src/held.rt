@@ -10,6 +10,16 @@ pub struct Ride {
     pub cells: [u8; Limits::STEPS],
 }
 
+impl Ride {
+    // What stands in a buffer of rides before it is written.
+    pub const BLANK: Ride = Ride {
+        cart: 0,
+        call: 0,
+        last: 0,
+        cells: [0; Limits::STEPS],
+    };
+}
+
 // A choke point: a cell at a step, or a whole call by its number. They are in the order of a sheet's lines: cells by step, then cell, and behind them calls by number.
 #[derive(Clone, Copy, Debug, PartialEq, Eq, PartialOrd, Ord)]
 pub enum Choke {
