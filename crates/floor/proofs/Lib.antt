@@ -1,3 +1,4 @@
+pub mod EntryLaws
 pub mod TableLaws
 pub mod RowLaws
 pub mod FillLaws
