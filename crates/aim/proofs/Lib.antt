@@ -1,1 +1,1 @@
-pub mod AimLaws
+pub mod CellsLaws

@@ -1,23 +1,27 @@
--- `aim` goes over the floor, cell by cell of the queue, which holds known cells only, each with a row. Assumes nothing.
-use Prim.Native.Nat.{◌-◌, ◌<◌}
+-- `aim` goes over the floor, cell by cell of the queue, which holds known cells all along. Assumes nothing.
+use Prim.Native.Nat.{◌<◌}
 use native.Mathlib.Omega.{arith}
-use Rattle.aim.proofs.AimLaws.{row-cells}
+use Rattle.model.proofs.Lists.{in_get_or}
+use Rattle.aim.proofs.CellsLaws.{row_cells}
 use Rattle.aim.proofs.aim.Goals as goal
-use Rattle.aim.proofs.aim.Goals.{After-wide-c}
+use Rattle.aim.proofs.aim.Goals.{After-from}
 
-pub is_free-requires : goal.is_free-requires
-is_free-requires c =
-    let p = c.requires in
-    let l = c.loop-head in
-    let x : c.wide-x.result < c.args.store.now.grid.cells = omega (arith, c.wide-x.ensures.0, l.invariant.1.known (l.tail - 1) (omega (arith, c.loop-head-test.true))) in
-    (omega (arith, p.1, p.2), (p.3, omega (arith, p.4)))
+pub loop-head-init : goal.loop-head-init
+loop-head-init c = c.from-reached.ensures c.args.store.now.grid.cells (omega arith)
 
 -- The cell at the head of the queue is a known one.
-known : (c : After-wide-c) → c.wide-c.result < c.args.store.now.grid.cells
-known c = omega (arith, c.wide-c.ensures.0, c.loop-head.invariant.1.known c.loop-head.head c.loop-head-test.true)
+known : (c : After-from) → c.from.result < c.args.store.now.grid.cells
+known c =
+    let l = c.loop-head in
+    rw (c.from.ensures, c.as_slice.ensures.value) (l.invariant _ (in_get_or l.reached.queue.items l.head 0 (omega (arith, c.len.ensures.value, c.loop-head-test.true))))
 
-pub expand-tail-requires : goal.expand-tail-requires
-expand-tail-requires c =
+pub row-row-requires : goal.row-row-requires
+row-row-requires c =
+    let k = known (goal.at.row-row-requires c).After-from in
+    (c.args.store.now.grid.cells, c.requires.0, k, omega (arith, k))
+
+pub expand-requires : goal.expand-requires
+expand-requires c =
     let p = c.requires in
-    let r = row-cells p.0 (known (goal.at.expand-tail-requires c).After-wide-c) c.row-row.ensures in
-    (r.0, r.1, p.2, p.3, p.4, c.wide-c.ensures.1, c.loop-head.invariant.1)
+    let r = row_cells p.0 (known (goal.at.expand-requires c).After-from) c.row-row.ensures in
+    (r.0, r.1, p.1, p.2, p.3, c.loop-head.invariant)
