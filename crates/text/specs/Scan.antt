@@ -1,5 +1,5 @@
 -- A line and a number at a place of a text.
-use Rattle.std.specs.Prelude.{ℕ, ◌+◌, List, [], ◌∷◌, Bool, cond, ◌&&◌, ◌||◌, length, drop, ltb, eqb, Option, Some, None}
+use Rattle.std.specs.Prelude.{ℕ, ◌+◌, List, [], ◌∷◌, Bool, true, cond, ◌&&◌, length, drop, ltb, eqb, Option, Some, None}
 use Rattle.std.proofs.Math.Option as math
 use Rattle.std.proofs.Math.Option.{none, some}
 use Rattle.model.specs.Text.{number_of, digits_of, power_of, scaled, scaled_of}
@@ -48,10 +48,12 @@ abbrev pub plus_size : List ℕ → ℕ
 plus_size [] = 0
 plus_size (b ∷ s) = cond (eqb b 43) 1 0
 
--- a further digit may follow none (n is 0), or digits with a value from 1 to 99
-abbrev pub may_go_on : ℕ → ℕ → Bool
-may_go_on n v = eqb n 0 || (ltb 0 v && ltb v 100)
+-- a further digit may follow none, or digits with a value from 1 to 99
+abbrev pub may_go_on : Option ℕ → Bool
+may_go_on None = true
+may_go_on (Some v) = ltb 0 v && ltb v 100
 
--- the digits end before `at`: their value is v, and n is 0 where there are none
-abbrev pub ended : ℕ → ℕ → ℕ → Option Number
-ended at n v = cond (eqb n 0) None (found v at)
+-- the digits that have the value end before `at`, if there are any
+abbrev pub ended : ℕ → Option ℕ → Option Number
+ended at None = None
+ended at (Some v) = found v at

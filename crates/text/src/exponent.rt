@@ -8,17 +8,14 @@ use crate::{Number, scan};
 fn mark(b: u8) -> bool
     ensures { result ≡ is_mark b }
 {
-    b == 101 || b == 69
+    b == b'e' || b == b'E'
 }
 
 // The place behind a plus at `at`, or `at` where there is none.
 fn past_plus(s: &[u8], at: usize) -> usize
     ensures { result ≡ at + plus_size (drop at s.now) }
 {
-    if s.len() <= at {
-        return at;
-    }
-    if s[at] == 43 {
+    if s.get(at) == Some(&b'+') {
         return at + 1;
     }
     at

@@ -5,7 +5,6 @@ ghost use Rattle.model.specs.ReadJob.{is_empty};
 ghost use Rattle.text.specs.Scan.{line_of, field_of, number_at, digits_at, may_go_on, ended};
 
 use crate::Number;
-use model::bytes::wide;
 
 // The place of the first line feed, if there is one.
 fn feed(s: &[u8]) -> Option<usize>
@@ -25,86 +24,68 @@ pub fn line(s: &[u8], at: usize) -> Option<&[u8]>
 }
 
 // Whether s starts with word.
+#[tactic(auto, using(crate::proofs::Steps::starts_as))]
 pub fn opens_with(s: &[u8], word: &[u8]) -> bool
     ensures { result ≡ starts_with word.now s.now }
 {
-    let mut i = 0;
-    while i < word.len() {
-        if s.len() <= i {
-            return false;
-        }
-        if s[i] != word[i] {
-            return false;
-        }
-        i += 1;
-    }
-    true
+    s.starts_with(word)
 }
 
 // How many fields s has: one more than its tabs.
+#[tactic(auto, using(crate::proofs::Steps::fields_counted))]
 pub fn field_count(s: &[u8]) -> usize
     ensures { result ≡ length (fields_of s.now) }
 {
-    let mut i = 0;
-    let mut n = 1;
-    while i < s.len() {
-        if s[i] == 9 {
-            n += 1;
-        }
-        i += 1;
-    }
-    n
+    s.iter().filter(|b| **b == b'\t').count() + 1
 }
 
 fn digit(b: u8) -> bool
     ensures { result ≡ is_digit b }
 {
-    48 <= b && b < 58
+    b.is_ascii_digit()
 }
 
-// Whether a further digit may follow n digits with the value v.
-fn may_go_on(n: usize, v: usize) -> bool
-    ensures { result ≡ may_go_on n v }
+// Whether a further digit may follow digits with the value, or none.
+fn may_go_on(value: Option<usize>) -> bool
+    ensures { result ≡ may_go_on value }
 {
-    n == 0 || (0 < v && v < 100)
+    let Some(v) = value else {
+        return true;
+    };
+    0 < v && v < 100
 }
 
-fn finish(i: usize, n: usize, v: usize) -> Option<Number>
-    ensures { result ≡ ended i n v }
+// The number that ends before a place, by the value of its digits.
+fn ended(value: Option<usize>, next: usize) -> Option<Number>
+    ensures { result ≡ ended next value }
 {
-    if n == 0 {
-        return None;
-    }
-    Some(Number { value: v, next: i })
+    let value = value?;
+    Some(Number { value, next })
 }
 
 // The number that the digits from `at` on are, and the place behind them.
 pub fn digits(s: &[u8], at: usize) -> Option<Number>
     ensures { result ≡ digits_at s.now at }
 {
-    let mut i = at;
-    let mut n = 0;
-    let mut v = 0;
-    while i < s.len() {
-        let b = s[i];
+    let mut value = None;
+    for next in at..s.len() {
+        let b = s[next];
         if !digit(b) {
-            return finish(i, n, v);
+            return ended(value, next);
         }
-        if !may_go_on(n, v) {
+        if !may_go_on(value) {
             return None;
         }
-        v = v * 10 + (wide(b) - 48);
-        n = 1;
-        i += 1;
+        value = Some(value.unwrap_or(0) * 10 + usize::from(b - b'0'));
     }
-    finish(i, n, v)
+    ended(value, s.len())
 }
 
 // Whether nothing of a field is left from `at` on: it ends before a tab or at the end.
 pub fn field_ends(s: &[u8], at: usize) -> bool
     ensures { result ≡ is_empty (field_of (drop at s.now)) }
 {
-    s.len() <= at || s[at] == 9
+    s.len() <= at || s[at] == b'\t'
 }
 
 // The number that is the field from `at` on.
