@@ -33,8 +33,8 @@ use Rattle.network.proofs.NodeBytes.{link_off, link_end, used_byte, used_known}
 use Rattle.network.proofs.Points.{point_cell, point_eq}
 use Rattle.network.proofs.StoreBytes.{idx_below}
 use Rattle.answer.proofs.Rising.{Precedes, precedes_apart, rising_once}
-use Rattle.route.specs.declared.serve.Served.{Served}
-use Rattle.route.specs.declared.serve.Served.TheVariants.{Yes, No}
+use Rattle.route.specs.declared.serve.Unserved.{Unserved}
+use Rattle.std.specs.Prelude.{Ok, Err}
 use Rattle.route.specs.Search.{Fresh}
 use Rattle.route.specs.Serve.{MarksUpTo, Serving, ServedBy}
 use Rattle.planner.specs.Solved.{Begun, ServedAll}
@@ -175,8 +175,8 @@ module _ {j : Job} {targets : List ℕ} {calls : ℕ} {near begin due shut cart_
           clean = λ e. v.fresh (eqb-true i 0 e);
         }
 
-        pub call_served : {s' : List ℕ} {m : ℕ} (answer : Served) → answer ≡ Yes m → Holds j g s' × ServedBy j s s' stamp (point p g.top) answer → SoFar j order s' g (i + 1) m
-        call_served {s'} {m} answer e (holds, by) = let (hi, lo, marks, serves) : ServedBy j s s' stamp x (Yes m) = rw e at by in record {
+        pub call_served : {s' : List ℕ} {m : ℕ} → Holds j g s' × ServedBy j s s' stamp (point p g.top) (Ok m) → SoFar j order s' g (i + 1) m
+        call_served {s'} {m} (holds, (hi, lo, marks, serves)) = record {
           holds = holds;
           high = omega (arith, v.high);
           marks = marks;
@@ -196,10 +196,10 @@ module _ {j : Job} {targets : List ℕ} {calls : ℕ} {near begin due shut cart_
                 go (no h) = let z : m ≡ i = omega arith in inr (f ∙ ap (order_node j order) z ∙ sym here)
 
         -- It cannot be served, which ends it.
-        pub call_failed : {s' : List ℕ} {m : ℕ} (answer : Served) → answer ≡ No m → Holds j g s' × ServedBy j s s' stamp (point p g.top) answer → Holds j g s' × ServedAll j s' answer
-        call_failed {s'} {m} answer e (holds, by) = let r : ServedBy j s s' stamp x (No m) = rw e at by in (holds, rw e (x, r.1))
+        pub call_failed : {s' : List ℕ} {n : Unserved} → Holds j g s' × ServedBy j s s' stamp (point p g.top) (Err n) → Holds j g s' × ServedAll j s' (Err n)
+        call_failed {s'} {n} (holds, r) = (holds, (x, r.1))
 
-  pub all_served : {s : List ℕ} {stamp i : ℕ} → i ≡ calls → SoFar j order s g i stamp → ServedAll j s (Yes stamp)
+  pub all_served : {s : List ℕ} {stamp i : ℕ} → i ≡ calls → SoFar j order s g i stamp → {u : Unit {0}} → ServedAll j s (Ok u)
   all_served e v c h =
       let (k, l, f) = in_place c j.calls (call lift 0 0) h in
       let (m, d, a) = each k l in

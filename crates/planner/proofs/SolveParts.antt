@@ -17,8 +17,8 @@ use Rattle.floor.specs.Tables.{Tables}
 use Rattle.floor.proofs.JobTables.{calls_of}
 use Rattle.network.specs.declared.planes.Grid.{Grid}
 use Rattle.network.specs.Store.{grid_of, Spacious}
-use Rattle.route.specs.declared.serve.Served.{Served}
-use Rattle.route.specs.declared.serve.Served.TheVariants.{Yes, No}
+use Rattle.route.specs.declared.serve.Unserved.{Unserved}
+use Rattle.std.specs.Prelude.{Result, Ok, Err}
 use Rattle.answer.specs.Cut.{Failed}
 use Rattle.answer.specs.Full.{FullFlow, PathsTraced, PathsWritten}
 use Rattle.answer.specs.Spares.{Starts, Unkept, AllKept}
@@ -43,15 +43,15 @@ module _ (a : arrays.Job) where
   begun tables h =
       record { ready = h.ready; listed = calls_of a; tables = tables; ordered = h.ordered; grid = h.grid; room = h.room; blank = h.blank }
 
-  module _ {cart_on order : List ℕ} {g : Grid} {s : List ℕ} {r : Served} (f : Finished (job_of a) cart_on order g s r) where
+  module _ {cart_on order : List ℕ} {g : Grid} {s : List ℕ} {r : Result (Unit {0}) Unserved} (f : Finished (job_of a) cart_on order g s r) where
     -- All calls are served.
-    pub full : {m : ℕ} → r ≡ Yes m → AllServed (job_of a) cart_on order g s
-    full {m} e = let all : ServedAll (job_of a) s (Yes m) = rw e at f.served in record { carts = f.carts; ordered = f.ordered; holds = f.holds; full = all }
+    pub full : {u : Unit {0}} → r ≡ Ok u → AllServed (job_of a) cart_on order g s
+    full {u} e = let all : ServedAll (job_of a) s (Ok u) = rw e at f.served in record { carts = f.carts; ordered = f.ordered; holds = f.holds; full = all }
 
     -- One cannot be.
-    pub stuck : {m : ℕ} → r ≡ No m → Failed (job_of a) a.kinds a.targets a.deadlines a.calls g s m
-    stuck {m} e =
-        let all : ServedAll (job_of a) s (No m) = rw e at f.served in
+    pub stuck : {n : Unserved} → r ≡ Err n → Failed (job_of a) a.kinds a.targets a.deadlines a.calls g s n.stamp
+    stuck {n} e =
+        let all : ServedAll (job_of a) s (Err n) = rw e at f.served in
         record {
           listed = calls_of a;
           kinds_are = λ k h. ap (λ q. q.kind) (call-at a k h);

@@ -1,5 +1,5 @@
 -- What the planner's calls are served from, what that leaves, and what the planner answers.
-use Rattle.std.specs.Prelude.{ℕ, ◌-◌, ◌≡◌, List, length}
+use Rattle.std.specs.Prelude.{ℕ, ◌-◌, ◌≡◌, List, Result, Ok, Err, length}
 use Rattle.model.specs.Lists.{In}
 use Rattle.model.specs.Job.{Job, Call}
 use Rattle.model.specs.Ready.{Ready}
@@ -15,8 +15,7 @@ use Rattle.network.specs.Store.{grid_of, Spacious, Blank, is_marked}
 use Rattle.network.specs.Links.{back_link, on_link}
 use Rattle.network.specs.Holds.{Holds}
 use Rattle.network.specs.Stuck.{Stuck}
-use Rattle.route.specs.declared.serve.Served.{Served}
-use Rattle.route.specs.declared.serve.Served.TheVariants.{Yes, No}
+use Rattle.route.specs.declared.serve.Unserved.{Unserved}
 use Rattle.planner.specs.declared.solve.Solution.{Solution}
 use Rattle.planner.specs.declared.solve.Solution.TheVariants.{Plan, Cannot}
 
@@ -39,12 +38,12 @@ pub record Begun (j : Job) (targets : List ℕ) (calls : ℕ) (near begin due sh
   pub blank : Blank g s
 
 -- Every call is served, or one cannot be along with those before it: the marks with the stamp show why.
-abbrev pub ServedAll : Job → List ℕ → Served → Type 0
-ServedAll j s (Yes n) = (q : Call) → In q j.calls → on_link j s (node_of j q) ≡ end
-ServedAll j s (No n) = (x : Point) × Stuck j (back_link j s) (on_link j s) (is_marked j s n) x
+abbrev pub ServedAll : Job → List ℕ → Result (Unit {0}) Unserved → Type 0
+ServedAll j s (Ok _) = (q : Call) → In q j.calls → on_link j s (node_of j q) ≡ end
+ServedAll j s (Err e) = (x : Point) × Stuck j (back_link j s) (on_link j s) (is_marked j s e.stamp) x
 
 -- The calls were served, as far as they can be.
-pub record Finished (j : Job) (cart_on order : List ℕ) (g : Grid) (s : List ℕ) (r : Served) : Type 0 where
+pub record Finished (j : Job) (cart_on order : List ℕ) (g : Grid) (s : List ℕ) (r : Result (Unit {0}) Unserved) : Type 0 where
   pub carts : CartOn j cart_on
   pub ordered : Order j order
   pub holds : Holds j g s

@@ -15,7 +15,7 @@ use job::state::Job;
 use model::Limits;
 use model::bytes::wide;
 use network::planes::{Grid, Node, Store};
-use route::serve::Served;
+use route::serve::Unserved;
 
 // A plan, or how many choke points show that there is none.
 #[derive(Drop)]
@@ -53,7 +53,7 @@ fn serve_all(
     cart_on: &[u8],
     order: &[u8],
     store: &mut Store<'_>,
-) -> Served
+) -> Result<(), Unserved>
     requires { (j : model.Job) × Begun j targets.now calls near.now begin.now due.now shut.now cart_on.now order.now store.old.bytes.now store.old.grid }
     ensures { SameStore store.old store.new × ((j : model.Job) → Begun j targets.now calls near.now begin.now due.now shut.now cart_on.now order.now store.old.bytes.now store.old.grid → Holds j store.old.grid store.new.bytes.now × ServedAll j store.new.bytes.now result) }
 {
@@ -69,7 +69,7 @@ fn serve_all(
             cell,
             step: store.grid.top,
         };
-        let served = route::serve::serve(
+        stamp = route::serve::serve(
             near,
             begin,
             due,
@@ -81,18 +81,19 @@ fn serve_all(
             2 * far,
             stamp,
             fresh,
-        );
-        let Served::Yes(next) = served else {
-            return served;
-        };
-        stamp = next;
+        )?;
         i += 1;
     }
-    Served::Yes(stamp)
+    Ok(())
 }
 
 // Fills the tables of the job's floor, and serves its calls over them. The table of carts is lent, since the paths need it too.
-fn serve_job(job: Job, cart_on: &mut [u8], order: &[u8], store: &mut Store<'_>) -> Served
+fn serve_job(
+    job: Job,
+    cart_on: &mut [u8],
+    order: &[u8],
+    store: &mut Store<'_>,
+) -> Result<(), Unserved>
     requires { Sized job × (length cart_on.old ≡ max_cells) × Wiped (job_of job) order.now store.old.bytes.now store.old.grid }
     ensures { SameStore store.old store.new × Finished (job_of job) cart_on.new order.now store.old.grid store.new.bytes.now result }
 {
@@ -147,7 +148,7 @@ fn write_answer(
     job: Job,
     cart_on: &[u8],
     store: &mut Store<'_>,
-    served: Served,
+    served: Result<(), Unserved>,
     first: &mut [u8],
     second: &mut [u8],
     lasts: &mut [u8],
@@ -156,7 +157,7 @@ fn write_answer(
     requires { Sized job × Finished (job_of job) cart_on.now second.old store.old.grid store.old.bytes.now served × Room first.old second.old lasts.old rows.old }
     ensures { SameStore store.old store.new × Room first.new second.new lasts.new rows.new × Solved (job_of job) result first.new second.new lasts.new rows.new }
 {
-    let Served::No(stamp) = served else {
+    let Err(unserved) = served else {
         write_plan(job, cart_on, store, first, second, lasts, rows);
         return Solution::Plan;
     };
@@ -166,7 +167,7 @@ fn write_answer(
         &job.deadlines,
         job.calls,
         store,
-        stamp,
+        unserved.stamp,
         first,
         second,
         lasts,

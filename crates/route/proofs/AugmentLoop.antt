@@ -36,10 +36,10 @@ module _ {j : Job} {s : List ℕ} {g : Grid} {depth : ℕ} (a : Laying j s g dep
   stacked = record {
     fit = a.holds.ready.fit;
     room = rw a.holds.grid at a.holds.room;
-    small = omega (arith, a.fit, a.deep);
-    known = λ i l. a.known i (omega (arith, a.deep));
+    small = omega (arith, a.stack.fit, a.stack.deep);
+    known = λ i l. a.stack.known i (omega (arith, a.stack.deep));
     ok = a.holds.flow;
-    way = a.way;
+    way = a.stack.way;
   }
 
   module _ {s' : List ℕ} {i : ℕ} (h : 0 < i) (l : i ≤ depth - 1) (done : Laid g s s' i (depth - 1)) where

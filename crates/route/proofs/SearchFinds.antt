@@ -24,23 +24,18 @@ use Rattle.network.specs.Store.{as_point, place_at, used_at, mark_at, next_at, m
 use Rattle.network.proofs.Points.{point_eq, point_step}
 use Rattle.network.proofs.HoldsLaws.{leads_on, place_below}
 use Rattle.route.specs.Lay.{pushed}
-use Rattle.route.specs.declared.search.Found.{Found}
+use Rattle.std.specs.Prelude.{Option, None, Some}
+use Rattle.route.specs.declared.search.Hop.{Hop}
 use Rattle.route.specs.Finds.{Stands, Down, By, ByRow, BySteps, first_of, Stamped, Finds, Guesses, Tries, Aims}
 
 module _ (P Q : Point → Point → Type 0) (M : Point → Type 0) (more : (y via : Point) → P y via → Q y via) where
-  pub found_more : (r : Found) {v via : Node} → r ≡ Found.Push v via → Finds P M r → Finds Q M r
-  found_more r {v} {via} e f = let h : Finds P M (Found.Push v via) = rw e at f in rw e (more (as_point v) (as_point via) h.0, h.1)
+  pub found_rest : ((y via : Point) → Q y via → P y via ⊎ M y) → (r : Option Hop) → Finds P M r → Finds Q M r
+  found_rest rest None f = λ y via q. ⊎_elim (f y via) (λ m. m) (rest y via q)
+  found_rest rest (Some h) f = (more (as_point h.node) (as_point h.via) f.0, f.1)
 
-  pub found_rest : ((y via : Point) → Q y via → P y via ⊎ M y) → (r : Found) → Finds P M r → Finds Q M r
-  found_rest rest Found.Nothing f = λ y via q. ⊎_elim (f y via) (λ m. m) (rest y via q)
-  found_rest rest (Found.Push v via) f = (more (as_point v) (as_point via) f.0, f.1)
-
-  pub found_guess : (r : Found) → Finds P M r → Guesses Q M r
-  found_guess Found.Nothing f = tt
-  found_guess (Found.Push v via) f = (more (as_point v) (as_point via) f.0, f.1)
-
-pub guess_found : (P : Point → Point → Type 0) (M : Point → Type 0) (r : Found) {v via : Node} → r ≡ Found.Push v via → Guesses P M r → Finds P M r
-guess_found P M r {v} {via} e f = let h : Guesses P M (Found.Push v via) = rw e at f in rw e h
+  pub found_guess : (r : Option Hop) → Finds P M r → Guesses Q M r
+  found_guess None f = tt
+  found_guess (Some h) f = (more (as_point h.node) (as_point h.via) f.0, f.1)
 
 pub in_at : (l : List ℕ) {x : ℕ} (i : ℕ) → x ≡ get_or l i 0 → i < length l → In x l
 in_at l i e h = rw e (in_get_or l i 0 h)
@@ -50,17 +45,17 @@ row-cells n o c t k e = rw e (λ x i. row_known n o c t x k i)
 
 -- By way of the first i cells of the row all is marked.
 abbrev pub RowMarked : Grid → List ℕ → List ℕ → List ℕ → ℕ → ℕ → ℕ → Type 0
-RowMarked g s shut row t stamp i = (k : ℕ) → k < i → OpenAt shut (t + 1) (get_or row k 0) → Finds (By g s (point (get_or row k 0) t)) (Stamped g s stamp) Found.Nothing
+RowMarked g s shut row t stamp i = (k : ℕ) → k < i → OpenAt shut (t + 1) (get_or row k 0) → Finds (By g s (point (get_or row k 0) t)) (Stamped g s stamp) None
 
 module _ (g : Grid) (s shut row : List ℕ) (t stamp i : ℕ) (p : RowMarked g s shut row t stamp i) where
-  pub row_more : (c : ℕ) → c ≡ get_or row i 0 → (OpenAt shut (t + 1) c → Finds (By g s (point c t)) (Stamped g s stamp) Found.Nothing) → RowMarked g s shut row t stamp (i + 1)
+  pub row_more : (c : ℕ) → c ≡ get_or row i 0 → (OpenAt shut (t + 1) c → Finds (By g s (point c t)) (Stamped g s stamp) None) → RowMarked g s shut row t stamp (i + 1)
   row_more c e h k l = go (dec_lt k i)
     where
-      go : Dec (k < i) → OpenAt shut (t + 1) (get_or row k 0) → Finds (By g s (point (get_or row k 0) t)) (Stamped g s stamp) Found.Nothing
+      go : Dec (k < i) → OpenAt shut (t + 1) (get_or row k 0) → Finds (By g s (point (get_or row k 0) t)) (Stamped g s stamp) None
       go (yes m) = p k m
       go (no m) = let q : i ≡ k = omega arith in rw q at (rw e at h)
 
-  pub row_all : i ≡ length row → Finds (ByRow g s shut row t) (Stamped g s stamp) Found.Nothing
+  pub row_all : i ≡ length row → Finds (ByRow g s shut row t) (Stamped g s stamp) None
   row_all e y via (c, m, o, b) = let (k, l, f) = in_place c row 0 m in p k (omega arith) (rw f at o) y via (rw f at b)
 
 -- By way of a node one gets to one position.
@@ -80,22 +75,19 @@ abbrev pub StepsMarked : Grid → List ℕ → ℕ → ℕ → ℕ → ℕ → T
 StepsMarked g s c stamp t past = (y w : Point) → BySteps g s c t past y w → Stamped g s stamp y
 
 module _ (g : Grid) (s : List ℕ) (c stamp t past : ℕ) (p : StepsMarked g s c stamp t past) where
-  pub steps_more : (u : ℕ) → t ≡ suc u → Finds (By g s (point c u)) (Stamped g s stamp) Found.Nothing → StepsMarked g s c stamp u past
+  pub steps_more : (u : ℕ) → t ≡ suc u → Finds (By g s (point c u)) (Stamped g s stamp) None → StepsMarked g s c stamp u past
   steps_more u e h y w (k, l, m, b) = go (dec_lt u k)
     where
       go : Dec (u < k) → Stamped g s stamp y
       go (yes n) = p y w (k, omega arith, m, b)
       go (no n) = let q : k ≡ u = omega arith in h y w (rw q at b)
 
-  pub steps_all : (first : ℕ) → t ≤ first → Tries g s c first past (Stamped g s stamp) Found.Nothing
+  pub steps_all : (first : ℕ) → t ≤ first → Tries g s c first past (Stamped g s stamp) None
   steps_all first l y w (k, n, m, b) = p y w (k, omega arith, m, b)
 
-  pub steps_push : (first u : ℕ) (r : Found) {v via : Node} → r ≡ Found.Push v via → t ≡ suc u → first ≤ u → t ≤ past → Finds (By g s (point c u)) (Stamped g s stamp) r
-      → Tries g s c first past (Stamped g s stamp) r
-  steps_push first u r {v} {via} f e l n h =
-      let k : Finds (By g s (point c u)) (Stamped g s stamp) (Found.Push v via) = rw f at h in
-      let q = point_step (by_way g s k.0) in
-      rw f ((u, l, omega arith, k.0), k.1, λ y w (i, a, b, d). p y w (i, omega arith, b, d))
+  pub steps_push : (first u : ℕ) (h : Hop) → t ≡ suc u → first ≤ u → t ≤ past → Finds (By g s (point c u)) (Stamped g s stamp) (Some h)
+      → Tries g s c first past (Stamped g s stamp) (Some h)
+  steps_push first u h e l n k = let q = point_step (by_way g s k.0) in ((u, l, omega arith, k.0), k.1, λ y w (i, a, b, d). p y w (i, omega arith, b, d))
 
 -- The first step of a call's window, by its two tables.
 module _ (due shut : List ℕ) (c : ℕ) where
@@ -157,24 +149,22 @@ module _ {j : Job} {g : Grid} {s : List ℕ} {n : Node} (h : Stands j g s (as_po
       after_place = subst (λ (z : Point). place_at g z < g.nodes) (sym ey) (place_below h.0 (leads_on h.0 stands_in low (taken_at g s (as_point n) ev eu used)).1)
 
       module _ {stamp w m : ℕ} (ew : w ≡ place_at g (as_point y)) (em : m ≡ mark_at g s w) where
-        pub down_none : m ≡ stamp → Finds (Down g s (as_point n)) (Stamped g s stamp) Found.Nothing
+        pub down_none : m ≡ stamp → Finds (Down g s (as_point n)) (Stamped g s stamp) None
         down_none e z via b = rw (b.2 ∙ sym ey) (told (mark_at g s) ew em e)
 
-        pub down_push : (m ≡ stamp → ⊥) → Finds (Down g s (as_point n)) (Stamped g s stamp) (Found.Push y n)
+        pub down_push : (m ≡ stamp → ⊥) → Finds (Down g s (as_point n)) (Stamped g s stamp) (Some (record { node = y; via = n }))
         down_push f = ((refl, taken_at g s (as_point n) ev eu used, ey), untold (mark_at g s) ew em f)
 
     module _ (stamp : ℕ) where
       -- It is not.
-      pub by_none : u ≡ false → mark_at g s (place_at g (as_point n)) ≡ stamp → Finds (By g s (as_point n)) (Stamped g s stamp) Found.Nothing
+      pub by_none : u ≡ false → mark_at g s (place_at g (as_point n)) ≡ stamp → Finds (By g s (as_point n)) (Stamped g s stamp) None
       by_none e m y via (inl b) = rw b.2 m
       by_none e m y via (inr b) = absurd (b.1 (free_at g s (as_point n) ev eu e))
 
-      pub by_down : u ≡ true → (r : Found) → Finds (Down g s (as_point n)) (Stamped g s stamp) r → Finds (By g s (as_point n)) (Stamped g s stamp) r
+      pub by_down : u ≡ true → (r : Option Hop) → Finds (Down g s (as_point n)) (Stamped g s stamp) r → Finds (By g s (as_point n)) (Stamped g s stamp) r
       by_down used = found_rest (Down g s (as_point n)) (By g s (as_point n)) (Stamped g s stamp) (λ y via b. inr b) (λ y via q. ⊎_elim (λ b. absurd (taken_at g s (as_point n) ev eu used b.1)) inl q)
 
 -- What is found by way of one step of a cell.
-pub aims_found : (g : Grid) (s : List ℕ) (c first past ahead stamp : ℕ) (r : Found) {v via : Node} → r ≡ Found.Push v via
-    → Finds (By g s (point c ahead)) (Stamped g s stamp) r → first ≤ ahead → ahead < past → Aims g s c first past ahead (Stamped g s stamp) r
-aims_found g s c first past ahead stamp r {v} {via} e f a b =
-    let h : Finds (By g s (point c ahead)) (Stamped g s stamp) (Found.Push v via) = rw e at f in
-    rw e ((ahead, a, b, h.0), h.1, point_step (by_way g s h.0))
+pub aims_found : (g : Grid) (s : List ℕ) (c first past ahead stamp : ℕ) (h : Hop) → Finds (By g s (point c ahead)) (Stamped g s stamp) (Some h)
+    → first ≤ ahead → ahead < past → Aims g s c first past ahead (Stamped g s stamp) (Some h)
+aims_found g s c first past ahead stamp h k a b = ((ahead, a, b, k.0), k.1, point_step (by_way g s k.0))

@@ -26,6 +26,7 @@ use Rattle.network.proofs.StoreBytes.{idx_one, idx_below}
 use Rattle.network.proofs.NodeBytes.{inside_test, test_inside}
 use Rattle.network.proofs.PlaneLaws.{SetAt, Pushed}
 use Rattle.network.proofs.HoldsLaws.{leads_on, back_same, on_same, holds_same}
+use Rattle.std.specs.Prelude.{None, Some}
 use Rattle.route.specs.Search.{MarksOr, Fresh, Searched}
 use Rattle.route.specs.Finds.{By}
 use Rattle.route.proofs.Stack.{pos_in, via_in, hop_in, hops_in, ArcIn}
@@ -279,15 +280,11 @@ module _ {j : Job} {s s₁ t : List ℕ} {stamp : ℕ} {x : Point} (target : is_
       go (yes q) = q
       go (no ne) = absurd (fresh v h (sym (p.mark.else v h ne) ∙ e))
 
-  pub searched_none : d ≡ 0 → Searched j s t stamp x 0
+  pub searched_none : d ≡ 0 → Searched j s t stamp x None
   searched_none z = record {
     same = same;
     marks = marks;
-    deep = omega arith;
-    first = λ h. absurd (omega arith);
-    known = λ i h. absurd (omega arith);
-    way = λ h. absurd (omega arith);
-    stuck = λ e fresh. record {
+    ends = λ fresh. record {
       target = target;
       unserved = idle';
       reached = mark_test j t stamp x r.dfs.root;
@@ -298,15 +295,14 @@ module _ {j : Job} {s s₁ t : List ℕ} {stamp : ℕ} {x : Point} (target : is_
     };
   }
 
-  pub searched_some : (m : ℕ) → d ≡ suc m → (graph j).Goal (pos_in j t m) → Searched j s t stamp x d
-  searched_some m e g = record {
-    same = same;
-    marks = marks;
-    deep = omega (arith, r.room);
-    first = r.dfs.first;
-    known = λ i h. (r.dfs.marked i h).0;
-    way = λ h.
-        let q : d - 1 ≡ m = omega arith in
-        rw q (dfs_way (graph j) (back_link j t) (on_link j t) (hop_in j t) (hops_in j t) refl (λ k. refl) (pos_in j t) (λ i. refl) x (r.dfs.first h) m (rw e at r.dfs) target idle' g);
-    stuck = λ z. absurd (omega arith);
-  }
+  pub searched_some : (m : ℕ) → d ≡ suc m → (graph j).Goal (pos_in j t m) → Searched j s t stamp x (Some d)
+  searched_some m e g =
+      let deep : 0 < d = omega arith in
+      let q : d - 1 ≡ m = omega arith in
+      let first = r.dfs.first deep in
+      let way = dfs_way (graph j) (back_link j t) (on_link j t) (hop_in j t) (hops_in j t) refl (λ k. refl) (pos_in j t) (λ i. refl) x first m (rw e at r.dfs) target idle' g in
+      record {
+        same = same;
+        marks = marks;
+        ends = (record { deep = deep; fit = omega (arith, r.room); known = λ i h. (r.dfs.marked i h).0; way = rw (first, q) way }, first);
+      }

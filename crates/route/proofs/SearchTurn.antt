@@ -24,7 +24,8 @@ use Rattle.network.proofs.Points.{point_eq, point_step}
 use Rattle.network.proofs.StoreBytes.{idx_below}
 use Rattle.network.proofs.PlaneLaws.{pushes}
 use Rattle.network.proofs.HoldsLaws.{back_same, holds_same, place_below}
-use Rattle.route.specs.declared.search.Found.{Found}
+use Rattle.std.specs.Prelude.{Option, None, Some}
+use Rattle.route.specs.declared.search.Hop.{Hop}
 use Rattle.route.specs.Lay.{pushed}
 use Rattle.route.specs.Search.{Searching, Searched}
 use Rattle.route.specs.Finds.{By, BySteps, first_of, From, Stamped, CallTries, Sees}
@@ -81,10 +82,10 @@ module _ {j : Job} {near begin due shut cart-on hint s s₁ : List ℕ} {g : Gri
   begun = may_search first.same h
 
   module _ {t : List ℕ} {d : ℕ} (r : Running j s₁ t stamp x d) where
-    pub ends_none : d ≡ 0 → Searched j s t stamp x 0
+    pub ends_none : d ≡ 0 → Searched j s t stamp x None
     ends_none = searched_none h.target h.idle first r
 
-    pub ends_some : (m : ℕ) → d ≡ suc m → (graph j).Goal (pos_in j t m) → Searched j s t stamp x d
+    pub ends_some : (m : ℕ) → d ≡ suc m → (graph j).Goal (pos_in j t m) → Searched j s t stamp x (Some d)
     ends_some = searched_some h.target h.idle first r
 
 low : {j : Job} {near begin due shut cart-on hint s : List ℕ} {g : Grid} {x : Point} → Searching j near begin due shut cart-on hint s g x → DueLow j due
@@ -135,12 +136,12 @@ module _ {j : Job} {near begin due shut cart-on hint : List ℕ} {g : Grid} {s�
       omega (arith, eqb-true (get_or cart-on y.cell 0) 0 (not-false (eqb (get_or cart-on y.cell 0) 0) (none h.0)), w.for.tables.carts.has_cart y.cell h.1)
 
 -- What was found in the turn; and the position is no goal.
-pub record Looked (j : Job) (near begin due shut cart-on hint : List ℕ) (g : Grid) (s₁ s : List ℕ) (x : Point) (stamp soon d : ℕ) (y : Point) (below ahead : ℕ) (r : Found) : Type 0 where
+pub record Looked (j : Job) (near begin due shut cart-on hint : List ℕ) (g : Grid) (s₁ s : List ℕ) (x : Point) (stamp soon d : ℕ) (y : Point) (below ahead : ℕ) (r : Option Hop) : Type 0 where
   pub turn : Turn j near begin due shut cart-on hint g s₁ s x stamp soon d y below ahead
   pub sees : Sees g s near begin due shut y below ahead stamp r
   pub dull : (graph j).Goal (pos_in j s (d - 1)) → ⊥
 
-module _ {j : Job} {near begin due shut cart-on hint : List ℕ} {g : Grid} {s₁ s : List ℕ} {x : Point} {stamp soon d : ℕ} {y : Point} {below ahead : ℕ} {r : Found}
+module _ {j : Job} {near begin due shut cart-on hint : List ℕ} {g : Grid} {s₁ s : List ℕ} {x : Point} {stamp soon d : ℕ} {y : Point} {below ahead : ℕ} {r : Option Hop}
     (k : Looked j near begin due shut cart-on hint g s₁ s x stamp soon d y below ahead r) where
   sees' : Sees (grid_of j) s near begin due shut (pos_in j s (d - 1)) below ahead stamp r
   sees' = subst₂ (λ g y. Sees g s near begin due shut y below ahead stamp r) k.turn.for.holds.grid (top k.turn) k.sees
@@ -154,7 +155,7 @@ module _ {j : Job} {near begin due shut cart-on hint : List ℕ} {g : Grid} {s�
   abbrev FromTop : Point → Point → Type 0
   FromTop z via = From (grid_of j) s near begin due shut (pos_in j s (d - 1)) z via
 
-  module _ (e : r ≡ Found.Nothing) where
+  module _ (e : r ≡ None) where
     none : (z via : Point) → FromTop z via → Stamped (grid_of j) s stamp z
     none z via (inl (c, b)) =
         all_tried k.turn.going.tried (sym depth) c (first_of due shut (pos_in j s (d - 1)).cell) (⊎_elim (λ a. a) (λ a. absurd a) (rw e at (sees'.call c))) z via b
@@ -189,7 +190,13 @@ module _ {j : Job} {near begin due shut cart-on hint : List ℕ} {g : Grid} {s�
       top = λ z. absurd (omega arith);
     }
 
-  module _ (v via : Node) (e : r ≡ Found.Push v via) where
+  module _ (u : Hop) (e : r ≡ Some u) where
+    abbrev v : Node
+    v = u.node
+
+    abbrev via : Node
+    via = u.via
+
     some : FromTop (as_point v) (as_point via) × (Stamped (grid_of j) s stamp (as_point v) → ⊥)
     some = go (ℕ_discrete (pos_in j s (d - 1)).step (grid_of j).top)
       where
@@ -208,7 +215,7 @@ module _ {j : Job} {near begin due shut cart-on hint : List ℕ} {g : Grid} {s�
         low' : get_or due (pos_in j s (d - 1)).cell 0 ≤ (grid_of j).top
         low' = low k.turn.for (pos_in j s (d - 1)).cell (marked k.turn).0.0
 
-        go : CallTries (grid_of j) s due shut (pos_in j s (d - 1)).cell below ahead (Stamped (grid_of j) s stamp) (Found.Push v via)
+        go : CallTries (grid_of j) s due shut (pos_in j s (d - 1)).cell below ahead (Stamped (grid_of j) s stamp) (Some u)
             → Latest j s due stamp (pos_in j s (d - 1)).cell below (as_point v) (as_point via)
         go (inl ((t, l, m, b), f, a)) =
             let q = point_step (by_way (grid_of j) s b) in

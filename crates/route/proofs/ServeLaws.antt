@@ -1,5 +1,6 @@
 -- What a call's search and augmentation leave, put together: a search keeps the flow, so the next search or the augmentation may start from its store, and
 -- what is served is told from the store at entry. Marks stay at most the stamp, so that a larger one is on none of them. Assumes nothing.
+use Rattle.std.specs.Prelude.{Option, None, Some}
 use Prim.Native.Nat.{ℕ, ◌<◌, ◌≤◌}
 use mathlib.Core.Path.{◌≡◌, ◌∙◌, subst, subst₂}
 use mathlib.Core.List.{List}
@@ -15,36 +16,37 @@ use Rattle.network.specs.Links.{on_link}
 use Rattle.network.specs.declared.planes.Grid.{Grid}
 use Rattle.network.proofs.HoldsLaws.{on_same, holds_same, holds_flow}
 use Rattle.route.specs.Stack.{pos_at}
-use Rattle.route.specs.Search.{Fresh, Searching, Searched, Laying, Augmented}
+use Rattle.route.specs.Search.{Fresh, OnStack, Searching, Searched, Laying, Augmented}
 use Rattle.route.specs.Serve.{MarksUpTo, Sought}
 
-module _ {j : Job} {near begin due shut cart-on hint s t : List ℕ} {g : Grid} {x : Point} {stamp r : ℕ} (f : Searched j s t stamp x r) (h : Searching j near begin due shut cart-on hint s g x) where
+module _ {j : Job} {near begin due shut cart-on hint s t : List ℕ} {g : Grid} {x : Point} {stamp : ℕ} {r : Option ℕ} (f : Searched j s t stamp x r) (h : Searching j near begin due shut cart-on hint s g x) where
   marks_search : (n : ℕ) → stamp ≤ n → MarksUpTo j s n → MarksUpTo j t n
   marks_search n l m v b = ⊎_elim (λ e. omega (arith, e, m v b)) (λ e. omega (arith, e)) (f.marks v b)
 
-  pub sought_none : r ≡ 0 → Sought j g s t stamp x false
+  pub sought_none : r ≡ None → Sought j g s t stamp x false
   sought_none e = record {
     long = f.same.long;
     holds = holds_same h.holds f.same;
     marks = marks_search;
     serves = λ z. nope (cc);
     same = λ z. f.same;
-    stuck = λ z. f.stuck e;
+    stuck = λ z. rw e at f.ends;
   }
 
-  module _ (some : 0 < r) where
+  module _ {d : ℕ} (e : r ≡ Some d) where
+    found : OnStack j t d × (pos_at (grid_of j) t 0 ≡ x)
+    found = rw e at f.ends
+
     -- The way that was found may be laid, and then was.
-    pub may_lay : Laying j t g r
-    may_lay =
-        let e : pos_at (grid_of j) t 0 ≡ x = f.first some in
-        record { holds = holds_same h.holds f.same; deep = some; fit = f.deep; known = f.known; way = rw e (f.way some) }
+    pub may_lay : Laying j t g d
+    may_lay = record { holds = holds_same h.holds f.same; stack = found.0 }
 
     pub sought_some : {u : List ℕ} → Augmented j t u (pos_at (grid_of j) t 0) → Sought j g s u stamp x true
     sought_some {u} a = record {
       long = a.long ∙ f.same.long;
       holds = holds_flow may_lay.holds a.long a.flow;
       marks = λ n l m v b. ⊎_elim (λ e. omega (arith, e, marks_search n l m v b)) (λ e. omega (arith, e)) (a.marks v b);
-      serves = λ z v. subst₂ (λ (l : Point → Link Point) (y : Point). (on_link j u v ≡ end) ↔ ((l v ≡ end) ⊎ (v ≡ y))) (on_same j f.same) (f.first some) (a.serves v);
+      serves = λ z v. subst₂ (λ (l : Point → Link Point) (y : Point). (on_link j u v ≡ end) ↔ ((l v ≡ end) ⊎ (v ≡ y))) (on_same j f.same) found.1 (a.serves v);
       same = λ z. nope (cc);
       stuck = λ z. nope (cc);
     }

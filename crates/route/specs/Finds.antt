@@ -1,5 +1,5 @@
 -- What the search's inner functions find in the store: where a position leads.
-use Rattle.std.specs.Prelude.{ℕ, ◌+◌, ◌-◌, ◌<◌, ◌≤◌, min, ◌≡◌, List, cond, ◌⊎◌, leb, get_or}
+use Rattle.std.specs.Prelude.{ℕ, ◌+◌, ◌-◌, ◌<◌, ◌≤◌, min, ◌≡◌, List, Option, None, Some, cond, ◌⊎◌, leb, get_or}
 use Rattle.model.specs.Lists.{In}
 use Rattle.model.specs.Job.{Job}
 use Rattle.model.specs.Choke.{Point, point, Known}
@@ -7,7 +7,7 @@ use Rattle.floor.specs.Tables.{OpenAt, row_at}
 use Rattle.network.specs.Store.{place_at, as_point, used_at, mark_at, leads_to}
 use Rattle.network.specs.Holds.{Holds}
 use Rattle.network.specs.declared.planes.Grid.{Grid}
-use Rattle.route.specs.declared.search.Found.{Found}
+use Rattle.route.specs.declared.search.Hop.{Hop}
 
 -- x is a cell at a step, of the job whose flow the store holds.
 abbrev pub Stands : Job → Grid → List ℕ → Point → Type 0
@@ -49,33 +49,33 @@ From g s near begin due shut x y via =
 abbrev pub Stamped : Grid → List ℕ → ℕ → Point → Type 0
 Stamped g s stamp x = mark_at g s (place_at g x) ≡ stamp
 
--- What is found is one of the positions that P allows and that is not marked; Nothing, if all of them are.
-abbrev pub Finds : (Point → Point → Type 0) → (Point → Type 0) → Found → Type 0
-Finds P M Found.Nothing = (x via : Point) → P x via → M x
-Finds P M (Found.Push v via) = P (as_point v) (as_point via) × (M (as_point v) → ⊥)
+-- What is found is one of the positions that P allows and that is not marked; none, if all of them are.
+abbrev pub Finds : (Point → Point → Type 0) → (Point → Type 0) → Option Hop → Type 0
+Finds P M None = (x via : Point) → P x via → M x
+Finds P M (Some h) = P (as_point h.node) (as_point h.via) × (M (as_point h.node) → ⊥)
 
 -- What is found, if it is a position, is one that P allows and that is not marked.
-abbrev pub Guesses : (Point → Point → Type 0) → (Point → Type 0) → Found → Type 0
-Guesses P M Found.Nothing = Unit {0}
-Guesses P M (Found.Push v via) = P (as_point v) (as_point via) × (M (as_point v) → ⊥)
+abbrev pub Guesses : (Point → Point → Type 0) → (Point → Type 0) → Option Hop → Type 0
+Guesses P M None = Unit {0}
+Guesses P M (Some h) = P (as_point h.node) (as_point h.via) × (M (as_point h.node) → ⊥)
 
 -- The steps of the cell c from `first` to before `past` are tried from the latest down: what is found is by way of one of them, and by way of all later ones all is marked.
-abbrev pub Tries : Grid → List ℕ → ℕ → ℕ → ℕ → (Point → Type 0) → Found → Type 0
-Tries g s c first past M Found.Nothing = (x via : Point) → BySteps g s c first past x via → M x
-Tries g s c first past M (Found.Push v via) =
-    BySteps g s c first past (as_point v) (as_point via) × (M (as_point v) → ⊥) × ((x w : Point) → BySteps g s c (via.step + 1) past x w → M x)
+abbrev pub Tries : Grid → List ℕ → ℕ → ℕ → ℕ → (Point → Type 0) → Option Hop → Type 0
+Tries g s c first past M None = (x via : Point) → BySteps g s c first past x via → M x
+Tries g s c first past M (Some h) =
+    BySteps g s c first past (as_point h.node) (as_point h.via) × (M (as_point h.node) → ⊥) × ((x w : Point) → BySteps g s c (h.via.step + 1) past x w → M x)
 
 -- What is found is by way of the step `ahead`, one of these.
-abbrev pub Aims : Grid → List ℕ → ℕ → ℕ → ℕ → ℕ → (Point → Type 0) → Found → Type 0
-Aims g s c first past ahead M Found.Nothing = ⊥
-Aims g s c first past ahead M (Found.Push v via) = BySteps g s c first past (as_point v) (as_point via) × (M (as_point v) → ⊥) × (via.step ≡ ahead)
+abbrev pub Aims : Grid → List ℕ → ℕ → ℕ → ℕ → ℕ → (Point → Type 0) → Option Hop → Type 0
+Aims g s c first past ahead M None = ⊥
+Aims g s c first past ahead M (Some h) = BySteps g s c first past (as_point h.node) (as_point h.via) × (M (as_point h.node) → ⊥) × (h.via.step ≡ ahead)
 
 -- What is found from a call: by way of the step `ahead`, which is tried first, or else of those below `below` from the latest down.
-abbrev pub CallTries : Grid → List ℕ → List ℕ → List ℕ → ℕ → ℕ → ℕ → (Point → Type 0) → Found → Type 0
+abbrev pub CallTries : Grid → List ℕ → List ℕ → List ℕ → ℕ → ℕ → ℕ → (Point → Type 0) → Option Hop → Type 0
 CallTries g s due shut c below ahead M r =
     Tries g s c (first_of due shut c) (min (get_or due c 0) below) M r ⊎ Aims g s c (first_of due shut c) (min (get_or due c 0) below) ahead M r
 
 -- What is found from the position x.
-pub record Sees (g : Grid) (s near begin due shut : List ℕ) (x : Point) (below ahead stamp : ℕ) (r : Found) : Type 0 where
+pub record Sees (g : Grid) (s near begin due shut : List ℕ) (x : Point) (below ahead stamp : ℕ) (r : Option Hop) : Type 0 where
   pub call : x.step ≡ g.top → CallTries g s due shut x.cell below ahead (Stamped g s stamp) r
   pub node : (x.step ≡ g.top → ⊥) → Finds (FromNode g s shut (row_at near begin shut x.cell x.step) x) (Stamped g s stamp) r

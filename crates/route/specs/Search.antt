@@ -1,5 +1,5 @@
 -- What a search is handed, what it does to the store, and what it finds; the same for the way that is laid after it.
-use Rattle.std.specs.Prelude.{ℕ, ◌-◌, ◌<◌, ◌≤◌, ◌≡◌, List, true, ◌⊎◌, ◌↔◌, length}
+use Rattle.std.specs.Prelude.{ℕ, ◌-◌, ◌<◌, ◌≤◌, ◌≡◌, List, Option, None, Some, true, ◌⊎◌, ◌↔◌, length}
 use Rattle.model.specs.Limits.{max_cells}
 use Rattle.model.specs.Job.{Job}
 use Rattle.model.specs.Choke.{Point}
@@ -31,23 +31,27 @@ pub record Searching (j : Job) (near begin due shut cart_on hint s : List ℕ) (
   pub target : is_target j x ≡ true
   pub idle : back_link j s x ≡ off
 
--- A search from the call's node x answers r: 0 if it failed, else the depth of the stack, which holds a way to a free cart.
-pub record Searched (j : Job) (s s' : List ℕ) (stamp : ℕ) (x : Point) (r : ℕ) : Type 0 where
-  pub same : SameFlow (grid_of j) s s'
-  pub marks : MarksOr (grid_of j) s s' stamp
-  pub deep : r ≤ nodes j
-  pub first : 0 < r → pos_at (grid_of j) s' 0 ≡ x
-  pub known : (i : ℕ) → i < r → Inside j (pos_at (grid_of j) s' i)
-  pub way : 0 < r → Way (graph j) (back_link j s') (on_link j s') x (hops_to (grid_of j) s' (r - 1))
-  pub stuck : r ≡ 0 → Fresh j s stamp → Stuck j (back_link j s') (on_link j s') (is_marked j s' stamp) x
-
 -- The stack holds a way of that depth through the flow that the store holds.
-pub record Laying (j : Job) (s : List ℕ) (g : Grid) (depth : ℕ) : Type 0 where
-  pub holds : Holds j g s
+pub record OnStack (j : Job) (s : List ℕ) (depth : ℕ) : Type 0 where
   pub deep : 0 < depth
   pub fit : depth ≤ nodes j
   pub known : (i : ℕ) → i < depth → Inside j (pos_at (grid_of j) s i)
   pub way : Way (graph j) (back_link j s) (on_link j s) (pos_at (grid_of j) s 0) (hops_to (grid_of j) s (depth - 1))
+
+-- A search from the call's node x failed; or the stack, as deep as it answers, holds a way to a free cart.
+abbrev pub Ends : Job → List ℕ → List ℕ → ℕ → Point → Option ℕ → Type 0
+Ends j s s' stamp x None = Fresh j s stamp → Stuck j (back_link j s') (on_link j s') (is_marked j s' stamp) x
+Ends j s s' stamp x (Some d) = OnStack j s' d × (pos_at (grid_of j) s' 0 ≡ x)
+
+pub record Searched (j : Job) (s s' : List ℕ) (stamp : ℕ) (x : Point) (r : Option ℕ) : Type 0 where
+  pub same : SameFlow (grid_of j) s s'
+  pub marks : MarksOr (grid_of j) s s' stamp
+  pub ends : Ends j s s' stamp x r
+
+-- That way may be laid.
+pub record Laying (j : Job) (s : List ℕ) (g : Grid) (depth : ℕ) : Type 0 where
+  pub holds : Holds j g s
+  pub stack : OnStack j s depth
 
 -- The way from x on the stack was laid into the flow: it serves the call of x too.
 pub record Augmented (j : Job) (s s' : List ℕ) (x : Point) : Type 0 where

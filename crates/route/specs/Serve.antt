@@ -1,5 +1,5 @@
 -- What serving one call is handed, answers and leaves.
-use Rattle.std.specs.Prelude.{ℕ, ◌+◌, ◌<◌, ◌≤◌, ◌≡◌, List, Bool, true, false, ◌⊎◌, ◌↔◌, length}
+use Rattle.std.specs.Prelude.{ℕ, ◌+◌, ◌<◌, ◌≤◌, ◌≡◌, List, Result, Ok, Err, Bool, true, false, ◌⊎◌, ◌↔◌, length}
 use Rattle.model.specs.Job.{Job}
 use Rattle.model.specs.Choke.{Point}
 use Rattle.flow.specs.Flow.{end}
@@ -9,8 +9,7 @@ use Rattle.network.specs.Holds.{Holds, SameFlow}
 use Rattle.network.specs.Stuck.{Stuck}
 use Rattle.network.specs.declared.planes.Grid.{Grid}
 use Rattle.route.specs.Search.{Fresh, Searching}
-use Rattle.route.specs.declared.serve.Served.{Served}
-use Rattle.route.specs.declared.serve.Served.TheVariants.{Yes, No}
+use Rattle.route.specs.declared.serve.Unserved.{Unserved}
 
 -- No mark is above the stamp.
 abbrev pub MarksUpTo : Job → List ℕ → ℕ → Type 0
@@ -33,6 +32,6 @@ pub record Serving (j : Job) (near begin due shut cart_on hint s : List ℕ) (g 
   pub clean : fresh ≡ true → Fresh j s stamp
 
 -- The call's node x is served now, or it cannot be: the marks with the stamp show why.
-abbrev pub ServedBy : Job → List ℕ → List ℕ → ℕ → Point → Served → Type 0
-ServedBy j s s' stamp x (Yes n) = (n ≤ stamp + 1) × (stamp ≤ n) × MarksUpTo j s' n × ((v : Point) → (on_link j s' v ≡ end) ↔ ((on_link j s v ≡ end) ⊎ (v ≡ x)))
-ServedBy j s s' stamp x (No n) = (n ≤ stamp + 1) × Stuck j (back_link j s') (on_link j s') (is_marked j s' n) x
+abbrev pub ServedBy : Job → List ℕ → List ℕ → ℕ → Point → Result ℕ Unserved → Type 0
+ServedBy j s s' stamp x (Ok n) = (n ≤ stamp + 1) × (stamp ≤ n) × MarksUpTo j s' n × ((v : Point) → (on_link j s' v ≡ end) ↔ ((on_link j s v ≡ end) ⊎ (v ≡ x)))
+ServedBy j s s' stamp x (Err e) = (e.stamp ≤ stamp + 1) × Stuck j (back_link j s') (on_link j s') (is_marked j s' e.stamp) x

@@ -53,9 +53,7 @@ pub fn augment(store: &mut Store<'_>, depth: usize)
     ensures laid { (j : model.Job) → Laying j store.old.bytes.now store.old.grid depth → Augmented j store.old.bytes.now store.new.bytes.now (pos_at (grid_of j) store.old.bytes.now 0) }
 {
     let first = store.position(0);
-    let mut i = depth - 1;
-    while 0 < i {
-        i -= 1;
+    for i in (0..depth - 1).rev() {
         lay(store, i);
     }
     let v = store.grid.place(first);

@@ -11,14 +11,13 @@ ghost use Rattle.route.specs.Search.{Searching, Searched};
 ghost use Rattle.route.specs.Finds.{Stands, By, ByRow, Down, FromNode, Stamped, Finds, Guesses, Tries, CallTries, Sees};
 
 use floor::tables::row_at;
-use model::bytes::wide;
 use network::planes::{Node, Store};
 
-// Where a position leads: nowhere new, or to another position, by way of a node.
-#[derive(Drop)]
-pub enum Found {
-    Nothing,
-    Push { node: Node, via: Node },
+// Where a position leads: to another position, by way of a node.
+#[derive(Clone, Copy)]
+pub struct Hop {
+    pub node: Node,
+    pub via: Node,
 }
 
 // What a used node leads on to: the call on its cell, where that is met, else a cell at the next step.
@@ -38,86 +37,87 @@ fn successor(store: &Store<'_>, node: Node) -> Node
 }
 
 // To the successor of a used node, which then falls out of the flow, or whose place in it is taken over.
-fn drop_out(store: &Store<'_>, node: Node, stamp: u8) -> Found
+fn drop_out(store: &Store<'_>, node: Node, stamp: u8) -> Option<Hop>
     requires { (j : model.Job) × Stands j store.now.grid store.now.bytes.now (as_point node) }
     ensures { Finds (Down store.now.grid store.now.bytes.now (as_point node)) (Stamped store.now.grid store.now.bytes.now stamp) result }
 {
     let v = store.grid.place(node);
     if !store.used(v) {
-        return Found::Nothing;
+        return None;
     }
     let to = successor(store, node);
     if store.mark(store.grid.place(to)) == stamp {
-        return Found::Nothing;
+        return None;
     }
-    Found::Push {
+    Some(Hop {
         node: to,
         via: node,
-    }
+    })
 }
 
 // By way of a node: to it where it is free, else to its successor.
-fn look(store: &Store<'_>, node: Node, stamp: u8) -> Found
+fn look(store: &Store<'_>, node: Node, stamp: u8) -> Option<Hop>
     requires { (j : model.Job) × Stands j store.now.grid store.now.bytes.now (as_point node) }
     ensures { Finds (By store.now.grid store.now.bytes.now (as_point node)) (Stamped store.now.grid store.now.bytes.now stamp) result }
 {
     let v = store.grid.place(node);
     if !store.used(v) {
         if store.mark(v) == stamp {
-            return Found::Nothing;
+            return None;
         }
-        return Found::Push { node, via: node };
+        return Some(Hop { node, via: node });
     }
     drop_out(store, node, stamp)
 }
 
 // By way of the first cell of the row that leads on. From a cell that is closed at the next step nothing comes.
-fn scan(store: &Store<'_>, row: &[u8], shut: &[u16], step: usize, stamp: u8) -> Found
+fn scan(store: &Store<'_>, row: &[u8], shut: &[u16], step: usize, stamp: u8) -> Option<Hop>
     requires { ((j : model.Job) × Holds j store.now.grid store.now.bytes.now × Cells j.cells row.now × (step ≤ model.horizon j)) × (length shut.now ≡ max_cells) }
     ensures { Finds (ByRow store.now.grid store.now.bytes.now shut.now row.now step) (Stamped store.now.grid store.now.bytes.now stamp) result }
 {
-    let mut i = 0;
-    while i < row.len() {
-        let cell = wide(row[i]);
-        if step + 1 < shut[cell] as usize {
-            let found = look(store, Node { cell, step }, stamp);
-            if let Found::Push { node: _, via: _ } = found {
-                return found;
+    for &b in row {
+        let cell = usize::from(b);
+        if step + 1 < usize::from(shut[cell]) {
+            if let Some(hop) = look(store, Node { cell, step }, stamp) {
+                return Some(hop);
             }
         }
-        i += 1;
     }
-    Found::Nothing
+    None
 }
 
 // By way of the cell that the hint names: a guess, which only saves time. It is small, so that the compiler puts it into the loop of the search.
-fn guess(store: &Store<'_>, row: &[u8], shut: &[u16], node: Node, hint: usize, stamp: u8) -> Found
+fn guess(
+    store: &Store<'_>,
+    row: &[u8],
+    shut: &[u16],
+    node: Node,
+    hint: usize,
+    stamp: u8,
+) -> Option<Hop>
     requires { ((j : model.Job) × Stands j store.now.grid store.now.bytes.now (as_point node) × Cells j.cells row.now) × (length shut.now ≡ max_cells) }
     ensures { Guesses (FromNode store.now.grid store.now.bytes.now shut.now row.now (as_point node)) (Stamped store.now.grid store.now.bytes.now stamp) result }
 {
     if node.step == 0 {
-        return Found::Nothing;
+        return None;
     }
-    if row.len() <= hint {
-        return Found::Nothing;
-    }
-    let cell = wide(row[hint]);
-    if shut[cell] as usize <= node.step {
-        return Found::Nothing;
+    let &b = row.get(hint)?;
+    let cell = usize::from(b);
+    if usize::from(shut[cell]) <= node.step {
+        return None;
     }
     let step = node.step - 1;
     look(store, Node { cell, step }, stamp)
 }
 
 // Where the node leads: by way of a cell of its row, else to its successor.
-fn find(store: &Store<'_>, row: &[u8], shut: &[u16], node: Node, stamp: u8) -> Found
+fn find(store: &Store<'_>, row: &[u8], shut: &[u16], node: Node, stamp: u8) -> Option<Hop>
     requires { ((j : model.Job) × Stands j store.now.grid store.now.bytes.now (as_point node) × Cells j.cells row.now) × (length shut.now ≡ max_cells) }
     ensures { Finds (FromNode store.now.grid store.now.bytes.now shut.now row.now (as_point node)) (Stamped store.now.grid store.now.bytes.now stamp) result }
 {
     if 0 < node.step {
-        let found = scan(store, row, shut, node.step - 1, stamp);
-        if let Found::Push { node: _, via: _ } = found {
-            return found;
+        if let Some(hop) = scan(store, row, shut, node.step - 1, stamp) {
+            return Some(hop);
         }
     }
     drop_out(store, node, stamp)
@@ -132,32 +132,28 @@ fn from_node(
     node: Node,
     hint: usize,
     stamp: u8,
-) -> Found
+) -> Option<Hop>
     requires { (j : model.Job) × Stands j store.now.grid store.now.bytes.now (as_point node) × Near j near.now begin.now × Shut j shut.now }
     ensures { Finds (FromNode store.now.grid store.now.bytes.now shut.now (row_at near.now begin.now shut.now node.cell node.step) (as_point node)) (Stamped store.now.grid store.now.bytes.now stamp) result }
 {
     let row = row_at(near, begin, shut, node.cell, node.step);
-    let found = guess(store, row, shut, node, hint, stamp);
-    if let Found::Push { node: _, via: _ } = found {
-        return found;
+    if let Some(hop) = guess(store, row, shut, node, hint, stamp) {
+        return Some(hop);
     }
     find(store, row, shut, node, stamp)
 }
 
 // By way of the latest of the steps of a cell, from `first` to before `past`, that leads on.
-fn from_steps(store: &Store<'_>, cell: usize, first: usize, past: usize, stamp: u8) -> Found
+fn from_steps(store: &Store<'_>, cell: usize, first: usize, past: usize, stamp: u8) -> Option<Hop>
     requires { (j : model.Job) × Holds j store.now.grid store.now.bytes.now × (cell < j.cells) × (past ≤ store.now.grid.top) }
     ensures { Tries store.now.grid store.now.bytes.now cell first past (Stamped store.now.grid store.now.bytes.now stamp) result }
 {
-    let mut t = past;
-    while first < t {
-        t -= 1;
-        let found = look(store, Node { cell, step: t }, stamp);
-        if let Found::Push { node: _, via: _ } = found {
-            return found;
+    for step in (first..past).rev() {
+        if let Some(hop) = look(store, Node { cell, step }, stamp) {
+            return Some(hop);
         }
     }
-    Found::Nothing
+    None
 }
 
 // Where the call on a cell leads: by way of a step of the cell at which it can be met, the latest first. Those from `below` on were tried. Before all others comes `ahead`,
@@ -170,11 +166,11 @@ fn from_call(
     below: usize,
     ahead: usize,
     stamp: u8,
-) -> Found
+) -> Option<Hop>
     requires { ((j : model.Job) × Holds j store.now.grid store.now.bytes.now × Shut j shut.now × (cell < j.cells) × (get_or due.now cell 0 ≤ store.now.grid.top)) × (length due.now ≡ max_cells) }
     ensures { CallTries store.now.grid store.now.bytes.now due.now shut.now cell below ahead (Stamped store.now.grid store.now.bytes.now stamp) result }
 {
-    let mut past = due[cell] as usize;
+    let mut past = usize::from(due[cell]);
     let mut first = 0;
     if shut[cell] <= due[cell] {
         first = past - 1;
@@ -183,9 +179,8 @@ fn from_call(
         past = below;
     }
     if first <= ahead && ahead < past {
-        let found = look(store, Node { cell, step: ahead }, stamp);
-        if let Found::Push { node: _, via: _ } = found {
-            return found;
+        if let Some(hop) = look(store, Node { cell, step: ahead }, stamp) {
+            return Some(hop);
         }
     }
     from_steps(store, cell, first, past, stamp)
@@ -203,7 +198,7 @@ fn leads(
     below: usize,
     ahead: usize,
     stamp: u8,
-) -> Found
+) -> Option<Hop>
     requires { ((j : model.Job) × Holds j store.now.grid store.now.bytes.now × Inside j (as_point node) × Near j near.now begin.now × Shut j shut.now × (get_or due.now node.cell 0 ≤ store.now.grid.top)) × (length due.now ≡ max_cells) × (length hint.now ≡ max_cells) }
     ensures { Sees store.now.grid store.now.bytes.now near.now begin.now due.now shut.now (as_point node) below ahead stamp result }
 {
@@ -211,18 +206,19 @@ fn leads(
     if node.step == store.grid.top {
         return from_call(due, shut, store, c, below, ahead, stamp);
     }
-    from_node(near, begin, shut, store, node, wide(hint[c]), stamp)
+    from_node(near, begin, shut, store, node, usize::from(hint[c]), stamp)
 }
 
 // Marks a node and puts it on the stack.
-fn push(store: &mut Store<'_>, depth: usize, node: Node, via: Node, stamp: u8)
-    requires { Within store.old.grid store.old.bytes.now depth × (place_at store.old.grid (as_point node) < store.old.grid.nodes) × (node.cell < 256) × (node.step < 65536) × (via.cell < 256) × (via.step < 256) }
-    ensures { Wrote store.old store.new (pushed store.old.grid store.old.bytes.now depth (as_point node) (as_point via) stamp) }
+fn push(store: &mut Store<'_>, depth: usize, hop: Hop, stamp: u8)
+    requires { Within store.old.grid store.old.bytes.now depth × (place_at store.old.grid (as_point hop.node) < store.old.grid.nodes) × (hop.node.cell < 256) × (hop.node.step < 65536) × (hop.via.cell < 256) × (hop.via.step < 256) }
+    ensures { Wrote store.old store.new (pushed store.old.grid store.old.bytes.now depth (as_point hop.node) (as_point hop.via) stamp) }
 {
-    store.set_mark(store.grid.place(node), stamp);
-    store.set_position(depth, node, via);
+    store.set_mark(store.grid.place(hop.node), stamp);
+    store.set_position(depth, hop.node, hop.via);
 }
 
+// Answers how deep the stack is that holds the way to a free cart, if there is one.
 // A call on top of the stack again was left by way of one of its steps: it goes on below that one, but from its latest step where it may have been the guess `soon`, which the
 // search begins with: a step at which the call's cart can be there without a detour, since a way from a late step is long, and stands most of the time.
 pub fn search(
@@ -236,13 +232,14 @@ pub fn search(
     node: Node,
     soon: usize,
     stamp: u8,
-) -> usize
+) -> Option<usize>
     requires { (j : model.Job) × Searching j near.now begin.now due.now shut.now cart_on.now hint.now store.old.bytes.now store.old.grid (as_point node) }
     ensures same { SameStore store.old store.new }
     ensures searched { (j : model.Job) → Searching j near.now begin.now due.now shut.now cart_on.now hint.now store.old.bytes.now store.old.grid (as_point node) → Searched j store.old.bytes.now store.new.bytes.now stamp (as_point node) result }
 {
     let end = store.grid.top;
-    push(store, 0, node, Node { cell: 0, step: 0 }, stamp);
+    let via = Node { cell: 0, step: 0 };
+    push(store, 0, Hop { node, via }, stamp);
     let mut depth = 1;
     let mut top = node;
     let mut below = end;
@@ -250,13 +247,13 @@ pub fn search(
     while 0 < depth {
         let c = top.cell;
         if top.step == 0 && cart_on[c] != 0 {
-            return depth;
+            return Some(depth);
         }
         let found = leads(
             near, begin, due, shut, hint, store, top, below, ahead, stamp,
         );
         ahead = end;
-        let Found::Push { node, via: by } = found else {
+        let Some(hop) = found else {
             depth -= 1;
             if 0 < depth {
                 let left = store.via(depth);
@@ -268,10 +265,10 @@ pub fn search(
             }
             continue;
         };
-        push(store, depth, node, by, stamp);
+        push(store, depth, hop, stamp);
         below = end;
-        top = node;
+        top = hop.node;
         depth += 1;
     }
-    0
+    None
 }

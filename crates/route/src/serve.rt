@@ -8,11 +8,10 @@ ghost use Rattle.route.specs.Serve.{Sought, Serving, ServedBy};
 use crate::{augment, search};
 use network::planes::{Node, Store};
 
-// With the stamp of the last search.
-#[derive(Drop)]
-pub enum Served {
-    Yes(u8),
-    No(u8),
+// The call cannot be served along with those before it: the marks that have the stamp show why.
+#[derive(Clone, Copy, Debug, PartialEq, Eq)]
+pub struct Unserved {
+    pub stamp: u8,
 }
 
 // Searches, and lays the way that is found. Whether there was one.
@@ -32,16 +31,17 @@ fn seek(
     ensures same { SameStore store.old store.new }
     ensures sought { (j : model.Job) → Searching j near.now begin.now due.now shut.now cart_on.now hint.now store.old.bytes.now store.old.grid (as_point node) → Sought j store.old.grid store.old.bytes.now store.new.bytes.now stamp (as_point node) result }
 {
-    let depth = search::search(
+    let found = search::search(
         near, begin, due, shut, cart_on, hint, store, node, soon, stamp,
     );
-    if depth == 0 {
+    let Some(depth) = found else {
         return false;
-    }
+    };
     augment::augment(store, depth);
     true
 }
 
+// Answers the stamp of the last search.
 // Marks are kept from search to search, since what they rule out seldom comes back. Only a search on fresh marks is final: one that fails on old
 // ones is made again with a new stamp.
 pub fn serve(
@@ -56,7 +56,7 @@ pub fn serve(
     soon: usize,
     stamp: u8,
     fresh: bool,
-) -> Served
+) -> Result<u8, Unserved>
     requires { (j : model.Job) × Serving j near.now begin.now due.now shut.now cart_on.now hint.now store.old.bytes.now store.old.grid (as_point node) stamp fresh }
     ensures same { SameStore store.old store.new }
     ensures served { (j : model.Job) → Serving j near.now begin.now due.now shut.now cart_on.now hint.now store.old.bytes.now store.old.grid (as_point node) stamp fresh → Holds j store.old.grid store.new.bytes.now × ServedBy j store.old.bytes.now store.new.bytes.now stamp (as_point node) result }
@@ -64,16 +64,16 @@ pub fn serve(
     if seek(
         near, begin, due, shut, cart_on, hint, store, node, soon, stamp,
     ) {
-        return Served::Yes(stamp);
+        return Ok(stamp);
     }
     if fresh {
-        return Served::No(stamp);
+        return Err(Unserved { stamp });
     }
     let again = stamp + 1;
     if seek(
         near, begin, due, shut, cart_on, hint, store, node, soon, again,
     ) {
-        return Served::Yes(again);
+        return Ok(again);
     }
-    Served::No(again)
+    Err(Unserved { stamp: again })
 }

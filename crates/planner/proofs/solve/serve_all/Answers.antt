@@ -4,6 +4,7 @@ use Rattle.planner.specs.Solved.{Begun}
 use Rattle.model.specs.Job.{Job}
 use Rattle.route.specs.Serve.{Serving}
 use Rattle.network.proofs.StoreLaws.{same_none, same_more}
+use Rattle.std.proofs.lemmas.Result.{err_from_is_err_and}
 use Rattle.planner.proofs.SolveLaws.{so_far_none, aims, call_cell, call_serving, call_served, call_failed, all_served}
 use native.Mathlib.Omega.{arith}
 use lib.Dec.{eqb}
@@ -38,29 +39,30 @@ serving c j b =
     call_serving b c.loop-i-test.true c.wide-q.ensures.0 c.wide-cell.ensures.0
     (c.loop-i.invariant.3 j b) c.aim-far.ensures.0
 
-pub serve-served-requires : goal.serve-served-requires
-serve-served-requires c = let (j, b) = c.requires in (j, rw c.loop-i.invariant.0.grid (serving (goal.at.serve-served-requires c).After-aim-far j b))
+pub serve-requires : goal.serve-requires
+serve-requires c = let (j, b) = c.requires in (j, rw c.loop-i.invariant.0.grid (serving (goal.at.serve-requires c).After-aim-far j b))
 
-pub returns-in_default : goal.returns-in_default
-returns-in_default c =
-    let d = c.serve-served in
-    let g = c.loop-i.invariant.0.grid in (
-      same_more c.loop-i.invariant.0 d.ensures.same,
-      λ j b. call_failed b c.loop-i-test.true c.wide-q.ensures.0 c.wide-cell.ensures.0
+pub returns-in_err-stamp : goal.returns-in_err-stamp
+returns-in_err-stamp c =
+    let d = c.in_err-stamp.ensures in
+    let g = c.loop-i.invariant.0.grid in
+    let p = err_from_is_err_and c.from_residual.result c.from_residual.ensures.1 in (
+      same_more c.loop-i.invariant.0 d.same,
+      λ j b. rw (p.1, p.2) (call_failed b c.loop-i-test.true c.wide-q.ensures.0 c.wide-cell.ensures.0
           (c.loop-i.invariant.3 j b)
-          d.result c.in_default.is (rw g at (d.ensures.served j (rw g (serving (goal.at.returns-in_default c).After-aim-far j b)))),
+          (rw g at (d.served j (rw g (serving (goal.at.returns-in_err-stamp c).After-aim-far j b))))),
     )
 
 pub loop-i-preserved : goal.loop-i-preserved
 loop-i-preserved c =
-    let d = c.serve-served in
+    let d = c.in_ok-stamp.ensures in
     let g = c.loop-i.invariant.0.grid in (
-      same_more c.loop-i.invariant.0 d.ensures.same,
+      same_more c.loop-i.invariant.0 d.same,
       c.aim-far.ensures.0,
       omega (arith, c.loop-i-test.true),
       λ j b. call_served b c.loop-i-test.true c.wide-q.ensures.0 c.wide-cell.ensures.0
           (c.loop-i.invariant.3 j b)
-          d.result c.in-Yes.is (rw g at (d.ensures.served j (rw g (serving (goal.at.loop-i-preserved c).After-aim-far j b)))),
+          (rw g at (d.served j (rw g (serving (goal.at.loop-i-preserved c).After-aim-far j b)))),
     )
 
 pub returns : goal.returns

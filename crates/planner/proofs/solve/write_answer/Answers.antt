@@ -11,12 +11,12 @@ pub returns-in_default : goal.returns-in_default
 returns-in_default c = c.write_plan.ensures
 
 pub list_chokes-points-requires : goal.list_chokes-points-requires
-list_chokes-points-requires c = ((job_of c.args.job, stuck c.args.job c.requires.1 c.in-No.is), c.requires.2.firsts, c.requires.2.seconds, c.requires.2.steps)
+list_chokes-points-requires c = ((job_of c.args.job, stuck c.args.job c.requires.1 c.in-Err.is), c.requires.2.firsts, c.requires.2.seconds, c.requires.2.steps)
 
 pub returns : goal.returns
 returns c =
     let h = c.list_chokes-points.ensures in (
       same_none c.args.store.now,
       record { firsts = h.0; seconds = h.1; steps = h.2; cells = c.requires.2.cells },
-      h.3 (job_of c.args.job) (stuck c.args.job c.requires.1 c.in-No.is),
+      h.3 (job_of c.args.job) (stuck c.args.job c.requires.1 c.in-Err.is),
     )

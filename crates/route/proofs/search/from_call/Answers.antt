@@ -1,11 +1,12 @@
 -- `from_call` has the step `ahead` tried, if it is in the call's window below `below`, and then the steps of the window below `below`. The window begins at a bay's own step,
 -- since that closes its cell, and at 0 for a lift. No loop. Assumes nothing.
-use Prim.Native.Nat.{min}
+use Prim.Native.Nat.{min, ◌-◌}
 use mathlib.Core.Path.{◌≡◌, sym, ◌∙◌, ap, subst₂}
 use mathlib.Core.Logic.{inl, inr}
 use native.Mathlib.Omega.{arith}
 use lib.ListN.{get_or}
 use Rattle.network.specs.declared.planes.Grid.{Grid}
+use Rattle.std.specs.Prelude.{Some}
 use Rattle.route.specs.Finds.{Stamped, Tries, Aims, first_of}
 use Rattle.route.proofs.SearchFinds.{first_bay, first_lift, aims_found}
 use Rattle.route.proofs.search.from_call.Goals as goal
@@ -15,14 +16,14 @@ first_is : (c : Joined-shut-cell) → (let a = c.args in c.if-shut-cell.first �
 first_is c =
     let a = c.args in
     elim c.if-shut-cell.branch [
-      | then-shut-cell w ↦ w.first-is ∙ sym (first_bay a.due.now a.shut.now a.cell w.if-shut-cell.true)
+      | then-shut-cell w ↦ w.first-is ∙ ap (λ n. n - 1) c.from-past.ensures ∙ sym (first_bay a.due.now a.shut.now a.cell w.if-shut-cell.true)
       | else-shut-cell w ↦ w.first-is ∙ sym (first_lift a.due.now a.shut.now a.cell w.if-shut-cell.false)
     ]
 
 past_is : (c : Joined-below-past) → (let a = c.args in c.if-below-past.past ≡ min (get_or a.due.now a.cell 0) a.below)
 past_is c = elim c.if-below-past.branch [
-  | then-below-past w ↦ omega (arith, w)
-  | else-below-past w ↦ omega (arith, w)
+  | then-below-past w ↦ omega (arith, w, c.from-past.ensures)
+  | else-below-past w ↦ omega (arith, w, c.from-past.ensures)
 ]
 
 -- A cell is open at step 0, so that a call on one that is closed in time is due later.
@@ -31,18 +32,17 @@ overflow_sub-first c =
     let (j, h, o, k, l) = c.requires.0 in
     omega (arith, c.if-shut-cell.true, (o.opens c.args.cell 0 (omega (arith, h.ready.fit.few_cells)) (omega arith)).1 (λ q m b e. omega arith))
 
-pub look-found-requires : goal.look-found-requires
-look-found-requires c =
+pub look-requires : goal.look-requires
+look-requires c =
     let (j, h, o, k, l) = c.requires.0 in
-    (j, (h, (k, omega (arith, past_is (goal.at.look-found-requires c).Joined-below-past, ap (λ (g : Grid). g.top) h.grid))))
+    (j, (h, (k, omega (arith, past_is (goal.at.look-requires c).Joined-below-past, ap (λ (g : Grid). g.top) h.grid))))
 
-pub returns-in-Push : goal.returns-in-Push
-returns-in-Push c =
+pub returns-in-Some : goal.returns-in-Some
+returns-in-Some c =
     let a = c.args in
-    inr (subst₂ (λ first past. Aims a.store.now.grid a.store.now.bytes.now a.cell first past a.ahead (Stamped a.store.now.grid a.store.now.bytes.now a.stamp) c.look-found.result)
-    (first_is (goal.at.returns-in-Push c).Joined-shut-cell) (past_is (goal.at.returns-in-Push c).Joined-below-past)
-    (aims_found a.store.now.grid a.store.now.bytes.now a.cell _ _ a.ahead a.stamp _ c.in-Push.is c.look-found.ensures c.if-first-ahead.true
-    c.if-ahead-past.true))
+    inr (subst₂ (λ first past. Aims a.store.now.grid a.store.now.bytes.now a.cell first past a.ahead (Stamped a.store.now.grid a.store.now.bytes.now a.stamp) (Some c.in-Some.hop))
+    (first_is (goal.at.returns-in-Some c).Joined-shut-cell) (past_is (goal.at.returns-in-Some c).Joined-below-past)
+    (aims_found a.store.now.grid a.store.now.bytes.now a.cell _ _ a.ahead a.stamp c.in-Some.hop c.in-Some.ensures c.if-first-ahead.true c.if-ahead-past.true))
 
 pub from_steps-requires : goal.from_steps-requires
 from_steps-requires c = let (j, h, o, k, l) = c.requires.0 in (j, h, k, omega (arith, past_is (goal.at.from_steps-requires c).Joined-below-past))

@@ -6,4 +6,4 @@ use Rattle.route.proofs.search.push.Goals as goal
 pub returns : goal.returns
 returns c =
     let a = c.args in
-    pushed_by a.depth a.stamp (as_point a.node) (as_point a.via) c.place.ensures c.set_mark.ensures c.set_position.ensures
+    pushed_by a.depth a.stamp (as_point a.hop.node) (as_point a.hop.via) c.place.ensures c.set_mark.ensures c.set_position.ensures

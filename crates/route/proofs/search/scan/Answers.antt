@@ -1,44 +1,38 @@
--- `scan` looks by way of the cells of a row, one by one, past those that are closed at the next step. Invariant: by way of the cells passed all is marked.
--- The measure is what is left of the row. Assumes nothing.
+-- `scan` looks by way of the cells of a row, one by one, past those that are closed at the next step. Invariant: by way of the cells passed all is marked. Assumes nothing.
 use native.Mathlib.Omega.{arith}
 use Rattle.model.specs.Lists.{In}
 use Rattle.model.proofs.Written.{few_steps}
-use Rattle.route.proofs.SearchFinds.{found_more, in_at, row_more, row_all}
+use Rattle.route.proofs.SearchFinds.{in_at, row_more, row_all}
 use Rattle.route.proofs.search.scan.Goals as goal
-use Rattle.route.proofs.search.scan.Goals.{After-wide-cell, else-step-shut, then-step-shut+in_default}
-
-pub loop-i-init : goal.loop-i-init
-loop-i-init c = (omega arith, λ k l. absurd (omega arith))
+use Rattle.route.proofs.search.scan.Goals.{After-from-cell, else-step-from, then-step-from+in_default}
 
 -- The cell at hand is one of the row.
-in_row : (c : After-wide-cell) → In c.wide-cell.result c.args.row.now
-in_row c = in_at c.args.row.now c.loop-i.i c.wide-cell.ensures.0 c.loop-i-test.true
+in_row : (c : After-from-cell) → In c.from-cell.result c.args.row.now
+in_row c = in_at c.args.row.now c.loop-b.b-index c.from-cell.ensures c.loop-b-test.true
 
 pub overflow_add-step : goal.overflow_add-step
 overflow_add-step c = let (j, h, k, l) = c.requires.0 in omega (arith, few_steps j h.ready.fit)
 
-pub look-found-requires : goal.look-found-requires
-look-found-requires c = let (j, h, k, l) = c.requires.0 in (j, (h, (k _ (in_row (goal.at.look-found-requires c).After-wide-cell), l)))
+pub look-requires : goal.look-requires
+look-requires c = let (j, h, k, l) = c.requires.0 in (j, (h, (k _ (in_row (goal.at.look-requires c).After-from-cell), l)))
 
-pub returns-in-Push : goal.returns-in-Push
-returns-in-Push c =
-    found_more _ _ _ (λ y via b. (c.wide-cell.result, in_row (goal.at.returns-in-Push c).After-wide-cell, c.if-step-shut.true, b)) c.look-found.result c.in-Push.is
-    c.look-found.ensures
+pub returns-in-Some : goal.returns-in-Some
+returns-in-Some c =
+    let k = c.in-Some.ensures in
+    ((c.from-cell.result, in_row (goal.at.returns-in-Some c).After-from-cell, rw c.from.ensures at c.if-step-from.true, k.0), k.1)
 
-pub loop-i-preserved : goal.loop-i-preserved
-loop-i-preserved c =
+pub loop-b-preserved : goal.loop-b-preserved
+loop-b-preserved c =
     let a = c.args in
-    let l = c.loop-i in (
-      omega arith,
-      row_more a.store.now.grid a.store.now.bytes.now a.shut.now a.row.now a.step a.stamp l.i l.invariant.1 c.wide-cell.result c.wide-cell.ensures.0
-          (λ o. elim c.if-step-shut.branch [
-            | then-step-shut+in_default w ↦ rw w.in_default.is at w.look-found.ensures
-            | else-step-shut w ↦ absurd (omega (arith, w.if-step-shut.false, o))
-          ]),
-    )
+    let l = c.loop-b in
+    row_more a.store.now.grid a.store.now.bytes.now a.shut.now a.row.now a.step a.stamp l.b-index l.invariant c.from-cell.result c.from-cell.ensures
+    (λ o. elim c.if-step-from.branch [
+      | then-step-from+in_default w ↦ rw w.in_default.is at w.look.ensures
+      | else-step-from w ↦ absurd (omega (arith, w.if-step-from.false, c.from.ensures, o))
+    ])
 
 pub returns : goal.returns
 returns c =
     let a = c.args in
-    let l = c.loop-i in
-    row_all a.store.now.grid a.store.now.bytes.now a.shut.now a.row.now a.step a.stamp l.i l.invariant.1 (omega arith)
+    let l = c.loop-b in
+    row_all a.store.now.grid a.store.now.bytes.now a.shut.now a.row.now a.step a.stamp l.b-index l.invariant (omega arith)

@@ -117,7 +117,7 @@ loop-depth-preserved-else-depth-gt0 c = (
 
 pub push-requires-in-loop-depth : goal.push-requires-in-loop-depth
 push-requires-in-loop-depth c = let (j, h) = one (goal.at.push-requires-in-loop-depth c).After-push in rw c.loop-depth.invariant.0.grid (push_needs (looked
-    (goal.at.push-requires-in-loop-depth c).After-leads-found j h) c.in-Push.node c.in-Push.by c.in-Push.is)
+    (goal.at.push-requires-in-loop-depth c).After-leads-found j h) c.in-Some.hop c.in-Some.is)
 
 pub overflow_add-depth : goal.overflow_add-depth
 overflow_add-depth c = let (j, h) = one (goal.at.overflow_add-depth c).After-push in omega (arith, (turn (goal.at.overflow_add-depth c).In-loop-depth j h).going.run.room, few_nodes j h.holds.ready)
@@ -125,12 +125,12 @@ overflow_add-depth c = let (j, h) = one (goal.at.overflow_add-depth c).After-pus
 pub loop-depth-smaller : goal.loop-depth-smaller
 loop-depth-smaller c =
     let (j, h) = one (goal.at.loop-depth-smaller c).After-push in
-    omega (arith, turn_falls (looked (goal.at.loop-depth-smaller c).After-leads-found j h) c.in-Push.node c.in-Push.by c.in-Push.is c.push-in-loop-depth.new.store.bytes.now (rw c.loop-depth.invariant.0.grid at c.push-in-loop-depth.ensures.bytes))
+    omega (arith, turn_falls (looked (goal.at.loop-depth-smaller c).After-leads-found j h) c.in-Some.hop c.in-Some.is c.push-in-loop-depth.new.store.bytes.now (rw c.loop-depth.invariant.0.grid at c.push-in-loop-depth.ensures.bytes))
 
 pub loop-depth-preserved : goal.loop-depth-preserved
 loop-depth-preserved c = (
   same_more c.loop-depth.invariant.0 c.push-in-loop-depth.ensures.same,
-  λ j h. turn_push (looked (goal.at.loop-depth-preserved c).After-leads-found j h) c.in-Push.node c.in-Push.by c.in-Push.is c.push-in-loop-depth.new.store.bytes.now (rw c.loop-depth.invariant.0.grid at c.push-in-loop-depth.ensures.bytes),
+  λ j h. turn_push (looked (goal.at.loop-depth-preserved c).After-leads-found j h) c.in-Some.hop c.in-Some.is c.push-in-loop-depth.new.store.bytes.now (rw c.loop-depth.invariant.0.grid at c.push-in-loop-depth.ensures.bytes),
 )
 
 pub returns-clause-same : goal.returns-clause-same
