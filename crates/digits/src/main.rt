@@ -5,9 +5,8 @@ use std::io;
 use text::digits;
 
 fn main(rt: HostRuntime) -> io::Result<()> {
-    let table = digits::table();
     for n in 0..1000 {
-        let entry = digits::entry(&table, n);
+        let entry = digits::entry(n);
         println!(rt; "{entry:03x}")?;
     }
     Ok(())

@@ -8,7 +8,7 @@ ghost use Rattle.gridmap.specs.CellPlaces.{tracks_in};
 
 use model::Limits;
 use model::bytes::wide;
-use text::{digits, put};
+use text::put;
 
 // The longest text: a FLOOR line of 10 bytes, and for each cell at most two TRACK lines of 14.
 pub const MOST: usize = 10 + 28 * Limits::CELLS;
@@ -38,11 +38,10 @@ pub fn put_lines(cells: usize, from: &[u8], to: &[u8], tracks: usize, out: &mut 
     requires { (cells < 1000) × (tracks ≤ length from.now) × (tracks ≤ length to.now) × (length (floor_lines cells (tracks_in from.now to.now tracks)) ≤ length out.old) }
     ensures { Wrote out.old 0 (floor_lines cells (tracks_in from.now to.now tracks)) out.new result }
 {
-    let table = digits::table();
-    let mut p = put::head(out, 0, b"FLOOR", cells, &table);
+    let mut p = put::head(out, 0, b"FLOOR", cells);
     let mut t = 0;
     while t < tracks {
-        p = put::pair_line(out, p, b"TRACK", wide(from[t]), wide(to[t]), &table);
+        p = put::pair_line(out, p, b"TRACK", wide(from[t]), wide(to[t]));
         t += 1;
     }
     p

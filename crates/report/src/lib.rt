@@ -7,14 +7,13 @@ pub mod input;
 
 use std::io;
 use std::io::Write;
-use text::{digits, put};
+use text::put;
 
 pub fn line<W: Write>(out: &mut W, word: &[u8], a: u64, b: u64) -> io::Result<()>
     requires { (length word.now ≤ 7) × (a < 1000) × (b < 1000) }
 {
     let mut text = [0u8; 16];
-    let table = digits::table();
-    let n = put::pair_line(&mut text, 0, word, a as usize, b as usize, &table);
+    let n = put::pair_line(&mut text, 0, word, a as usize, b as usize);
     out.write_all(&text[0..n])
 }
 

@@ -1,11 +1,9 @@
 // Writing: bytes, words and numbers, one after the other. Each function returns the place after what it wrote.
 ghost use Rattle.std.specs.Prelude.{◌≡◌, ◌+◌, ◌*◌, ◌<◌, ◌≤◌, cond, ◌∷◌, [], ◌++◌, length, take};
 ghost use Rattle.model.specs.Text.{numeral, fields, line};
-ghost use Rattle.text.specs.DigitTable.{DigitTable};
 ghost use Rattle.text.specs.Wrote.{Wrote};
 
-use crate::digits::{Table, digit, entry};
-use model::bytes::wide;
+use crate::digits::{digit, entry};
 
 pub fn byte(out: &mut [u8], at: usize, b: u8) -> usize
     requires { at + 1 ≤ length out.old }
@@ -19,12 +17,9 @@ pub fn word(out: &mut [u8], at: usize, bytes: &[u8]) -> usize
     requires { at + length bytes.now ≤ length out.old }
     ensures { Wrote out.old at bytes.now out.new result }
 {
-    let mut i = 0;
-    while i < bytes.len() {
-        out[at + i] = bytes[i];
-        i += 1;
-    }
-    at + i
+    let end = at + bytes.len();
+    out[at..end].copy_from_slice(bytes);
+    end
 }
 
 // How many digits a number below 1,000 has.
@@ -52,64 +47,62 @@ fn leading(out: &mut [u8], at: usize, stands: bool, b: u8) -> usize
 }
 
 // A number below 1,000 in decimal digits, none of them a leading zero.
-pub fn number(out: &mut [u8], at: usize, n: usize, table: &Table) -> usize
-    requires { DigitTable table.now × (n < 1000) × (at + length (numeral n) ≤ length out.old) }
+pub fn number(out: &mut [u8], at: usize, n: usize) -> usize
+    requires { (n < 1000) × (at + length (numeral n) ≤ length out.old) }
     ensures { Wrote out.old at (numeral n) out.new result }
 {
-    let e = entry(table, n);
+    let e = entry(n);
     let p = leading(out, at, 99 < n, digit(e, 8));
     let q = leading(out, p, 9 < n, digit(e, 4));
     byte(out, q, digit(e, 0))
 }
 
 // A field: a tab and a number.
-pub fn field(out: &mut [u8], at: usize, n: usize, table: &Table) -> usize
-    requires { DigitTable table.now × (n < 1000) × (at + 1 + length (numeral n) ≤ length out.old) }
+pub fn field(out: &mut [u8], at: usize, n: usize) -> usize
+    requires { (n < 1000) × (at + 1 + length (numeral n) ≤ length out.old) }
     ensures { Wrote out.old at (9 ∷ numeral n) out.new result }
 {
-    let p = byte(out, at, 9);
-    number(out, p, n, table)
+    let p = byte(out, at, b'\t');
+    number(out, p, n)
 }
 
-// A field for each of the first n of the given bytes.
-pub fn fields(out: &mut [u8], at: usize, cells: &[u8], n: usize, table: &Table) -> usize
-    requires { DigitTable table.now × (n ≤ length cells.now) × (at + 4 * n ≤ length out.old) }
-    ensures { Wrote out.old at (fields (take n cells.now)) out.new result }
+// A field for each of the given bytes.
+pub fn fields(out: &mut [u8], at: usize, cells: &[u8]) -> usize
+    requires { at + 4 * length cells.now ≤ length out.old }
+    ensures { Wrote out.old at (fields cells.now) out.new result }
 {
-    let mut i = 0;
     let mut p = at;
-    while i < n {
-        p = field(out, p, wide(cells[i]), table);
-        i += 1;
+    for cell in cells {
+        p = field(out, p, usize::from(*cell));
     }
     p
 }
 
 // A line of a word and one number.
-pub fn head(out: &mut [u8], at: usize, word: &[u8], n: usize, table: &Table) -> usize
-    requires { DigitTable table.now × (n < 1000) × (at + length (line word.now (n ∷ [])) ≤ length out.old) }
+pub fn head(out: &mut [u8], at: usize, word: &[u8], n: usize) -> usize
+    requires { (n < 1000) × (at + length (line word.now (n ∷ [])) ≤ length out.old) }
     ensures { Wrote out.old at (line word.now (n ∷ [])) out.new result }
 {
     let p = self::word(out, at, word);
-    let q = field(out, p, n, table);
-    byte(out, q, 10)
+    let q = field(out, p, n);
+    byte(out, q, b'\n')
 }
 
 // A word and two fields, as a line begins.
-pub fn pair(out: &mut [u8], at: usize, word: &[u8], a: usize, b: usize, table: &Table) -> usize
-    requires { DigitTable table.now × (a < 1000) × (b < 1000) × (at + length (word.now ++ fields (a ∷ b ∷ [])) ≤ length out.old) }
+pub fn pair(out: &mut [u8], at: usize, word: &[u8], a: usize, b: usize) -> usize
+    requires { (a < 1000) × (b < 1000) × (at + length (word.now ++ fields (a ∷ b ∷ [])) ≤ length out.old) }
     ensures { Wrote out.old at (word.now ++ fields (a ∷ b ∷ [])) out.new result }
 {
     let p = self::word(out, at, word);
-    let q = field(out, p, a, table);
-    field(out, q, b, table)
+    let q = field(out, p, a);
+    field(out, q, b)
 }
 
 // A line of a word and two numbers.
-pub fn pair_line(out: &mut [u8], at: usize, word: &[u8], a: usize, b: usize, table: &Table) -> usize
-    requires { DigitTable table.now × (a < 1000) × (b < 1000) × (at + length (line word.now (a ∷ b ∷ [])) ≤ length out.old) }
+pub fn pair_line(out: &mut [u8], at: usize, word: &[u8], a: usize, b: usize) -> usize
+    requires { (a < 1000) × (b < 1000) × (at + length (line word.now (a ∷ b ∷ [])) ≤ length out.old) }
     ensures { Wrote out.old at (line word.now (a ∷ b ∷ [])) out.new result }
 {
-    let p = pair(out, at, word, a, b, table);
-    byte(out, p, 10)
+    let p = pair(out, at, word, a, b);
+    byte(out, p, b'\n')
 }

@@ -19,23 +19,23 @@ use Rattle.sheetwriter.proofs.put_cannot.Goals as goal
 
 pub head-p-requires : goal.head-p-requires
 head-p-requires c =
-    let w = c.wide in
-    (c.table-table.ensures, omega arith, omega (arith, line_room cannot_word (w.result ∷ [])))
+    let s = c.args in
+    (omega (arith, calls_count s.job, c.requires.0.fit.few_calls), omega (arith, line_room cannot_word (s.n ∷ [])))
 
 pub loop-k-init : goal.loop-k-init
 loop-k-init c =
     let j = c.args.job in
     let n : c.args.n < length (job_of j).calls = omega (arith, calls_count j) in
     let w = c.head-p.ensures in
-    let r = line_room cannot_word (c.wide.result ∷ []) in
+    let r = line_room cannot_word (c.args.n ∷ []) in
     (search rules, omega (arith, chokes_room (job_of j) c.requires.0 c.args.n n, r, w.next), refl, wrote_none (omega (arith, w.next, w.fits)))
 
 pub loop-k-preserved : goal.loop-k-preserved
 loop-k-preserved c =
     let s = c.args in
     let l = c.loop-k in
-    let a = c.wide-in-loop-k in
-    let b = c.wide-in-loop-k-2 in
+    let a = c.wide in
+    let b = c.wide-in-loop-k in
     let w = c.put_choke-p in
     let x = choke_of (get_or s.kinds.now l.k 0) a.result b.result in (
       omega arith,
@@ -51,4 +51,4 @@ returns c =
     let l = c.loop-k in
     let e : l.k ≡ s.n = omega arith in
     rw (up_count (choke_at s.first.now s.second.now s.kinds.now) s.n)
-    (wrote_more (rw c.wide.ensures.0 at c.head-p.ensures) (rw e at l.invariant.3))
+    (wrote_more c.head-p.ensures (rw e at l.invariant.3))

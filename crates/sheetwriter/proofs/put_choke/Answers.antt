@@ -12,14 +12,14 @@ use Rattle.sheetwriter.proofs.put_choke.Goals as goal
 
 pub pair_line-requires : goal.pair_line-requires
 pair_line-requires c =
-    (c.requires.0, c.requires.1, c.requires.2, omega (arith, line_room choke_word (c.args.a ∷ c.args.b ∷ [])))
+    (c.requires.0, c.requires.1, omega (arith, line_room choke_word (c.args.a ∷ c.args.b ∷ [])))
 
 pub returns-then-kind-eq-CELL : goal.returns-then-kind-eq-CELL
 returns-then-kind-eq-CELL c = rw c.if-kind-eq-CELL.true c.pair_line.ensures
 
 pub head-requires : goal.head-requires
 head-requires c =
-    (c.requires.0, c.requires.1, omega (arith, line_room whole_word (c.args.a ∷ [])))
+    (c.requires.0, omega (arith, line_room whole_word (c.args.a ∷ [])))
 
 wrote_call : (k a b : ℕ) {s : List ℕ} {at : ℕ} {t : List ℕ} {r : ℕ} → (k ≡ 0 → ⊥) → Wrote s at (line whole_word (a ∷ [])) t r
     → Wrote s at (line (choke_opens (choke_of k a b)) (choke_numbers (choke_of k a b))) t r

@@ -7,14 +7,14 @@ use Rattle.sheetwriter.proofs.put_opening.Goals as goal
 
 pub pair-requires : goal.pair-requires
 pair-requires c =
-    (c.requires.0, c.requires.1, c.requires.2, omega (arith, pair_room path_word c.args.cart c.args.call))
+    (c.requires.0, c.requires.1, omega (arith, pair_room path_word c.args.cart c.args.call))
 
 pub returns-then-met : goal.returns-then-met
 returns-then-met c = rw c.if-met.true c.pair.ensures
 
 pub field-requires : goal.field-requires
 field-requires c =
-    (c.requires.0, c.requires.1, omega (arith, c.word-p.ensures.next, numeral_short c.args.cart))
+    (c.requires.0, omega (arith, c.word-p.ensures.next, numeral_short c.args.cart))
 
 pub returns : goal.returns
 returns c = rw (c.if-met.false, fields_one c.args.cart) (wrote_more c.word-p.ensures c.field.ensures)

@@ -18,19 +18,16 @@ use Rattle.sheetwriter.proofs.PlanLines.{lines_all, lines_none, lines_next}
 use borrow.Author.Rules.{rules}
 use Rattle.sheetwriter.proofs.put_plan.Goals as goal
 
-pub overflow_cast-job : goal.overflow_cast-job
-overflow_cast-job c = omega (arith, calls_count c.args.job, c.requires.0.fit.few_calls)
-
 pub head-p-requires : goal.head-p-requires
 head-p-requires c =
-    let w = c.wide in
-    (c.table-table.ensures, omega arith, omega (arith, line_room plan_word (w.result ∷ [])))
+    let j = c.args.job in
+    (omega (arith, calls_count j, c.requires.0.fit.few_calls), omega (arith, line_room plan_word (j.calls ∷ [])))
 
 pub loop-k-init : goal.loop-k-init
 loop-k-init c =
     let j = c.args.job in
     let w = c.head-p in
-    let r = line_room plan_word (c.wide.result ∷ []) in (
+    let r = line_room plan_word (j.calls ∷ []) in (
       search rules,
       lines_room (job_of j) j.carts (carts_count c.args.job) w.result (length w.new.out) (omega (arith, w.ensures.next, r)) (omega arith),
       refl,
@@ -49,9 +46,9 @@ loop-k-preserved c =
     let h : l.k < j.carts = omega (arith, c.loop-k-test.true, l.invariant.0) in
     let n : l.k < length (job_of j).carts = omega (arith, carts_count c.args.job) in
     let met = ltb l.k j.calls in
-    let a = c.wide-in-loop-k-2.ensures.0 in
-    let b = c.wide-in-loop-k-3.ensures.0 in
-    let d = c.wide-in-loop-k.ensures.0 in
+    let a = c.wide-in-loop-k.ensures.0 in
+    let b = c.wide-in-loop-k-2.ensures.0 in
+    let d = c.wide.ensures.0 in
     let r = ride_room (job_of j) carts calls lasts rows c.requires.3 c.requires.4 l.k n a b d met in
     let x = wrote_ride (job_of j) carts calls lasts rows c.requires.3 c.requires.4 l.k n a b d met w.ensures in (
       omega (arith, h),
@@ -67,14 +64,13 @@ put_ride-p-requires c =
     let h : l.k < j.carts = omega arith in
     let n : l.k < length (job_of j).carts = omega (arith, carts_count c.args.job) in
     let r = room_one (share (job_of j)) l.k j.carts l.p (length l.out) h l.invariant.1 in (
-      c.table-table.ensures,
       omega arith,
       omega arith,
       omega (
         arith,
         r,
-        part_short (job_of j) c.args.carts.now c.args.calls.now c.args.lasts.now c.args.rows.now c.requires.3 c.requires.4 l.k n c.wide-in-loop-k-2.ensures.0
-            c.wide-in-loop-k-3.ensures.0 c.wide-in-loop-k.ensures.0,
+        part_short (job_of j) c.args.carts.now c.args.calls.now c.args.lasts.now c.args.rows.now c.requires.3 c.requires.4 l.k n c.wide-in-loop-k.ensures.0
+            c.wide-in-loop-k-2.ensures.0 c.wide.ensures.0,
       ),
     )
 
@@ -90,4 +86,4 @@ returns c =
       up_count (path_at a.carts.now a.calls.now a.lasts.now a.rows.now) a.job.calls,
       ← lines_all a.carts.now a.calls.now a.lasts.now a.rows.now a.job.calls a.job.carts enough,
     )
-    (wrote_more (rw c.wide.ensures.0 at c.head-p.ensures) (rw e at l.invariant.3))
+    (wrote_more c.head-p.ensures (rw e at l.invariant.3))

@@ -1,9 +1,5 @@
 -- `put_ride` meets its contract: the opening, the fields of the cells and the line feed are a line. Assumes nothing.
-use mathlib.Core.Path.{ap}
-use lib.ListN.{length, take}
-use lib.Seq.{take-length}
 use native.Mathlib.Omega.{arith}
-use Rattle.model.specs.Text.{fields}
 use Rattle.model.proofs.Room.{fields_room}
 use Rattle.text.proofs.Wrote.{wrote_more}
 use Rattle.sheetwriter.proofs.Laws.{opening_short, opening_line}
@@ -11,7 +7,7 @@ use Rattle.sheetwriter.proofs.put_ride.Goals as goal
 
 pub fields-q-requires : goal.fields-q-requires
 fields-q-requires c =
-    (c.requires.0, omega arith, omega (arith, c.put_opening-p.ensures.next, opening_short c.args.met c.args.cart c.args.call))
+    omega (arith, c.put_opening-p.ensures.next, opening_short c.args.met c.args.cart c.args.call)
 
 pub byte-requires : goal.byte-requires
 byte-requires c =
@@ -22,13 +18,11 @@ byte-requires c =
       c.put_opening-p.ensures.next,
       opening_short s.met s.cart s.call,
       c.fields-q.ensures.next,
-      fields_room (take (length l) l),
-      ap length (take-length l),
+      fields_room l,
     )
 
 pub returns : goal.returns
 returns c =
     let s = c.args in
     let l = s.cells.now in
-    rw (← opening_line s.met s.cart s.call l, ← ap fields (take-length l))
-    (wrote_more c.put_opening-p.ensures (wrote_more c.fields-q.ensures c.byte.ensures))
+    rw (← opening_line s.met s.cart s.call l) (wrote_more c.put_opening-p.ensures (wrote_more c.fields-q.ensures c.byte.ensures))

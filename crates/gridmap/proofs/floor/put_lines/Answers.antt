@@ -17,7 +17,7 @@ use Rattle.gridmap.proofs.floor.put_lines.Goals as goal
 pub head-p-requires : goal.head-p-requires
 head-p-requires c =
     let s = c.args in
-    (c.table-table.ensures, omega arith, omega (arith, length-append (line floor_word (s.cells ∷ [])) (track_lines s.from.now s.to.now s.tracks)))
+    (omega arith, omega (arith, length-append (line floor_word (s.cells ∷ [])) (track_lines s.from.now s.to.now s.tracks)))
 
 pub loop-t-init : goal.loop-t-init
 loop-t-init c =
@@ -32,7 +32,7 @@ pair_line-p-requires c =
     let a = c.wide in
     let b = c.wide-in-loop-t in
     let r = line_fits s.from.now s.to.now s.cells l.t s.tracks (omega arith) in
-    (c.table-table.ensures, omega arith, omega arith, omega (arith, h.ensures.next, h.auto.out, l.invariant.2.next, rw (← a.ensures.0, ← b.ensures.0) at r))
+    (omega arith, omega arith, omega (arith, h.ensures.next, h.auto.out, l.invariant.2.next, rw (← a.ensures.0, ← b.ensures.0) at r))
 
 pub loop-t-preserved : goal.loop-t-preserved
 loop-t-preserved c =

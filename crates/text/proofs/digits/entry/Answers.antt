@@ -5,6 +5,4 @@ use Rattle.text.proofs.Table.{at_each}
 use Rattle.text.proofs.digits.entry.Goals as goal
 
 pub returns : goal.returns
-returns c =
-    let s = c in
-    at_each packed s.args.table.now s.requires.0.right s.args.n (omega (arith, s.requires.0.thousand))
+returns c = at_each packed c.table.result.now c.table.ensures.right c.args.n (omega (arith, c.table.ensures.thousand))

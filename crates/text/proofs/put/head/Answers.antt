@@ -9,7 +9,7 @@ word-p-requires c = let s = c.args in omega (arith, head_long s.word.now s.n)
 
 pub field-q-requires : goal.field-q-requires
 field-q-requires c =
-    (c.requires.0, omega arith, omega (arith, c.word-p.ensures.next, head_long c.args.word.now c.args.n))
+    (omega arith, omega (arith, c.word-p.ensures.next, head_long c.args.word.now c.args.n))
 
 pub byte-requires : goal.byte-requires
 byte-requires c =

@@ -9,12 +9,12 @@ word-p-requires c = let s = c.args in omega (arith, pair_long s.word.now s.a s.b
 pub field-q-requires : goal.field-q-requires
 field-q-requires c =
     let a = c.args in
-    (c.requires.0, omega arith, omega (arith, c.word-p.ensures.next, pair_long a.word.now a.a a.b))
+    (omega arith, omega (arith, c.word-p.ensures.next, pair_long a.word.now a.a a.b))
 
 pub field-requires : goal.field-requires
 field-requires c =
     let a = c.args in
-    (c.requires.0, omega arith, omega (arith, c.word-p.ensures.next, c.field-q.ensures.next, pair_long a.word.now a.a a.b))
+    (omega arith, omega (arith, c.word-p.ensures.next, c.field-q.ensures.next, pair_long a.word.now a.a a.b))
 
 pub returns : goal.returns
 returns c =

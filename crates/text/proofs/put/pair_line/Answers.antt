@@ -8,7 +8,7 @@ pub pair-p-requires : goal.pair-p-requires
 pair-p-requires c =
     let a = c.args in
     let w = a.word.now in
-    (c.requires.0, omega arith, omega arith, omega (arith, pair_long w a.a a.b, pair_line_long w a.a a.b))
+    (omega arith, omega arith, omega (arith, pair_long w a.a a.b, pair_line_long w a.a a.b))
 
 pub byte-requires : goal.byte-requires
 byte-requires c =
