@@ -10,6 +10,7 @@ use native.Mathlib.Omega.{arith}
 use Rattle.model.specs.Job.{Job}
 use Rattle.model.specs.Choke.{Point}
 use Rattle.model.proofs.Basics.{nope}
+use Rattle.floor.specs.declared.tables.Tables as floor
 use Rattle.flow.specs.Flow.{Link, end}
 use Rattle.network.specs.Store.{grid_of}
 use Rattle.network.specs.Links.{on_link}
@@ -19,7 +20,7 @@ use Rattle.route.specs.Stack.{pos_at}
 use Rattle.route.specs.Search.{Fresh, OnStack, Searching, Searched, Laying, Augmented}
 use Rattle.route.specs.Serve.{MarksUpTo, Sought}
 
-module _ {j : Job} {near begin due shut cart-on hint s t : List ℕ} {g : Grid} {x : Point} {stamp : ℕ} {r : Option ℕ} (f : Searched j s t stamp x r) (h : Searching j near begin due shut cart-on hint s g x) where
+module _ {j : Job} {T : floor.Tables} {s t : List ℕ} {g : Grid} {x : Point} {stamp : ℕ} {r : Option ℕ} (f : Searched j s t stamp x r) (h : Searching j T s g x) where
   marks_search : (n : ℕ) → stamp ≤ n → MarksUpTo j s n → MarksUpTo j t n
   marks_search n l m v b = ⊎_elim (λ e. omega (arith, e, m v b)) (λ e. omega (arith, e)) (f.marks v b)
 

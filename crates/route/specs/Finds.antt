@@ -4,6 +4,7 @@ use Rattle.model.specs.Lists.{In}
 use Rattle.model.specs.Job.{Job}
 use Rattle.model.specs.Choke.{Point, point, Known}
 use Rattle.floor.specs.Tables.{OpenAt, row_at}
+use Rattle.floor.specs.declared.tables.Tables as floor
 use Rattle.network.specs.Store.{place_at, as_point, used_at, mark_at, leads_to}
 use Rattle.network.specs.Holds.{Holds}
 use Rattle.network.specs.declared.planes.Grid.{Grid}
@@ -76,6 +77,6 @@ CallTries g s due shut c below ahead M r =
     Tries g s c (first_of due shut c) (min (get_or due c 0) below) M r ⊎ Aims g s c (first_of due shut c) (min (get_or due c 0) below) ahead M r
 
 -- What is found from the position x.
-pub record Sees (g : Grid) (s near begin due shut : List ℕ) (x : Point) (below ahead stamp : ℕ) (r : Option Hop) : Type 0 where
-  pub call : x.step ≡ g.top → CallTries g s due shut x.cell below ahead (Stamped g s stamp) r
-  pub node : (x.step ≡ g.top → ⊥) → Finds (FromNode g s shut (row_at near begin shut x.cell x.step) x) (Stamped g s stamp) r
+pub record Sees (g : Grid) (s : List ℕ) (T : floor.Tables) (x : Point) (below ahead stamp : ℕ) (r : Option Hop) : Type 0 where
+  pub call : x.step ≡ g.top → CallTries g s T.due T.shut x.cell below ahead (Stamped g s stamp) r
+  pub node : (x.step ≡ g.top → ⊥) → Finds (FromNode g s T.shut (row_at T.near.near T.near.begin T.shut x.cell x.step) x) (Stamped g s stamp) r

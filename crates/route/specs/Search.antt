@@ -1,9 +1,9 @@
 -- What a search is handed, what it does to the store, and what it finds; the same for the way that is laid after it.
 use Rattle.std.specs.Prelude.{ℕ, ◌-◌, ◌<◌, ◌≤◌, ◌≡◌, List, Option, None, Some, true, ◌⊎◌, ◌↔◌, length}
-use Rattle.model.specs.Limits.{max_cells}
 use Rattle.model.specs.Job.{Job}
 use Rattle.model.specs.Choke.{Point}
 use Rattle.floor.specs.Tables.{Tables}
+use Rattle.floor.specs.declared.tables.Tables as floor
 use Rattle.flow.specs.Flow.{off, end}
 use Rattle.flow.specs.Way.{Way}
 use Rattle.network.specs.Graph.{graph, is_target, Inside}
@@ -23,10 +23,9 @@ abbrev pub Fresh : Job → List ℕ → ℕ → Type 0
 Fresh j s stamp = (v : ℕ) → v < nodes j → mark_at (grid_of j) s v ≡ stamp → ⊥
 
 -- The tables are the job's, and the store holds a flow that does not serve the call of the node x yet.
-pub record Searching (j : Job) (near begin due shut cart_on hint s : List ℕ) (g : Grid) (x : Point) : Type 0 where
-  pub tables : Tables j near begin due shut cart_on
+pub record Searching (j : Job) (T : floor.Tables) (s : List ℕ) (g : Grid) (x : Point) : Type 0 where
+  pub tables : Tables j T.near.near T.near.begin T.due T.shut T.cart_on
   pub holds : Holds j g s
-  pub hints : length hint ≡ max_cells
   pub known : Inside j x
   pub target : is_target j x ≡ true
   pub idle : back_link j s x ≡ off

@@ -3,6 +3,7 @@ use Rattle.std.specs.Prelude.{ℕ, ◌+◌, ◌<◌, ◌≤◌, ◌≡◌, List,
 use Rattle.model.specs.Job.{Job}
 use Rattle.model.specs.Choke.{Point}
 use Rattle.flow.specs.Flow.{end}
+use Rattle.floor.specs.declared.tables.Tables as floor
 use Rattle.network.specs.Store.{nodes, grid_of, mark_at, is_marked}
 use Rattle.network.specs.Links.{back_link, on_link}
 use Rattle.network.specs.Holds.{Holds, SameFlow}
@@ -25,8 +26,8 @@ pub record Sought (j : Job) (g : Grid) (s s' : List ℕ) (stamp : ℕ) (x : Poin
   pub stuck : r ≡ false → Fresh j s stamp → Stuck j (back_link j s') (on_link j s') (is_marked j s' stamp) x
 
 -- A search may start, with a stamp that no mark is above; where fresh says so, no mark has it. There is room for one stamp more.
-pub record Serving (j : Job) (near begin due shut cart_on hint s : List ℕ) (g : Grid) (x : Point) (stamp : ℕ) (fresh : Bool) : Type 0 where
-  pub search : Searching j near begin due shut cart_on hint s g x
+pub record Serving (j : Job) (T : floor.Tables) (s : List ℕ) (g : Grid) (x : Point) (stamp : ℕ) (fresh : Bool) : Type 0 where
+  pub search : Searching j T s g x
   pub small : stamp < 255
   pub marks : MarksUpTo j s stamp
   pub clean : fresh ≡ true → Fresh j s stamp

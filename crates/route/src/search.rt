@@ -10,7 +10,8 @@ ghost use Rattle.route.specs.Lay.{pushed};
 ghost use Rattle.route.specs.Search.{Searching, Searched};
 ghost use Rattle.route.specs.Finds.{Stands, By, ByRow, Down, FromNode, Stamped, Finds, Guesses, Tries, CallTries, Sees};
 
-use floor::tables::row_at;
+use floor::tables::Tables;
+use model::Limits;
 use network::planes::{Node, Store};
 
 // Where a position leads: to another position, by way of a node.
@@ -71,8 +72,14 @@ fn look(store: &Store<'_>, node: Node, stamp: u8) -> Option<Hop>
 }
 
 // By way of the first cell of the row that leads on. From a cell that is closed at the next step nothing comes.
-fn scan(store: &Store<'_>, row: &[u8], shut: &[u16], step: usize, stamp: u8) -> Option<Hop>
-    requires { ((j : model.Job) × Holds j store.now.grid store.now.bytes.now × Cells j.cells row.now × (step ≤ model.horizon j)) × (length shut.now ≡ max_cells) }
+fn scan(
+    store: &Store<'_>,
+    row: &[u8],
+    shut: &[u16; Limits::CELLS],
+    step: usize,
+    stamp: u8,
+) -> Option<Hop>
+    requires { (j : model.Job) × Holds j store.now.grid store.now.bytes.now × Cells j.cells row.now × (step ≤ model.horizon j) }
     ensures { Finds (ByRow store.now.grid store.now.bytes.now shut.now row.now step) (Stamped store.now.grid store.now.bytes.now stamp) result }
 {
     for &b in row {
@@ -90,12 +97,12 @@ fn scan(store: &Store<'_>, row: &[u8], shut: &[u16], step: usize, stamp: u8) -> 
 fn guess(
     store: &Store<'_>,
     row: &[u8],
-    shut: &[u16],
+    shut: &[u16; Limits::CELLS],
     node: Node,
     hint: usize,
     stamp: u8,
 ) -> Option<Hop>
-    requires { ((j : model.Job) × Stands j store.now.grid store.now.bytes.now (as_point node) × Cells j.cells row.now) × (length shut.now ≡ max_cells) }
+    requires { (j : model.Job) × Stands j store.now.grid store.now.bytes.now (as_point node) × Cells j.cells row.now }
     ensures { Guesses (FromNode store.now.grid store.now.bytes.now shut.now row.now (as_point node)) (Stamped store.now.grid store.now.bytes.now stamp) result }
 {
     if node.step == 0 {
@@ -111,8 +118,14 @@ fn guess(
 }
 
 // Where the node leads: by way of a cell of its row, else to its successor.
-fn find(store: &Store<'_>, row: &[u8], shut: &[u16], node: Node, stamp: u8) -> Option<Hop>
-    requires { ((j : model.Job) × Stands j store.now.grid store.now.bytes.now (as_point node) × Cells j.cells row.now) × (length shut.now ≡ max_cells) }
+fn find(
+    store: &Store<'_>,
+    row: &[u8],
+    shut: &[u16; Limits::CELLS],
+    node: Node,
+    stamp: u8,
+) -> Option<Hop>
+    requires { (j : model.Job) × Stands j store.now.grid store.now.bytes.now (as_point node) × Cells j.cells row.now }
     ensures { Finds (FromNode store.now.grid store.now.bytes.now shut.now row.now (as_point node)) (Stamped store.now.grid store.now.bytes.now stamp) result }
 {
     if 0 < node.step {
@@ -124,23 +137,15 @@ fn find(store: &Store<'_>, row: &[u8], shut: &[u16], node: Node, stamp: u8) -> O
 }
 
 // The same, with the hint tried first.
-fn from_node(
-    near: &[u8],
-    begin: &[u16],
-    shut: &[u16],
-    store: &Store<'_>,
-    node: Node,
-    hint: usize,
-    stamp: u8,
-) -> Option<Hop>
-    requires { (j : model.Job) × Stands j store.now.grid store.now.bytes.now (as_point node) × Near j near.now begin.now × Shut j shut.now }
-    ensures { Finds (FromNode store.now.grid store.now.bytes.now shut.now (row_at near.now begin.now shut.now node.cell node.step) (as_point node)) (Stamped store.now.grid store.now.bytes.now stamp) result }
+fn from_node(tables: &Tables, store: &Store<'_>, node: Node, hint: usize, stamp: u8) -> Option<Hop>
+    requires { (j : model.Job) × Stands j store.now.grid store.now.bytes.now (as_point node) × Near j tables.now.near.near tables.now.near.begin × Shut j tables.now.shut }
+    ensures { Finds (FromNode store.now.grid store.now.bytes.now tables.now.shut (row_at tables.now.near.near tables.now.near.begin tables.now.shut node.cell node.step) (as_point node)) (Stamped store.now.grid store.now.bytes.now stamp) result }
 {
-    let row = row_at(near, begin, shut, node.cell, node.step);
-    if let Some(hop) = guess(store, row, shut, node, hint, stamp) {
+    let row = tables.near.row_at(&tables.shut, node.cell, node.step);
+    if let Some(hop) = guess(store, row, &tables.shut, node, hint, stamp) {
         return Some(hop);
     }
-    find(store, row, shut, node, stamp)
+    find(store, row, &tables.shut, node, stamp)
 }
 
 // By way of the latest of the steps of a cell, from `first` to before `past`, that leads on.
@@ -159,20 +164,19 @@ fn from_steps(store: &Store<'_>, cell: usize, first: usize, past: usize, stamp: 
 // Where the call on a cell leads: by way of a step of the cell at which it can be met, the latest first. Those from `below` on were tried. Before all others comes `ahead`,
 // if it is one of these: a guess, which only saves time.
 fn from_call(
-    due: &[u16],
-    shut: &[u16],
+    tables: &Tables,
     store: &Store<'_>,
     cell: usize,
     below: usize,
     ahead: usize,
     stamp: u8,
 ) -> Option<Hop>
-    requires { ((j : model.Job) × Holds j store.now.grid store.now.bytes.now × Shut j shut.now × (cell < j.cells) × (get_or due.now cell 0 ≤ store.now.grid.top)) × (length due.now ≡ max_cells) }
-    ensures { CallTries store.now.grid store.now.bytes.now due.now shut.now cell below ahead (Stamped store.now.grid store.now.bytes.now stamp) result }
+    requires { (j : model.Job) × Holds j store.now.grid store.now.bytes.now × Shut j tables.now.shut × (cell < j.cells) × (get_or tables.now.due cell 0 ≤ store.now.grid.top) }
+    ensures { CallTries store.now.grid store.now.bytes.now tables.now.due tables.now.shut cell below ahead (Stamped store.now.grid store.now.bytes.now stamp) result }
 {
-    let mut past = usize::from(due[cell]);
+    let mut past = usize::from(tables.due[cell]);
     let mut first = 0;
-    if shut[cell] <= due[cell] {
+    if tables.shut[cell] <= tables.due[cell] {
         first = past - 1;
     }
     if below < past {
@@ -188,25 +192,22 @@ fn from_call(
 
 // Where the position leads.
 fn leads(
-    near: &[u8],
-    begin: &[u16],
-    due: &[u16],
-    shut: &[u16],
-    hint: &[u8],
+    tables: &Tables,
+    hint: &[u8; Limits::CELLS],
     store: &Store<'_>,
     node: Node,
     below: usize,
     ahead: usize,
     stamp: u8,
 ) -> Option<Hop>
-    requires { ((j : model.Job) × Holds j store.now.grid store.now.bytes.now × Inside j (as_point node) × Near j near.now begin.now × Shut j shut.now × (get_or due.now node.cell 0 ≤ store.now.grid.top)) × (length due.now ≡ max_cells) × (length hint.now ≡ max_cells) }
-    ensures { Sees store.now.grid store.now.bytes.now near.now begin.now due.now shut.now (as_point node) below ahead stamp result }
+    requires { (j : model.Job) × Holds j store.now.grid store.now.bytes.now × Inside j (as_point node) × Near j tables.now.near.near tables.now.near.begin × Shut j tables.now.shut × (get_or tables.now.due node.cell 0 ≤ store.now.grid.top) }
+    ensures { Sees store.now.grid store.now.bytes.now tables.now (as_point node) below ahead stamp result }
 {
     let c = node.cell;
     if node.step == store.grid.top {
-        return from_call(due, shut, store, c, below, ahead, stamp);
+        return from_call(tables, store, c, below, ahead, stamp);
     }
-    from_node(near, begin, shut, store, node, usize::from(hint[c]), stamp)
+    from_node(tables, store, node, usize::from(hint[c]), stamp)
 }
 
 // Marks a node and puts it on the stack.
@@ -222,20 +223,16 @@ fn push(store: &mut Store<'_>, depth: usize, hop: Hop, stamp: u8)
 // A call on top of the stack again was left by way of one of its steps: it goes on below that one, but from its latest step where it may have been the guess `soon`, which the
 // search begins with: a step at which the call's cart can be there without a detour, since a way from a late step is long, and stands most of the time.
 pub fn search(
-    near: &[u8],
-    begin: &[u16],
-    due: &[u16],
-    shut: &[u16],
-    cart_on: &[u8],
-    hint: &[u8],
+    tables: &Tables,
+    hint: &[u8; Limits::CELLS],
     store: &mut Store<'_>,
     node: Node,
     soon: usize,
     stamp: u8,
 ) -> Option<usize>
-    requires { (j : model.Job) × Searching j near.now begin.now due.now shut.now cart_on.now hint.now store.old.bytes.now store.old.grid (as_point node) }
+    requires { (j : model.Job) × Searching j tables.now store.old.bytes.now store.old.grid (as_point node) }
     ensures same { SameStore store.old store.new }
-    ensures searched { (j : model.Job) → Searching j near.now begin.now due.now shut.now cart_on.now hint.now store.old.bytes.now store.old.grid (as_point node) → Searched j store.old.bytes.now store.new.bytes.now stamp (as_point node) result }
+    ensures searched { (j : model.Job) → Searching j tables.now store.old.bytes.now store.old.grid (as_point node) → Searched j store.old.bytes.now store.new.bytes.now stamp (as_point node) result }
 {
     let end = store.grid.top;
     let via = Node { cell: 0, step: 0 };
@@ -246,12 +243,10 @@ pub fn search(
     let mut ahead = soon;
     while 0 < depth {
         let c = top.cell;
-        if top.step == 0 && cart_on[c] != 0 {
+        if top.step == 0 && tables.cart_on[c] != 0 {
             return Some(depth);
         }
-        let found = leads(
-            near, begin, due, shut, hint, store, top, below, ahead, stamp,
-        );
+        let found = leads(tables, hint, store, top, below, ahead, stamp);
         ahead = end;
         let Some(hop) = found else {
             depth -= 1;

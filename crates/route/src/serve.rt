@@ -6,6 +6,8 @@ ghost use Rattle.route.specs.Search.{Searching};
 ghost use Rattle.route.specs.Serve.{Sought, Serving, ServedBy};
 
 use crate::{augment, search};
+use floor::tables::Tables;
+use model::Limits;
 use network::planes::{Node, Store};
 
 // The call cannot be served along with those before it: the marks that have the stamp show why.
@@ -16,24 +18,18 @@ pub struct Unserved {
 
 // Searches, and lays the way that is found. Whether there was one.
 fn seek(
-    near: &[u8],
-    begin: &[u16],
-    due: &[u16],
-    shut: &[u16],
-    cart_on: &[u8],
-    hint: &[u8],
+    tables: &Tables,
+    hint: &[u8; Limits::CELLS],
     store: &mut Store<'_>,
     node: Node,
     soon: usize,
     stamp: u8,
 ) -> bool
-    requires { (j : model.Job) × Searching j near.now begin.now due.now shut.now cart_on.now hint.now store.old.bytes.now store.old.grid (as_point node) }
+    requires { (j : model.Job) × Searching j tables.now store.old.bytes.now store.old.grid (as_point node) }
     ensures same { SameStore store.old store.new }
-    ensures sought { (j : model.Job) → Searching j near.now begin.now due.now shut.now cart_on.now hint.now store.old.bytes.now store.old.grid (as_point node) → Sought j store.old.grid store.old.bytes.now store.new.bytes.now stamp (as_point node) result }
+    ensures sought { (j : model.Job) → Searching j tables.now store.old.bytes.now store.old.grid (as_point node) → Sought j store.old.grid store.old.bytes.now store.new.bytes.now stamp (as_point node) result }
 {
-    let found = search::search(
-        near, begin, due, shut, cart_on, hint, store, node, soon, stamp,
-    );
+    let found = search::search(tables, hint, store, node, soon, stamp);
     let Some(depth) = found else {
         return false;
     };
@@ -45,34 +41,26 @@ fn seek(
 // Marks are kept from search to search, since what they rule out seldom comes back. Only a search on fresh marks is final: one that fails on old
 // ones is made again with a new stamp.
 pub fn serve(
-    near: &[u8],
-    begin: &[u16],
-    due: &[u16],
-    shut: &[u16],
-    cart_on: &[u8],
-    hint: &[u8],
+    tables: &Tables,
+    hint: &[u8; Limits::CELLS],
     store: &mut Store<'_>,
     node: Node,
     soon: usize,
     stamp: u8,
     fresh: bool,
 ) -> Result<u8, Unserved>
-    requires { (j : model.Job) × Serving j near.now begin.now due.now shut.now cart_on.now hint.now store.old.bytes.now store.old.grid (as_point node) stamp fresh }
+    requires { (j : model.Job) × Serving j tables.now store.old.bytes.now store.old.grid (as_point node) stamp fresh }
     ensures same { SameStore store.old store.new }
-    ensures served { (j : model.Job) → Serving j near.now begin.now due.now shut.now cart_on.now hint.now store.old.bytes.now store.old.grid (as_point node) stamp fresh → Holds j store.old.grid store.new.bytes.now × ServedBy j store.old.bytes.now store.new.bytes.now stamp (as_point node) result }
+    ensures served { (j : model.Job) → Serving j tables.now store.old.bytes.now store.old.grid (as_point node) stamp fresh → Holds j store.old.grid store.new.bytes.now × ServedBy j store.old.bytes.now store.new.bytes.now stamp (as_point node) result }
 {
-    if seek(
-        near, begin, due, shut, cart_on, hint, store, node, soon, stamp,
-    ) {
+    if seek(tables, hint, store, node, soon, stamp) {
         return Ok(stamp);
     }
     if fresh {
         return Err(Unserved { stamp });
     }
     let again = stamp + 1;
-    if seek(
-        near, begin, due, shut, cart_on, hint, store, node, soon, again,
-    ) {
+    if seek(tables, hint, store, node, soon, again) {
         return Ok(again);
     }
     Err(Unserved { stamp: again })

@@ -6,7 +6,7 @@ use Rattle.route.proofs.search.find.Goals as goal
 use Rattle.route.proofs.search.find.Goals.{else-node-gt0, then-node-gt0+in_default}
 
 pub scan-requires : goal.scan-requires
-scan-requires c = let (j, h, k) = c.requires.0 in ((j, h.0, k, omega (arith, h.1.1)), c.requires.1)
+scan-requires c = let (j, h, k) = c.requires in (j, h.0, k, omega (arith, h.1.1))
 
 pub returns-in-Some : goal.returns-in-Some
 returns-in-Some c = let k = c.in-Some.ensures in (inl (c.if-node-gt0.true, k.0), k.1)

@@ -10,17 +10,17 @@ use Rattle.std.specs.Prelude.{Some}
 use Rattle.route.specs.Finds.{Stamped, Tries, Aims, first_of}
 use Rattle.route.proofs.SearchFinds.{first_bay, first_lift, aims_found}
 use Rattle.route.proofs.search.from_call.Goals as goal
-use Rattle.route.proofs.search.from_call.Goals.{Joined-below-past, Joined-shut-cell, else-below-past, else-shut-cell, then-below-past, then-shut-cell}
+use Rattle.route.proofs.search.from_call.Goals.{Joined-below-past, Joined-tables-cell, else-below-past, else-tables-cell, then-below-past, then-tables-cell}
 
-first_is : (c : Joined-shut-cell) → (let a = c.args in c.if-shut-cell.first ≡ first_of a.due.now a.shut.now a.cell)
+first_is : (c : Joined-tables-cell) → (let a = c.args in c.if-tables-cell.first ≡ first_of a.tables.now.due a.tables.now.shut a.cell)
 first_is c =
     let a = c.args in
-    elim c.if-shut-cell.branch [
-      | then-shut-cell w ↦ w.first-is ∙ ap (λ n. n - 1) c.from-past.ensures ∙ sym (first_bay a.due.now a.shut.now a.cell w.if-shut-cell.true)
-      | else-shut-cell w ↦ w.first-is ∙ sym (first_lift a.due.now a.shut.now a.cell w.if-shut-cell.false)
+    elim c.if-tables-cell.branch [
+      | then-tables-cell w ↦ w.first-is ∙ ap (λ n. n - 1) c.from-past.ensures ∙ sym (first_bay a.tables.now.due a.tables.now.shut a.cell w.if-tables-cell.true)
+      | else-tables-cell w ↦ w.first-is ∙ sym (first_lift a.tables.now.due a.tables.now.shut a.cell w.if-tables-cell.false)
     ]
 
-past_is : (c : Joined-below-past) → (let a = c.args in c.if-below-past.past ≡ min (get_or a.due.now a.cell 0) a.below)
+past_is : (c : Joined-below-past) → (let a = c.args in c.if-below-past.past ≡ min (get_or a.tables.now.due a.cell 0) a.below)
 past_is c = elim c.if-below-past.branch [
   | then-below-past w ↦ omega (arith, w, c.from-past.ensures)
   | else-below-past w ↦ omega (arith, w, c.from-past.ensures)
@@ -29,26 +29,26 @@ past_is c = elim c.if-below-past.branch [
 -- A cell is open at step 0, so that a call on one that is closed in time is due later.
 pub overflow_sub-first : goal.overflow_sub-first
 overflow_sub-first c =
-    let (j, h, o, k, l) = c.requires.0 in
-    omega (arith, c.if-shut-cell.true, (o.opens c.args.cell 0 (omega (arith, h.ready.fit.few_cells)) (omega arith)).1 (λ q m b e. omega arith))
+    let (j, h, o, k, l) = c.requires in
+    omega (arith, c.if-tables-cell.true, (o.opens c.args.cell 0 (omega (arith, h.ready.fit.few_cells)) (omega arith)).1 (λ q m b e. omega arith))
 
 pub look-requires : goal.look-requires
 look-requires c =
-    let (j, h, o, k, l) = c.requires.0 in
+    let (j, h, o, k, l) = c.requires in
     (j, (h, (k, omega (arith, past_is (goal.at.look-requires c).Joined-below-past, ap (λ (g : Grid). g.top) h.grid))))
 
 pub returns-in-Some : goal.returns-in-Some
 returns-in-Some c =
     let a = c.args in
     inr (subst₂ (λ first past. Aims a.store.now.grid a.store.now.bytes.now a.cell first past a.ahead (Stamped a.store.now.grid a.store.now.bytes.now a.stamp) (Some c.in-Some.hop))
-    (first_is (goal.at.returns-in-Some c).Joined-shut-cell) (past_is (goal.at.returns-in-Some c).Joined-below-past)
+    (first_is (goal.at.returns-in-Some c).Joined-tables-cell) (past_is (goal.at.returns-in-Some c).Joined-below-past)
     (aims_found a.store.now.grid a.store.now.bytes.now a.cell _ _ a.ahead a.stamp c.in-Some.hop c.in-Some.ensures c.if-first-ahead.true c.if-ahead-past.true))
 
 pub from_steps-requires : goal.from_steps-requires
-from_steps-requires c = let (j, h, o, k, l) = c.requires.0 in (j, h, k, omega (arith, past_is (goal.at.from_steps-requires c).Joined-below-past))
+from_steps-requires c = let (j, h, o, k, l) = c.requires in (j, h, k, omega (arith, past_is (goal.at.from_steps-requires c).Joined-below-past))
 
 pub returns : goal.returns
 returns c =
     let a = c.args in
     inl (subst₂ (λ first past. Tries a.store.now.grid a.store.now.bytes.now a.cell first past (Stamped a.store.now.grid a.store.now.bytes.now a.stamp) c.from_steps.result)
-    (first_is (goal.at.returns c).Joined-shut-cell) (past_is (goal.at.returns c).Joined-below-past) c.from_steps.ensures)
+    (first_is (goal.at.returns c).Joined-tables-cell) (past_is (goal.at.returns c).Joined-below-past) c.from_steps.ensures)

@@ -16,7 +16,7 @@ in_row : (c : After-from-cell) → In c.from-cell.result c.args.row.now
 in_row c = let k = c.in_ok-b.ensures.lookup in in_at c.args.row.now c.args.hint (c.from-cell.ensures ∙ k.3.1 0) k.3.0
 
 pub look-requires : goal.look-requires
-look-requires c = let (j, h, k) = c.requires.0 in (j, (h.0, (k _ (in_row (goal.at.look-requires c).After-from-cell), omega (arith, h.1.1))))
+look-requires c = let (j, h, k) = c.requires in (j, (h.0, (k _ (in_row (goal.at.look-requires c).After-from-cell), omega (arith, h.1.1))))
 
 pub returns : goal.returns
 returns c =

@@ -6,7 +6,7 @@ pub returns-then-node-store : goal.returns-then-node-store
 returns-then-node-store c = record { call = λ e. c.from_call.ensures; node = λ ne. absurd (ne c.if-node-store.true) }
 
 pub from_node-requires : goal.from_node-requires
-from_node-requires c = let (j, h, k, n, o, l) = c.requires.0 in (j, no_call h k c.if-node-store.false, n, o)
+from_node-requires c = let (j, h, k, n, o, l) = c.requires in (j, no_call h k c.if-node-store.false, n, o)
 
 pub returns : goal.returns
 returns c = record { call = λ e. absurd (c.if-node-store.false e); node = λ ne. c.from_node.ensures }

@@ -11,10 +11,10 @@ in_row : (c : After-from-cell) → In c.from-cell.result c.args.row.now
 in_row c = in_at c.args.row.now c.loop-b.b-index c.from-cell.ensures c.loop-b-test.true
 
 pub overflow_add-step : goal.overflow_add-step
-overflow_add-step c = let (j, h, k, l) = c.requires.0 in omega (arith, few_steps j h.ready.fit)
+overflow_add-step c = let (j, h, k, l) = c.requires in omega (arith, few_steps j h.ready.fit)
 
 pub look-requires : goal.look-requires
-look-requires c = let (j, h, k, l) = c.requires.0 in (j, (h, (k _ (in_row (goal.at.look-requires c).After-from-cell), l)))
+look-requires c = let (j, h, k, l) = c.requires in (j, (h, (k _ (in_row (goal.at.look-requires c).After-from-cell), l)))
 
 pub returns-in-Some : goal.returns-in-Some
 returns-in-Some c =

@@ -19,40 +19,40 @@ use Rattle.route.proofs.search.search.Goals.{
   In-loop-depth,
   else-below-soon,
   else-top-eq0-via-else-top-eq0,
-  else-top-eq0-via-then-top-eq0+else-cart_on-c-ne0,
+  else-top-eq0-via-then-top-eq0+else-tables-c-ne0,
   then-below-soon,
 }
 
 -- A job that the search may be for, told from the store after the first push.
 one : (c : After-push) → (j : Job) × (let a = c.args in
-    Searching j a.near.now a.begin.now a.due.now a.shut.now a.cart_on.now a.hint.now c.push.new.store.bytes.now a.store.now.grid (as_point a.node))
+    Searching j a.tables.now c.push.new.store.bytes.now a.store.now.grid (as_point a.node))
 one c = (c.requires.0, begun _ c.push.ensures.bytes c.requires.1)
 
 -- What is at hand in a turn.
 turn : (c : In-loop-depth) (j : Job) → (let a = c.args in
-    Searching j a.near.now a.begin.now a.due.now a.shut.now a.cart_on.now a.hint.now c.push.new.store.bytes.now a.store.now.grid (as_point a.node)) →
+    Searching j a.tables.now c.push.new.store.bytes.now a.store.now.grid (as_point a.node)) →
     (let a = c.args in let l = c.loop-depth in
-    Turn j a.near.now a.begin.now a.due.now a.shut.now a.cart_on.now a.hint.now a.store.now.grid c.push.new.store.bytes.now l.store.bytes.now
+    Turn j a.tables.now a.store.now.grid c.push.new.store.bytes.now l.store.bytes.now
     (as_point a.node) a.stamp a.soon l.depth (as_point l.top) l.below l.ahead)
 turn c j h = record { for = h; going = c.loop-depth.invariant.1 j h; some = omega (arith, c.loop-depth-test.true) }
 
 -- What was found: past the test the position on top is no goal.
 looked : (c : After-leads-found) (j : Job) → (let a = c.args in
-    Searching j a.near.now a.begin.now a.due.now a.shut.now a.cart_on.now a.hint.now c.push.new.store.bytes.now a.store.now.grid (as_point a.node)) →
+    Searching j a.tables.now c.push.new.store.bytes.now a.store.now.grid (as_point a.node)) →
     (let a = c.args in let l = c.loop-depth in
-    Looked j a.near.now a.begin.now a.due.now a.shut.now a.cart_on.now a.hint.now a.store.now.grid c.push.new.store.bytes.now l.store.bytes.now
+    Looked j a.tables.now a.store.now.grid c.push.new.store.bytes.now l.store.bytes.now
     (as_point a.node) a.stamp a.soon l.depth (as_point l.top) l.below l.ahead c.leads-found.result)
 looked c j h =
     let a = c.args in
     let l = c.loop-depth in
-    let w : Turn j a.near.now a.begin.now a.due.now a.shut.now a.cart_on.now a.hint.now a.store.now.grid c.push.new.store.bytes.now l.store.bytes.now
+    let w : Turn j a.tables.now a.store.now.grid c.push.new.store.bytes.now l.store.bytes.now
     (as_point a.node) a.stamp a.soon l.depth (as_point l.top) l.below l.ahead =
     record { for = h; going = l.invariant.1 j h; some = omega (arith, c.loop-depth-test.true) } in
     record {
       turn = w;
       sees = rw l.invariant.0.grid at c.leads-found.ensures;
       dull = no_goal w (λ z. elim c.else-top-eq0.branch [
-        | else-top-eq0-via-then-top-eq0+else-cart_on-c-ne0 v ↦ ap not (eq-eqb _ 0 v.if-cart_on-c-ne0.false)
+        | else-top-eq0-via-then-top-eq0+else-tables-c-ne0 v ↦ ap not (eq-eqb _ 0 v.if-tables-c-ne0.false)
         | else-top-eq0-via-else-top-eq0 v ↦ absurd (v.if-top-eq0.false z)
       ]);
     }
@@ -63,26 +63,26 @@ push-requires c = first_needs c.requires.1
 pub loop-depth-init : goal.loop-depth-init
 loop-depth-init c = (c.push.ensures.same, λ j h. under_way c.args.store.now.bytes.now _ _ c.push.ensures.bytes c.requires.1.holds.room h)
 
-pub bounds-cart_on-c : goal.bounds-cart_on-c
-bounds-cart_on-c c =
-    let (j, h) = one (goal.at.bounds-cart_on-c c).After-push in
-    omega (arith, (top_inside (turn (goal.at.bounds-cart_on-c c).In-loop-depth j h)).0, h.tables.carts.size, h.holds.ready.fit.few_cells)
+pub bounds-tables-c : goal.bounds-tables-c
+bounds-tables-c c =
+    let (j, h) = one (goal.at.bounds-tables-c c).After-push in
+    omega (arith, (top_inside (turn (goal.at.bounds-tables-c c).In-loop-depth j h)).0, h.tables.carts.size, h.holds.ready.fit.few_cells)
 
-pub returns-then-cart_on-c-ne0-clause-same : goal.returns-then-cart_on-c-ne0-clause-same
-returns-then-cart_on-c-ne0-clause-same c = c.loop-depth.invariant.0
+pub returns-then-tables-c-ne0-clause-same : goal.returns-then-tables-c-ne0-clause-same
+returns-then-tables-c-ne0-clause-same c = c.loop-depth.invariant.0
 
-pub returns-then-cart_on-c-ne0-clause-searched : goal.returns-then-cart_on-c-ne0-clause-searched
-returns-then-cart_on-c-ne0-clause-searched c = λ j h.
+pub returns-then-tables-c-ne0-clause-searched : goal.returns-then-tables-c-ne0-clause-searched
+returns-then-tables-c-ne0-clause-searched c = λ j h.
     let l = c.loop-depth in
     let p = c.push.ensures.bytes in
-    let w = turn (goal.at.returns-then-cart_on-c-ne0-clause-searched c).In-loop-depth j (begun _ p h) in
-    ends_some _ p h w.going.run (l.depth - 1) (omega arith) (is_goal w c.if-top-eq0.true (ap not (ne_eqb _ 0 c.if-cart_on-c-ne0.true)))
+    let w = turn (goal.at.returns-then-tables-c-ne0-clause-searched c).In-loop-depth j (begun _ p h) in
+    ends_some _ p h w.going.run (l.depth - 1) (omega arith) (is_goal w c.if-top-eq0.true (ap not (ne_eqb _ 0 c.if-tables-c-ne0.true)))
 
 pub leads-found-requires : goal.leads-found-requires
 leads-found-requires c =
     let (j, h) = one (goal.at.leads-found-requires c).After-push in
     let w = turn (goal.at.leads-found-requires c).In-loop-depth j h in
-    rw c.loop-depth.invariant.0.grid ((j, holds w, top_inside w, h.tables.sides, h.tables.shuts, top_due w), h.tables.dues.size, h.hints)
+    rw c.loop-depth.invariant.0.grid (j, holds w, top_inside w, h.tables.sides, h.tables.shuts, top_due w)
 
 pub via-left-requires : goal.via-left-requires
 via-left-requires c =

@@ -10,8 +10,8 @@ use Rattle.route.proofs.search.search.Given as goal
 
 abbrev pub invariant-loop-depth : goal.invariant-loop-depth
 invariant-loop-depth l = SameStore l.fn.store l.store
-    × ((j : Job) → Searching j l.near l.begin l.due l.shut l.cart_on l.hint l.initial.store.bytes.now l.fn.store.grid (as_point l.initial.top)
-    → Going j l.due l.initial.store.bytes.now l.store.bytes.now l.stamp l.soon (as_point l.initial.top) l.depth (as_point l.top) l.below l.ahead)
+    × ((j : Job) → Searching j l.tables l.initial.store.bytes.now l.fn.store.grid (as_point l.initial.top)
+    → Going j l.tables.due l.initial.store.bytes.now l.store.bytes.now l.stamp l.soon (as_point l.initial.top) l.depth (as_point l.top) l.below l.ahead)
 
 abbrev pub decreases-loop-depth : goal.decreases-loop-depth
 decreases-loop-depth l = 2 * unmarked (mark_at l.fn.store.grid l.store.bytes.now) l.stamp l.fn.store.grid.nodes + l.depth
