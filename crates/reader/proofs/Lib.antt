@@ -1,6 +1,4 @@
-pub mod Tests
 pub mod Noted
-pub mod Entries
 pub mod Words
 pub mod Scans
 pub mod Turns

@@ -7,36 +7,25 @@ use mathlib.Core.Logic.{◌⊎◌, inl, inr}
 use mathlib.Core.Bool.{Bool, true, false, ◌&&◌, ◌||◌, or-true, or-false, or_assoc}
 use native.Mathlib.Omega.{arith}
 use lib.Dec.{eqb}
-use lib.ListN.{length, replicate}
+use lib.ListN.{length, replicate, length-replicate}
 use borrow.Author.Tests.{eqb-true, eq-eqb}
 use Rattle.model.specs.Limits.{max_cells}
 use Rattle.model.specs.Job as model
 use Rattle.model.specs.Job.{track, call}
-use Rattle.model.specs.ReadJob.{Kind, floor_line, track_line, cart_line, call_line, no_job, add, leads, member}
+use Rattle.model.specs.ReadJob.{track_line, cart_line, call_line, no_job, add, leads, member}
 use Rattle.model.proofs.Basics.{and_left, and_right, and_both, nope}
 use Rattle.job.specs.Bits.{bit_at, with_bit, pair_at}
-use Rattle.reader.specs.Lines.{Small, cart_row, call_row, table_size, place_of, noted, Noted}
+use Rattle.reader.specs.Table.{cart_row, call_row, table_size, Noted}
 use Rattle.job.proofs.BitLaws.{bit_set, bit_other, bits_length, no_bits}
 use Rattle.job.proofs.Triangle.{pair_small, pair_back, pair_same}
 
-pub noted_zeros : (n : ℕ) → Noted (replicate n 0) no_job
-noted_zeros n = record {
+pub noted_zeros : (n : ℕ) → 8 * n ≡ table_size → Noted (replicate n 0) no_job
+noted_zeros n h = record {
+  size = ap (λ k. 8 * k) (length-replicate n 0) ∙ h;
   tracks = λ a b h k. no_bits n (pair_at a b);
   carts = λ a h. no_bits n (cart_row + a);
   calls = λ a h. no_bits n (call_row + a);
 }
-
-pub place_small : (k : Kind) (a b : ℕ) → Small k a b → place_of k a b < table_size
-place_small floor_line a b s = omega arith
-place_small track_line a b s = omega (arith, pair_small a b s.0 s.1)
-place_small cart_line a b s = omega arith
-place_small (call_line q) a b s = omega arith
-
-pub noted_length : (seen : List ℕ) (k : Kind) (a b : ℕ) → length (noted seen k a b) ≡ length seen
-noted_length seen floor_line a b = refl
-noted_length seen track_line a b = bits_length seen (pair_at a b)
-noted_length seen cart_line a b = bits_length seen (cart_row + a)
-noted_length seen (call_line q) a b = bits_length seen (call_row + a)
 
 -- One track or one cell more.
 leads_more : (a b u v : ℕ) (ts : List model.Track) → leads a b (ts ++ (track u v ∷ [])) ≡ (leads a b ts || (eqb a u && eqb b v))
@@ -86,14 +75,17 @@ place_joins a b u v q = go (pair_same a b u v q)
     go (inl e) = rw (same_both a b u v e)
     go (inr e) = rw (same_both b a u v e) (or-true (eqb a u && eqb b v))
 
-module _ (seen : List ℕ) (j : model.Job) (long : 8 * length seen ≡ table_size) (m : Noted seen j) where
+module _ (seen : List ℕ) (j : model.Job) (m : Noted seen j) where
+  same_size : (p : ℕ) → 8 * length (with_bit seen p) ≡ table_size
+  same_size p = ap (λ k. 8 * k) (bits_length seen p) ∙ m.size
+
   -- After a mark at p, the bit at i tells x, which it told, or that i is p.
   told : (p i : ℕ) (x t : Bool) → p < table_size → (t ≡ true → i ≡ p) → (i ≡ p → t ≡ true) → bit_at seen i ≡ x → bit_at (with_bit seen p) i ≡ (x || t)
-  told p i x true h f g e = rw (f refl) (bit_set seen p (omega arith) ∙ sym (or-true x))
-  told p i x false h f g e = bit_other seen p (omega arith) i (λ q. let z = g q in nope (cc)) ∙ e ∙ sym (or-false x)
+  told p i x true h f g e = rw (f refl) (bit_set seen p (omega (arith, m.size)) ∙ sym (or-true x))
+  told p i x false h f g e = bit_other seen p (omega (arith, m.size)) i (λ q. let z = g q in nope (cc)) ∙ e ∙ sym (or-false x)
 
   kept : (p i : ℕ) {x : Bool} → p < table_size → (i ≡ p → ⊥) → bit_at seen i ≡ x → bit_at (with_bit seen p) i ≡ x
-  kept p i l h e = bit_other seen p (omega arith) i h ∙ e
+  kept p i l h e = bit_other seen p (omega (arith, m.size)) i h ∙ e
 
   -- a row of cells from r on
   told_cell : (r u a : ℕ) (l : List ℕ) → r + u < table_size → bit_at seen (r + a) ≡ member a l
@@ -116,19 +108,25 @@ module _ (seen : List ℕ) (j : model.Job) (long : 8 * length seen ≡ table_siz
       (place_joins a b u v)
       (m.tracks a b h k))
 
-  pub noted_add : (k : Kind) (a b : ℕ) → Small k a b → Noted (noted seen k a b) (add j k a b)
-  noted_add floor_line u v s = record { tracks = m.tracks; carts = m.carts; calls = m.calls }
-  noted_add track_line u v (s, t) = record {
+  pub noted_track : (u v : ℕ) → u < max_cells → v < max_cells → Noted (with_bit seen (pair_at u v)) (add j track_line u v)
+  noted_track u v s t = record {
+    size = same_size (pair_at u v);
     tracks = λ a b h k. told_track u v a b s t h k;
     carts = λ a h. kept (pair_at u v) (cart_row + a) (omega (arith, pair_small u v s t)) (λ e. omega (arith, pair_small u v s t)) (m.carts a h);
     calls = λ a h. kept (pair_at u v) (call_row + a) (omega (arith, pair_small u v s t)) (λ e. omega (arith, pair_small u v s t)) (m.calls a h);
   }
-  noted_add cart_line u v s = record {
+
+  pub noted_cart : (u : ℕ) → u < max_cells → Noted (with_bit seen (cart_row + u)) (add j cart_line u 0)
+  noted_cart u s = record {
+    size = same_size (cart_row + u);
     tracks = λ a b h k. kept (cart_row + u) (pair_at a b) (omega arith) (λ e. omega (arith, pair_small a b h k)) (m.tracks a b h k);
     carts = λ a h. told_cell cart_row u a j.carts (omega arith) (m.carts a h);
     calls = λ a h. kept (cart_row + u) (call_row + a) (omega arith) (λ e. omega arith) (m.calls a h);
   }
-  noted_add (call_line q) u v (s, t) = record {
+
+  pub noted_call : (q : model.CallKind) (u v : ℕ) → u < max_cells → Noted (with_bit seen (call_row + u)) (add j (call_line q) u v)
+  noted_call q u v s = record {
+    size = same_size (call_row + u);
     tracks = λ a b h k. kept (call_row + u) (pair_at a b) (omega arith) (λ e. omega (arith, pair_small a b h k)) (m.tracks a b h k);
     carts = λ a h. kept (call_row + u) (cart_row + a) (omega arith) (λ e. omega arith) (m.carts a h);
     calls = λ a h.

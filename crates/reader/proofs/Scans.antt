@@ -10,13 +10,12 @@ use native.Mathlib.Omega.{arith}
 use lib.Dec.{ltb, eqb}
 use lib.ListN.{length, drop, drop_of_length-le}
 use borrow.Author.Tests.{ltb-true, ltb-false, eqb-true, eq-eqb, ne_eqb}
-use Rattle.std.specs.Prelude.{None}
+use Rattle.std.specs.Prelude.{None, Ok, Err}
 use Rattle.model.specs.Text.{fields_of, and_number, numbers_by, scaled_of}
 use Rattle.model.proofs.Basics.{nope}
 use Rattle.text.specs.Scan.{found, field_of, scaled_at}
 use Rattle.text.proofs.Numbers.{field_first, fields-from, fields_past, fields_some, fields_from, number_none, parts}
 use Rattle.reader.specs.declared.line.Fault.TheVariants.{Form}
-use Rattle.reader.specs.declared.line.Numbers.TheVariants.{Bad, Good}
 use Rattle.reader.specs.Lines.{two_of, numbers_given, first_fault}
 
 -- What a loop over the fields has read: of k numbers b is the last and a the one in front of it, and the other fields are those from `at` on.
@@ -69,7 +68,7 @@ module _ (s : List ℕ) (k a b at : ℕ) where
     given : (o : Option (List ℕ)) → length (fields_of s) ≡ n → numbers_by scaled_of (fields_of s) ≡ o → numbers_given n (fields_of s) ≡ two_of o
     given o h e = simp (eq-eqb _ _ h) (ap two_of e)
 
-    pub got_fault : k < n → scaled_at s at ≡ None → Bad (first_fault n (fields_of s)) ≡ numbers_given n (fields_of s)
+    pub got_fault : k < n → scaled_at s at ≡ None → Err (first_fault n (fields_of s)) ≡ numbers_given n (fields_of s)
     got_fault l e = go (eqb (length (fields_of s)) n) refl
       where
         none_read : 0 < length (fields_from s at) → numbers_by scaled_of (fields_of s) ≡ none
@@ -80,12 +79,12 @@ module _ (s : List ℕ) (k a b at : ℕ) where
             by (inr (inl (z, h))) = h
             by (inr (inr (z, h))) = h
 
-        go : (t : Bool) → eqb (length (fields_of s)) n ≡ t → Bad (first_fault n (fields_of s)) ≡ numbers_given n (fields_of s)
+        go : (t : Bool) → eqb (length (fields_of s)) n ≡ t → Err (first_fault n (fields_of s)) ≡ numbers_given n (fields_of s)
         go false q = simp q
         go true q = simp q (ap two_of (sym (none_read (omega (arith, count_left g, eqb-true (length (fields_of s)) n q)))))
 
     module _ (z : k ≡ n) where
-      pub got_over : at ≤ length s → Bad Form ≡ numbers_given n (fields_of s)
+      pub got_over : at ≤ length s → Err Form ≡ numbers_given n (fields_of s)
       got_over h = simp (ne_eqb (length (fields_of s)) n (λ e. omega (arith, count_left g, ap length (fields-from s at h), fields_some (drop at s))))
 
       module _ (h : length s < at) where
@@ -95,18 +94,18 @@ module _ (s : List ℕ) (k a b at : ℕ) where
         all_numbers : WithRead (numbers_by scaled_of (fields_of s)) (some [])
         all_numbers = numbered g (some []) (ap (numbers_by scaled_of) (fields_past s at h))
 
-        pub got_one : n ≡ 1 → Good b 0 ≡ numbers_given n (fields_of s)
+        pub got_one : n ≡ 1 → Ok (b, 0) ≡ numbers_given n (fields_of s)
         got_one m = go all_numbers
           where
-            go : WithRead (numbers_by scaled_of (fields_of s)) (some []) → Good b 0 ≡ numbers_given n (fields_of s)
+            go : WithRead (numbers_by scaled_of (fields_of s)) (some []) → Ok (b, 0) ≡ numbers_given n (fields_of s)
             go (inl (y, e)) = absurd (omega arith)
             go (inr (inl (y, e))) = sym (given (some (b ∷ [])) all_read e)
             go (inr (inr (y, e))) = absurd (omega arith)
 
-        pub got_two : n ≡ 2 → Good a b ≡ numbers_given n (fields_of s)
+        pub got_two : n ≡ 2 → Ok (a, b) ≡ numbers_given n (fields_of s)
         got_two m = go all_numbers
           where
-            go : WithRead (numbers_by scaled_of (fields_of s)) (some []) → Good a b ≡ numbers_given n (fields_of s)
+            go : WithRead (numbers_by scaled_of (fields_of s)) (some []) → Ok (a, b) ≡ numbers_given n (fields_of s)
             go (inl (y, e)) = absurd (omega arith)
             go (inr (inl (y, e))) = absurd (omega arith)
             go (inr (inr (y, e))) = sym (given (some (a ∷ b ∷ [])) all_read e)

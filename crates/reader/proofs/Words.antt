@@ -7,6 +7,7 @@ use mathlib.Core.Bool.{Bool, true, false, cond}
 use native.Mathlib.Omega.{arith}
 use lib.ListN.{length, take, drop, length-append, length-drop}
 use lib.Seq.{take_all}
+use Rattle.std.specs.Prelude.{Option, Some, None}
 use Rattle.model.specs.declared.answer.Answer.TheVariants.{BadLine}
 use Rattle.model.specs.Job as model
 use Rattle.model.specs.Job.{lift, bay}
@@ -14,40 +15,16 @@ use Rattle.model.specs.Text.{fields_of, scaled_of, opens, floor_word, track_word
 use Rattle.model.specs.ReadJob.{Said, wrong, floor_line, track_line, cart_line, call_line, fields_say, line_says}
 use Rattle.model.specs.ReadJob as read
 use Rattle.model.proofs.Words.{opens_long}
-use Rattle.reader.specs.declared.fill.Kind.{Kind}
-use Rattle.reader.specs.declared.fill.Kind.TheVariants.{Floor, Track, Cart, Call, Bay}
+use Rattle.job.specs.declared.state.CallKind.TheVariants.{Lift, Bay}
+use Rattle.reader.specs.declared.line.Kind.{Kind}
+use Rattle.reader.specs.declared.line.Kind.TheVariants.{Floor, Track, Cart, Call}
 use Rattle.reader.specs.declared.line.Word.{Word}
-use Rattle.reader.specs.declared.line.Word.TheVariants.{Opens, Unknown}
-use Rattle.reader.specs.Lines.{kind_of, word_of}
-
--- The first of the five words that opens the line.
-module _ (l : List ℕ) where
-  pub word_floor : opens floor_word l ≡ true → Opens Floor 6 ≡ word_of l
-  word_floor f = simp f
-
-  module _ (f : opens floor_word l ≡ false) where
-    pub word_track : opens track_word l ≡ true → Opens Track 6 ≡ word_of l
-    word_track t = simp (f, t)
-
-    module _ (t : opens track_word l ≡ false) where
-      pub word_cart : opens cart_word l ≡ true → Opens Cart 5 ≡ word_of l
-      word_cart c = simp (f, t, c)
-
-      module _ (c : opens cart_word l ≡ false) where
-        pub word_call : opens call_word l ≡ true → Opens Call 5 ≡ word_of l
-        word_call d = simp (f, t, c, d)
-
-        module _ (d : opens call_word l ≡ false) where
-          pub word_bay : opens bay_word l ≡ true → Opens Bay 4 ≡ word_of l
-          word_bay e = simp (f, t, c, d, e)
-
-          pub word_unknown : opens bay_word l ≡ false → Unknown ≡ word_of l
-          word_unknown e = simp (f, t, c, d, e)
+use Rattle.reader.specs.Lines.{kind_of, some_word, word_of}
 
 -- What a line says by the word that opens it.
-unfoldable pub word_says : model.Job → List ℕ → Word → Said
-word_says j l (Opens k n) = fields_say scaled_of j (kind_of k) (fields_of (drop n l))
-word_says j l Unknown = wrong BadLine
+unfoldable pub word_says : model.Job → List ℕ → Option Word → Said
+word_says j l (Some w) = fields_say scaled_of j (kind_of w.kind) (fields_of (drop w.size l))
+word_says j l None = wrong BadLine
 
 pub line_by : (j : model.Job) (l : List ℕ) → word_says j l (word_of l) ≡ line_says scaled_of j l
 unfolding word_says
@@ -57,7 +34,7 @@ line_by j l = go (opens floor_word l) (opens track_word l) (opens cart_word l) (
     say k n = fields_say scaled_of j k (fields_of (drop n l))
 
     go : (f t c d e : Bool) →
-        word_says j l (cond f (Opens Floor 6) (cond t (Opens Track 6) (cond c (Opens Cart 5) (cond d (Opens Call 5) (cond e (Opens Bay 4) Unknown))))) ≡
+        word_says j l (cond f (some_word Floor 6) (cond t (some_word Track 6) (cond c (some_word Cart 5) (cond d (some_word (Call Lift) 5) (cond e (some_word (Call Bay) 4) None))))) ≡
         cond f (say floor_line 6) (cond t (say track_line 6) (cond c (say cart_line 5) (cond d (say (call_line lift) 5) (cond e (say (call_line bay) 4) (wrong BadLine)))))
     go true t c d e = refl
     go false true c d e = refl
@@ -67,26 +44,22 @@ line_by j l = go (opens floor_word l) (opens track_word l) (opens cart_word l) (
     go false false false false false = refl
 
 -- A line is as long as the word that opens it.
-abbrev pub LongEnough : List ℕ → Word → Type 0
-LongEnough l (Opens k n) = n ≤ length l
-LongEnough l Unknown = Unit
+abbrev pub LongEnough : List ℕ → Option Word → Type 0
+LongEnough l (Some w) = w.size ≤ length l
+LongEnough l None = Unit
 
 pub word_long : (l : List ℕ) → LongEnough l (word_of l)
-word_long l = next floor_word Floor _ (next track_word Track _ (next cart_word Cart _ (next call_word Call _ (next bay_word Bay _ tt))))
+word_long l = next floor_word Floor _ (next track_word Track _ (next cart_word Cart _ (next call_word (Call Lift) _ (next bay_word (Call Bay) _ tt))))
   where
-    next : (w : List ℕ) (k : Kind) (x : Word) → LongEnough l x → LongEnough l (cond (opens w l) (Opens k (suc (length w))) x)
+    next : (w : List ℕ) (k : Kind) (x : Option Word) → LongEnough l x → LongEnough l (cond (opens w l) (some_word k (suc (length w))) x)
     next w k x h = go (opens w l) refl
       where
-        go : (t : Bool) → opens w l ≡ t → LongEnough l (cond t (Opens k (suc (length w))) x)
+        go : (t : Bool) → opens w l ≡ t → LongEnough l (cond t (some_word k (suc (length w))) x)
         go true e = omega (arith, opens_long (w ++ (9 ∷ [])) l e, length-append w (9 ∷ []))
         go false e = h
 
-pub line_unknown : (j : model.Job) (l : List ℕ) → word_of l ≡ Unknown → wrong BadLine ≡ line_says scaled_of j l
-unfolding word_says
-line_unknown j l e = ap (word_says j l) (sym e) ∙ line_by j l
-
 -- The code hands on the part from n to the line's end.
-pub part_says : (j : model.Job) (l : List ℕ) (k : Kind) (n : ℕ) → word_of l ≡ Opens k n →
+pub part_says : (j : model.Job) (l : List ℕ) (k : Kind) (n : ℕ) → word_of l ≡ some_word k n →
     fields_say scaled_of j (kind_of k) (fields_of (take (length l - n) (drop n l))) ≡ line_says scaled_of j l
 unfolding word_says
 part_says j l k n e =

@@ -1,33 +1,24 @@
--- What the reader promises: the verdict on a text, and its job.
-use Rattle.std.specs.Prelude.{ℕ, ◌≤◌, ◌<◌, ◌+◌, ◌≡◌, List}
+-- What the reader promises: the job that a text says, or why it says none.
+use Rattle.std.specs.Prelude.{ℕ, ◌≤◌, ◌<◌, ◌+◌, ◌≡◌, List, Result, Ok, Err}
 use Rattle.model.specs.declared.answer.Answer.TheVariants.{Cannot}
 use Rattle.model.specs.Answers.{number}
 use Rattle.model.specs.Limits.{max_text}
 use Rattle.model.specs.Job as model
 use Rattle.model.specs.ReadJob as read
-use Rattle.reader.specs.declared.line.Entry.{Entry}
-use Rattle.reader.specs.declared.line.Entry.TheVariants.{Wrong, Right}
-use Rattle.reader.specs.declared.read.Verdict.{Verdict}
-use Rattle.reader.specs.declared.read.Verdict.TheVariants.{Accepted, Refused}
-use Rattle.reader.specs.declared.read.Reading.{Reading}
-use Rattle.job.specs.Arrays.{job_of, Sized}
-use Rattle.reader.specs.Lines.{answer_to}
+use Rattle.job.specs.declared.state.Job.{Job}
+use Rattle.job.specs.Lists.{job_of}
+use Rattle.reader.specs.declared.read.Refusal.{Refusal}
 
-abbrev pub verdict_of : Verdict → model.Job → read.Verdict model.Job
-verdict_of Accepted j = read.accepted j
-verdict_of (Refused a l) j = read.refused a l
-
-abbrev pub verdict_on : Entry → ℕ → Verdict
-verdict_on (Wrong f) l = Refused (answer_to f) l
-verdict_on (Right k a b) l = Accepted
+abbrev pub verdict_of : Result Job Refusal → read.Verdict model.Job
+verdict_of (Ok job) = read.accepted (job_of job)
+verdict_of (Err r) = read.refused r.answer r.line
 
 -- A refusal is neither PLAN nor CANNOT, and its line is no larger than a text can have.
-abbrev pub Bounded : Verdict → Type 0
-Bounded Accepted = Unit
-Bounded (Refused a l) = (number Cannot < number a) × (l ≤ max_text + 1)
+abbrev pub Bounded : Result Job Refusal → Type 0
+Bounded (Ok job) = Unit
+Bounded (Err r) = (number Cannot < number r.answer) × (r.line ≤ max_text + 1)
 
 -- The verdict is that of the text.
-pub record Read (text : List ℕ) (r : Reading) : Type 0 where
-  pub says : verdict_of r.verdict (job_of r.job) ≡ read.read_job text
-  pub sized : Sized r.job
-  pub bounded : Bounded r.verdict
+pub record Read (text : List ℕ) (r : Result Job Refusal) : Type 0 where
+  pub says : verdict_of r ≡ read.read_job text
+  pub bounded : Bounded r
