@@ -5,6 +5,7 @@ use crate::draft::Draft;
 use job::state::Job;
 use model::Limits;
 use model::answer::Answer;
+use text::lines::Lines;
 
 // Why a text is turned back, and the number of the line that is to blame: 0 where none is.
 #[derive(Drop)]
@@ -24,16 +25,15 @@ pub fn read(text: &[u8]) -> Result<Job, Refusal>
         });
     }
     let mut draft = Draft::new();
-    let mut at = 0;
+    let mut lines = Lines::new(text);
     let mut line = 1;
-    while at < text.len() {
-        let row = text::lines::next(text, &mut at);
-        if text.len() < at {
+    while !lines.is_done() {
+        let Some(row) = lines.next() else {
             return Err(Refusal {
                 answer: Answer::BadLine,
                 line,
             });
-        }
+        };
         if let Err(fault) = draft.take(row) {
             let answer = Answer::from(fault);
             return Err(Refusal { answer, line });

@@ -1,5 +1,6 @@
 -- `read` answers what the text says, by the laws of `Turns`. A line that is wrong is refused by the answer of its test, which is neither PLAN nor CANNOT. Assumes nothing.
 use Prim.Native.Nat.{◌<◌}
+use mathlib.Core.Path.{sym, ◌∙◌}
 use native.Mathlib.Omega.{arith}
 use Rattle.model.specs.declared.answer.Answer.TheVariants.{Cannot}
 use Rattle.model.specs.Answers.{number}
@@ -13,14 +14,13 @@ use Rattle.reader.proofs.read.read.Goals as goal
 pub returns-then-text-gt-TEXT : goal.returns-then-text-gt-TEXT
 returns-then-text-gt-TEXT c = record { says = too_long c.args.text.now c.if-text-gt-TEXT.true; bounded = (omega arith, omega arith) }
 
-pub loop-at-init : goal.loop-at-init
-loop-at-init c = rw c.new-draft.ensures (so_far_first c.args.text.now c.if-text-gt-TEXT.false)
+pub loop-lines-init : goal.loop-lines-init
+loop-lines-init c = rw (c.new-draft.ensures, c.new-lines.ensures) (so_far_first c.args.text.now c.if-text-gt-TEXT.false)
 
-pub returns-then-text-at : goal.returns-then-text-at
-returns-then-text-at c = record {
-  says = ends_cut c.loop-at.invariant _ _ c.next-row.ensures c.loop-at-test.true c.if-text-at.true;
-  bounded = (omega arith, omega arith);
-}
+pub returns-in_default : goal.returns-in_default
+returns-in_default c =
+    let (cut, kept) = rw c.in_default.is at c.next.ensures in
+    record { says = ends_cut c.loop-lines.invariant (sym c.is_done.ensures ∙ c.loop-lines-test.true) cut; bounded = (omega arith, omega arith) }
 
 fault_late : (f : Fault) → number Cannot < number (answer_to f)
 fault_late Form = omega arith
@@ -31,13 +31,15 @@ fault_late Doubled = omega arith
 
 pub returns-in-Err : goal.returns-in-Err
 returns-in-Err c =
+    let first = rw c.in-Some.is at c.next.ensures in
     let wrong = rw c.in-Err.is at c.take.ensures in
     rw c.from-answer.ensures record {
-      says = ends_wrong c.loop-at.invariant _ _ c.next-row.ensures c.if-text-at.false (answer_to c.in-Err.fault) wrong;
+      says = ends_wrong c.loop-lines.invariant _ _ first (answer_to c.in-Err.fault) wrong;
       bounded = (fault_late c.in-Err.fault, omega arith);
     }
 
-pub loop-at-preserved : goal.loop-at-preserved
-loop-at-preserved c =
-    let right = rw c.in_default.is at c.take.ensures in
-    so_far_next c.loop-at.invariant _ _ c.next-row.ensures c.if-text-at.false (job_of c.take.new.self.job) right
+pub loop-lines-preserved : goal.loop-lines-preserved
+loop-lines-preserved c =
+    let first = rw c.in-Some.is at c.next.ensures in
+    let right = rw c.in_default-take.is at c.take.ensures in
+    so_far_next c.loop-lines.invariant _ _ first (job_of c.take.new.self.job) right
