@@ -2,7 +2,7 @@
 #![tactic(auto)]
 
 use model::Limits;
-use model::answer::{Answer, number};
+use model::answer::Answer;
 use report::input::read_full;
 use std::io;
 use std::io::Write;
@@ -15,7 +15,7 @@ fn plan<W: Write>(out: &mut W, text: &[u8]) -> io::Result<()> {
     let mut sheet = [0u8; LENT];
     let r = cartfloor::plan::cartfloor_plan(text, &mut store, &mut sheet);
     let value = r / 256;
-    if number(Answer::Cannot) < r % 256 {
+    if u64::from(Answer::Cannot) < r % 256 {
         return report::refused(out, r % 256, value);
     }
     // A sheet is never longer than its buffer.

@@ -3,44 +3,37 @@ ghost use Rattle.std.specs.Prelude.{◌≡◌, ◌+◌, ◌*◌, ◌<◌, ◌^�
 ghost use Rattle.model.specs.Answers as answers;
 
 // A plan or a choke list, or the place that turns the text, the buffers, the sheet or the map back.
-#[derive(Drop)]
+#[derive(Clone, Copy, Debug, PartialEq, Eq)]
 pub enum Answer {
-    Plan,
-    Cannot,
-    TextTooLong,
-    BadLine,
-    NoNumber,
-    OutOfRange,
-    TooMany,
-    Doubled,
-    Uneven,
-    StoreTooShort,
-    SheetTooShort,
-    BadSheet,
-    WrongSheet,
-    BadMap,
-    NoFloor,
+    Plan = 0,
+    Cannot = 1,
+    TextTooLong = 2,
+    BadLine = 3,
+    NoNumber = 4,
+    OutOfRange = 5,
+    TooMany = 6,
+    Doubled = 7,
+    Uneven = 8,
+    StoreTooShort = 9,
+    SheetTooShort = 10,
+    BadSheet = 11,
+    WrongSheet = 12,
+    BadMap = 13,
+    NoFloor = 14,
 }
 
-pub fn number(answer: Answer) -> u64
-    ensures { (result ≡ answers.number answer) × (result < 256) }
-{
-    match answer {
-        Answer::Plan => 0,
-        Answer::Cannot => 1,
-        Answer::TextTooLong => 2,
-        Answer::BadLine => 3,
-        Answer::NoNumber => 4,
-        Answer::OutOfRange => 5,
-        Answer::TooMany => 6,
-        Answer::Doubled => 7,
-        Answer::Uneven => 8,
-        Answer::StoreTooShort => 9,
-        Answer::SheetTooShort => 10,
-        Answer::BadSheet => 11,
-        Answer::WrongSheet => 12,
-        Answer::BadMap => 13,
-        Answer::NoFloor => 14,
+// Why a text is turned back, and the number of the line that is to blame: 0 where none is.
+#[derive(Clone, Copy, Debug, PartialEq, Eq)]
+pub struct Refusal {
+    pub answer: Answer,
+    pub line: usize,
+}
+
+impl From<Answer> for u64 {
+    ghost from_gives = { λ answer n. (n ≡ answers.number answer) × (n < 256) };
+
+    fn from(answer: Answer) -> u64 {
+        answer as u64
     }
 }
 
@@ -49,5 +42,14 @@ pub fn packed(answer: Answer, value: u64) -> u64
     requires { value < 2 ^ 56 }
     ensures { result ≡ answers.number answer + 256 * value }
 {
-    number(answer) + 256 * value
+    u64::from(answer) + 256 * value
+}
+
+impl Refusal {
+    pub fn packed(self) -> u64
+        requires { self.line < 2 ^ 56 }
+        ensures { result ≡ answers.number self.answer + 256 * self.line }
+    {
+        self::packed(self.answer, self.line as u64)
+    }
 }

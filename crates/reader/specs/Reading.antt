@@ -1,13 +1,13 @@
 -- What the reader promises: the job that a text says, or why it says none.
 use Rattle.std.specs.Prelude.{ℕ, ◌≤◌, ◌<◌, ◌+◌, ◌≡◌, List, Result, Ok, Err}
 use Rattle.model.specs.declared.answer.Answer.TheVariants.{Cannot}
+use Rattle.model.specs.declared.answer.Refusal.{Refusal}
 use Rattle.model.specs.Answers.{number}
 use Rattle.model.specs.Limits.{max_text}
 use Rattle.model.specs.Job as model
 use Rattle.model.specs.ReadJob as read
 use Rattle.job.specs.declared.state.Job.{Job}
 use Rattle.job.specs.Lists.{job_of}
-use Rattle.reader.specs.declared.read.Refusal.{Refusal}
 
 abbrev pub verdict_of : Result Job Refusal → read.Verdict model.Job
 verdict_of (Ok job) = read.accepted (job_of job)

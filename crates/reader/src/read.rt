@@ -4,15 +4,8 @@ ghost use Rattle.reader.specs.Reading.{Read};
 use crate::draft::Draft;
 use job::state::Job;
 use model::Limits;
-use model::answer::Answer;
+use model::answer::{Answer, Refusal};
 use text::lines::Lines;
-
-// Why a text is turned back, and the number of the line that is to blame: 0 where none is.
-#[derive(Drop)]
-pub struct Refusal {
-    pub answer: Answer,
-    pub line: usize,
-}
 
 // The job that the text says, or why it says none.
 pub fn read(text: &[u8]) -> Result<Job, Refusal>

@@ -2,53 +2,48 @@
 // An example is a line of `%` and a label, and then the job, up to the next `%`.
 #![tactic(auto)]
 
-ghost use Rattle.std.specs.Prelude.{◌≡◌, ◌≤◌, length};
+ghost use Rattle.std.specs.Prelude.{◌<◌, length, IfSome};
 
-use model::answer::number;
-use reader::read::Verdict;
 use report::input::read_full;
 use std::io;
 use std::io::Write;
 
-// Where the first such byte from `at` on stands, or the end.
-fn find(s: &[u8], at: usize, b: u8) -> usize
-    requires { at ≤ length s.now }
-    ensures { (at ≤ result) × (result ≤ length s.now) }
-{
-    let mut i = at;
-    while i < s.len() {
-        if s[i] == b {
-            return i;
-        }
-        i += 1;
-    }
-    i
+#[derive(Clone, Copy)]
+struct Example<'a> {
+    label: &'a [u8],
+    job: &'a [u8],
+    rest: &'a [u8],
 }
 
-fn example<W: Write>(out: &mut W, label: &[u8], text: &[u8]) -> io::Result<()> {
-    out.write_all(label)?;
-    let reading = reader::read::read(text);
-    let verdict = reading.verdict;
-    match verdict {
-        Verdict::Accepted => out.write_all(b"\taccepted\n"),
-        Verdict::Refused { answer, line } => report::line(out, b"", number(answer), line as u64),
+// The example that the text begins with, if its label's line ends, and what stands behind it.
+fn first_of(text: &[u8]) -> Option<Example<'_>>
+    ensures { IfSome result (λ e. length e.rest.now < length text.now) }
+{
+    let (_, text) = text.split_first()?;
+    let label_end = text.iter().position(|b| *b == b'\n')?;
+    let label = &text[..label_end];
+    let text = &text[label_end + 1..];
+    let end = text.iter().position(|b| *b == b'%').unwrap_or(text.len());
+    Some(Example {
+        label,
+        job: &text[..end],
+        rest: &text[end..],
+    })
+}
+
+fn tell<W: Write>(out: &mut W, example: Example) -> io::Result<()> {
+    out.write_all(example.label)?;
+    match reader::read::read(example.job) {
+        Ok(_) => out.write_all(b"\taccepted\n"),
+        Err(refusal) => report::line(out, b"", u64::from(refusal.answer), refusal.line as u64),
     }
 }
 
-fn examples<W: Write>(out: &mut W, s: &[u8]) -> io::Result<()>
-    requires { length s.now ≤ 131072 }
-{
-    let mut at = 0;
-    while at < s.len() {
-        let from = at + 1;
-        let e = find(s, from, 10);
-        if s.len() <= e {
-            return Ok(());
-        }
-        let start = e + 1;
-        let end = find(s, start, 37);
-        example(out, &s[from..e], &s[start..end])?;
-        at = end;
+fn examples<W: Write>(out: &mut W, text: &[u8]) -> io::Result<()> {
+    let mut rest = text;
+    while let Some(first) = first_of(rest) {
+        tell(out, first)?;
+        rest = first.rest;
     }
     Ok(())
 }
@@ -56,5 +51,5 @@ fn examples<W: Write>(out: &mut W, s: &[u8]) -> io::Result<()>
 fn main(rt: HostRuntime) -> io::Result<()> {
     let mut input = [0u8; 131072];
     let n = read_full(&mut rt.stdin(), &mut input)?;
-    examples(&mut rt.stdout(), &input[0..n])
+    examples(&mut rt.stdout(), &input[..n])
 }
