@@ -1,7 +1,7 @@
-pub mod Numbers
-pub mod Cells
-pub mod Said
-pub mod SpareSaid
-pub mod SpareRows
-pub mod Lines
+pub mod Fields
+pub mod Calls
+pub mod Chokes
+pub mod Turns
+pub mod Exits
 pub mod Whole
+pub mod Rides
