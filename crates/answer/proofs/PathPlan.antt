@@ -1,20 +1,21 @@
 -- The planner's paths, one after the other: each is traced back from the step at which its call is met, through the flow in which no two carts trade. Assumes nothing.
-use Prim.Native.Nat.{ℕ, suc, ◌+◌, ◌*◌, ◌-◌, ◌<◌, ◌≤◌}
+use Prim.Native.Nat.{ℕ, suc, ◌+◌, ◌-◌, ◌<◌, ◌≤◌}
 use mathlib.Core.Path.{◌≡◌, refl, sym, ap, ◌∙◌, subst}
 use mathlib.Core.List.{List}
 use native.Mathlib.Omega.{arith}
-use lib.ListN.{length, get_or, take, drop, set}
-use lib.Seq.{length-take-le, get_or-take, set-get_or, get_or-set_same, get_or-set_other}
-use borrow.Rule.Slice.PartMut.{mid_len}
-use Rattle.model.specs.Limits.{max_cells, max_calls, max_steps}
+use lib.ListN.{length, get_or, take, set}
+use lib.Seq.{length-take-le, get_or-take}
+use Rattle.model.specs.Limits.{max_cells, max_steps}
 use Rattle.model.specs.Lists.{In}
 use Rattle.model.specs.Job.{Job, lift, call, call_of}
 use Rattle.model.specs.Choke.{Point, point}
 use Rattle.model.specs.Plan.{Path}
 use Rattle.model.proofs.Decide.{dec-lt}
 use Rattle.model.proofs.Lists.{in_get_or}
-use Rattle.job.specs.Held.{Room, path_at}
-use Rattle.job.proofs.Rows.{with_row, room_more, path_kept, path_new}
+use Rattle.job.specs.declared.state.Call.{Call}
+use Rattle.job.specs.declared.held.Ride.{Ride}
+use Rattle.job.specs.Held.{as_path}
+use Rattle.job.proofs.Lists.{no_call}
 use Rattle.flow.specs.Flow.{to}
 use Rattle.network.specs.declared.planes.Grid.{Grid}
 use Rattle.network.specs.Graph.{top, Inside, node_of}
@@ -25,45 +26,46 @@ use Rattle.network.proofs.Plans.{starts_on_cart}
 use Rattle.network.proofs.Points.{point_cell, point_step, point_eq, to_eq}
 use Rattle.network.proofs.ChokeTargets.{by_horizon}
 use Rattle.network.proofs.Calm.{stood_flow, stood_ends}
+use Rattle.answer.specs.Spares.{ride_at}
 use Rattle.answer.specs.Full.{FullFlow, PathsTraced}
 use Rattle.answer.specs.Trail.{back_from, HasCart, Trail}
-use Rattle.answer.proofs.Calls.{node_read}
+use Rattle.answer.proofs.Rides.{ride_new, ride_kept}
+use Rattle.answer.proofs.Calls.{counted, node_read}
 use Rattle.answer.proofs.PathLinks.{call_met}
 
-pub traced_none : {j : Job} {order s first lasts rows : List ℕ} → Room first order lasts rows → PathsTraced j order s first lasts rows 0
-traced_none r = record { room = r; short = λ m h. absurd (omega arith); traced = λ m h. absurd (omega arith) }
+pub traced_none : (j : Job) (order s : List ℕ) (rides : List Ride) → PathsTraced j order s rides 0
+traced_none j order s rides = record { calls = λ m h. absurd (omega arith); traced = λ m h. absurd (omega arith) }
 
-pub traced_all : {j : Job} {order s first lasts rows : List ℕ} {n m : ℕ} → m ≡ n → PathsTraced j order s first lasts rows m → PathsTraced j order s first lasts rows n
+pub traced_all : {j : Job} {order s : List ℕ} {rides : List Ride} {n m : ℕ} → m ≡ n → PathsTraced j order s rides m → PathsTraced j order s rides n
 traced_all e w = rw (← e) w
 
--- The row that is lent for a path.
-pub row_long : {first order lasts rows : List ℕ} {i : ℕ} → Room first order lasts rows → i < max_calls
-    → length (take (i * max_steps + max_steps - i * max_steps) (drop (i * max_steps) rows)) ≡ max_steps
-row_long {i = i} r few = mid_len (i * max_steps) (i * max_steps + max_steps) _ (omega (arith, r.cells)) ∙ omega arith
-
-module _ {j : Job} {targets : List ℕ} {calls : ℕ} {cart_on order : List ℕ} {grid : Grid} {s : List ℕ} (g : FullFlow j targets calls cart_on order grid s) where
+module _ {j : Job} {calls : List Call} {cart_on order : List ℕ} {grid : Grid} {s : List ℕ} (g : FullFlow j calls cart_on order grid s) where
   abbrev q : ℕ → ℕ
   q i = get_or order i 0
 
-  is_call : {i : ℕ} → i < calls → q i < length j.calls
-  is_call {i} more = g.ordered.known i (omega (arith, g.listed.counted))
+  count : length j.calls ≡ length calls
+  count = counted j calls g.listed
 
-  pub call_known : {i : ℕ} → i < calls → get_or order i 0 < calls
-  call_known more = omega (arith, is_call more, g.listed.counted)
+  -- The order has each call.
+  pub each : length order ≡ length calls
+  each = omega (arith, g.ordered.size, count)
 
-  pub few : calls ≤ max_calls
-  few = omega (arith, g.listed.counted, g.kept.keeps.ready.fit.few_calls)
+  is_call : {i : ℕ} → i < length order → q i < length j.calls
+  is_call {i} more = g.ordered.known i (omega (arith, each, count))
+
+  pub call_known : {i : ℕ} → i < length order → get_or order i 0 < length calls
+  call_known more = omega (arith, is_call more, count)
 
   abbrev last : grid.top ≡ top j
   last = ap (λ g. g.top) g.kept.keeps.grid
 
   -- The next call. The code has its number and cell in locals.
-  module _ {i : ℕ} (more : i < calls) {u p : ℕ} (number : u ≡ get_or order i 0) (target : p ≡ get_or targets u 0) where
+  module _ {i : ℕ} (more : i < length order) {u p : ℕ} (number : u ≡ get_or order i 0) (target : p ≡ (get_or calls u no_call).cell) where
     abbrev node : Point
     node = point p grid.top
 
     is_node : node ≡ node_of j (call_of j (q i))
-    is_node = node_read g.listed g.kept.keeps.grid (call_known more) number target
+    is_node = node_read j calls g.listed g.kept.keeps.grid (q i) (target ∙ ap (λ k. (get_or calls k no_call).cell) number)
 
     listed : In (call_of j (q i)) j.calls
     listed = in_get_or j.calls (q i) (call lift 0 0) (is_call more)
@@ -128,25 +130,18 @@ module _ {j : Job} {targets : List ℕ} {calls : ℕ} {cart_on order : List ℕ}
               ends = met ∙ ap to (point_eq (sym (get_or-take (suc d) row d 0 (omega arith) ∙ tr.ends)) refl);
             }
 
-        pub traced_more : {first lasts rows : List ℕ} → PathsTraced j order s first lasts rows i
-            → length row ≡ length (take (i * max_steps + max_steps - i * max_steps) (drop (i * max_steps) rows))
-            → PathsTraced j order s (set first i (get_or cart_on r 0 - 1)) (set lasts i d) (with_row rows i row) (i + 1)
-        traced_more {first} {lasts} {rows} w same = record {
-          room = rw kept at (room_more w.room row i cart (q i) d slot same);
-          short = λ m h. short m h (dec-lt m i);
-          traced = λ m h. traced m h (dec-lt m i);
-        }
-          where
-            slot : i < max_calls
-            slot = omega (arith, few)
+        -- The ride as it is written.
+        module _ (long : length row ≡ max_steps) (rides : List Ride) (few : i < length rides) where
+          abbrev ride : Ride
+          ride = record { cart = cart; call = q i; last = d; cells = row }
 
-            kept : set order i (q i) ≡ order
-            kept = set-get_or order i 0
+          pub traced_more : PathsTraced j order s rides i → PathsTraced j order s (set rides i (record { cart = get_or cart_on r 0 - 1; call = get_or order i 0; last = d; cells = row })) (i + 1)
+          traced_more w = record { calls = λ m h. numbered m h (dec-lt m i); traced = λ m h. traced m h (dec-lt m i) }
+            where
+              numbered : (m : ℕ) → m < i + 1 → Dec (m < i) → (ride_at (set rides i ride) m).call ≡ get_or order m 0
+              numbered m h (yes l) = rw (ride_kept rides i m ride (λ e. omega arith)) (w.calls m l)
+              numbered m h (no l) = let z : m ≡ i = omega arith in rw (z, ride_new rides i ride few) refl
 
-            short : (m : ℕ) → m < i + 1 → Dec (m < i) → get_or (set lasts i d) m 0 < max_steps
-            short m h (yes l) = rw (get_or-set_other lasts i m d 0 (λ e. omega arith)) (w.short m l)
-            short m h (no l) = let z : m ≡ i = omega arith in rw (z, get_or-set_same lasts i d 0 (omega (arith, slot, w.room.steps))) by_last
-
-            traced : (m : ℕ) → m < i + 1 → Dec (m < i) → Traced j (back_from j s) (path_at (set first i cart) order (set lasts i d) (with_row rows i row) m)
-            traced m h (yes l) = rw (rw kept at (path_kept w.room row i cart (q i) d slot same m l (w.short m l))) (w.traced m l)
-            traced m h (no l) = let z : m ≡ i = omega arith in rw (z, rw kept at (path_new w.room row i cart (q i) d slot same by_last)) (traces (same ∙ row_long w.room slot))
+              traced : (m : ℕ) → m < i + 1 → Dec (m < i) → Traced j (back_from j s) (as_path (ride_at (set rides i ride) m))
+              traced m h (yes l) = rw (ride_kept rides i m ride (λ e. omega arith)) (w.traced m l)
+              traced m h (no l) = let z : m ≡ i = omega arith in rw (z, ride_new rides i ride few) (traces long)

@@ -5,9 +5,9 @@ use mathlib.Core.List.{List}
 use mathlib.Core.Bool.{true}
 use native.Mathlib.Omega.{arith}
 use lib.Dec.{eqb}
-use lib.ListN.{get_or}
+use lib.ListN.{length, get_or}
 use Rattle.model.specs.Lists.{In}
-use Rattle.model.specs.Limits.{max_carts, max_steps}
+use Rattle.model.specs.Limits.{max_steps}
 use Rattle.model.specs.Job.{Job, cart_cell}
 use Rattle.model.specs.Choke.{Point, point}
 use Rattle.model.proofs.Basics.{nope}
@@ -63,19 +63,16 @@ pub record KeptUpTo (j : Job) (g : Grid) (s : List ℕ) (k : ℕ) : Type 0 where
   pub keeps : KeepsAll j g s
   pub some : (i : ℕ) → i < k → Started j s (cart_cell j i)
 
-module _ {j : Job} {starts : List ℕ} {carts : ℕ} {g : Grid} {s₀ : List ℕ} (u : Unkept j starts carts g s₀) where
-  pub few_carts : carts ≤ max_carts
-  few_carts = omega (arith, u.listed.counted, u.holds.ready.fit.few_carts)
-
+module _ {j : Job} {carts : List ℕ} {g : Grid} {s₀ : List ℕ} (u : Unkept j carts g s₀) where
   pub kept_none : KeptUpTo j g s₀ 0
   kept_none = record { keeps = keeps_first u.holds u.full; some = λ i l. absurd (omega arith) }
 
-  pub cart_in : {k c : ℕ} → k < carts → c ≡ get_or starts k 0 → In c j.carts
-  cart_in {k} l e = rw (e ∙ sym (u.listed.cells k l)) (in_get_or j.carts k 0 (omega (arith, u.listed.counted)))
+  pub cart_in : {k c : ℕ} → k < length carts → c ≡ get_or carts k 0 → In c j.carts
+  cart_in {k} l e = rw (e, u.listed) (in_get_or carts k 0 l)
 
-  module _ {s : List ℕ} {k c : ℕ} (h : KeptUpTo j g s k) (l : k < carts) (e : c ≡ get_or starts k 0) where
+  module _ {s : List ℕ} {k c : ℕ} (h : KeptUpTo j g s k) (l : k < length carts) (e : c ≡ get_or carts k 0) where
     is : cart_cell j k ≡ c
-    is = u.listed.cells k l ∙ sym e
+    is = ap (λ cs. get_or cs k 0) u.listed ∙ sym e
 
     -- It has a line already, or is given one.
     pub kept_had : (used_at g s (place_in g c 0) ≡ 0 → ⊥) → KeptUpTo j g s (k + 1)
@@ -98,8 +95,8 @@ module _ {j : Job} {starts : List ℕ} {carts : ℕ} {g : Grid} {s₀ : List ℕ
         go i m (yes n) = more.old (cart_cell j i) (h.some i n)
         go i m (no n) = let z : i ≡ k = omega arith in rw (z, is) more.new
 
-  pub kept_all : {s : List ℕ} {k : ℕ} → k ≡ carts → KeptUpTo j g s k → AllKept j g s
+  pub kept_all : {s : List ℕ} {k : ℕ} → k ≡ length carts → KeptUpTo j g s k → AllKept j g s
   kept_all {s} {k} e h = record { keeps = h.keeps; all = all }
     where
       all : (c : ℕ) → In c j.carts → Started j s c
-      all c i = let (m, l, f) = in_place c j.carts 0 i in rw f (h.some m (omega (arith, u.listed.counted)))
+      all c i = let (m, l, f) = in_place c j.carts 0 i in rw f (h.some m (omega (arith, ap length u.listed)))

@@ -1,22 +1,24 @@
--- A row that is written from its start on holds the walk of a cart that meets no call; and a table that marks the carts of lines, one after the other. Assumes nothing.
-use Prim.Native.Nat.{ℕ, suc, ◌+◌, ◌<◌, ◌≤◌}
-use mathlib.Core.Path.{◌≡◌, sym, ◌∙◌, ap}
+-- A row that is written from its start on holds the walk of a cart that meets no call; and a table that marks the carts of paths, one after the other. Assumes nothing.
+use Prim.Native.Nat.{ℕ, zero, suc, ◌+◌, ◌<◌, ◌≤◌}
+use mathlib.Core.Path.{◌≡◌, refl, sym, ◌∙◌, ap}
 use mathlib.Core.List.{List}
-use mathlib.Core.Logic.{◌⊎◌, inl, inr}
+use mathlib.Core.Bool.{Bool, true, false}
 use native.Mathlib.Omega.{arith}
 use native.Mathlib.Numerals.{add-one}
-use lib.ListN.{length, get_or, set, length-set}
+use lib.ListN.{length, get_or, set, replicate, length-set, length-replicate}
 use lib.Seq.{get_or-set_same, get_or-set_other}
 use Rattle.model.specs.Limits.{max_carts, max_cells}
 use Rattle.model.specs.Job.{Job}
 use Rattle.model.specs.Choke.{Point, point}
+use Rattle.model.proofs.Basics.{nope}
 use Rattle.model.proofs.Decide.{dec-lt, dec_eq}
 use Rattle.flow.specs.Flow.{to}
+use Rattle.job.specs.declared.held.Ride.{Ride}
 use Rattle.job.specs.Held.{Some}
 use Rattle.network.specs.declared.planes.Grid.{Grid}
 use Rattle.network.specs.Keeping.{KeepsAll}
 use Rattle.network.proofs.Points.{point_eq}
-use Rattle.answer.specs.Spares.{CartsTaken}
+use Rattle.answer.specs.Spares.{cart_at}
 use Rattle.answer.specs.Trail.{back_from, MeetsNone, GoesTo, WalkRow}
 use Rattle.answer.proofs.PathLinks.{cart_known}
 use Rattle.answer.proofs.StayLinks.{unmet_next}
@@ -66,29 +68,31 @@ unmet_cell {x = x} h u = omega (arith, (cart_known h x u.cart).0, h.ready.fit.fe
 pub going_last : {j : Job} {s : List ℕ} {c : ℕ} {row : List ℕ} {a t n : ℕ} → WalkedTo j s c row a t → n ≤ t + 1 → WalkRow j s c n row
 going_last w e = record { begins = w.onward.begins; follows = λ k l. w.onward.follows k (omega arith) }
 
--- The table of the carts that have lines.
-pub taken_none : {first table : List ℕ} → length table ≡ max_carts → ((c : ℕ) → get_or table c 0 ≡ 0) → CartsTaken first 0 table
-taken_none size blank = record { size = size; marked = λ k l. absurd (omega arith); only = λ c. inl (blank c) }
+-- The table of the carts that have paths.
+pub record TakenTo (paths : List Ride) (k : ℕ) (table : List Bool) : Type 0 where
+  pub size : length table ≡ max_carts
+  pub marked : (i : ℕ) → i < k → get_or table (cart_at paths i) false ≡ true
+  pub only : (c : ℕ) → get_or table c false ≡ true → Some k (λ i. cart_at paths i ≡ c)
 
-pub taken_more : {first table : List ℕ} {k a : ℕ} → CartsTaken first k table → a ≡ get_or first k 0 → a < max_carts → CartsTaken first (k + 1) (set table a 1)
-taken_more {first} {table} {k} {a} w e few = record {
-  size = simp length-set w.size;
-  marked = λ i l. marked i (dec_eq (get_or first i 0) a) (dec-lt i k) l;
-  only = λ c. only c (dec_eq c a) (w.only c);
-}
+blank : (n c : ℕ) → get_or (replicate n false) c false ≡ false
+blank zero c = refl
+blank (suc n) zero = refl
+blank (suc n) (suc c) = blank n c
+
+pub taken_none : (paths : List Ride) → TakenTo paths 0 (replicate max_carts false)
+taken_none paths = record { size = length-replicate max_carts false; marked = λ i l. absurd (omega arith); only = λ c e. nope (cc (blank max_carts c)) }
+
+pub taken_more : {paths : List Ride} {table : List Bool} {k a : ℕ} → TakenTo paths k table → a ≡ cart_at paths k → a < max_carts → TakenTo paths (k + 1) (set table a true)
+taken_more {paths} {table} {k} {a} w e few = record { size = simp length-set w.size; marked = λ i l. marked i (dec_eq (cart_at paths i) a) (dec-lt i k) l; only = λ c. only c (dec_eq c a) }
   where
-    new : get_or (set table a 1) a 0 ≡ 1
-    new = get_or-set_same table a 1 0 (omega (arith, w.size))
+    new : get_or (set table a true) a false ≡ true
+    new = get_or-set_same table a true false (omega (arith, w.size))
 
-    marked : (i : ℕ) → Dec (get_or first i 0 ≡ a) → Dec (i < k) → i < k + 1 → get_or (set table a 1) (get_or first i 0) 0 ≡ 1
+    marked : (i : ℕ) → Dec (cart_at paths i ≡ a) → Dec (i < k) → i < k + 1 → get_or (set table a true) (cart_at paths i) false ≡ true
     marked i (yes q) d l = rw q new
-    marked i (no n) (yes m) l = get_or-set_other table a (get_or first i 0) 1 0 n ∙ w.marked i m
-    marked i (no n) (no m) l = let z : i ≡ k = omega arith in absurd (n (ap (λ x. get_or first x 0) z ∙ sym e))
+    marked i (no n) (yes m) l = get_or-set_other table a (cart_at paths i) true false n ∙ w.marked i m
+    marked i (no n) (no m) l = let z : i ≡ k = omega arith in absurd (n (ap (cart_at paths) z ∙ sym e))
 
-    only : (c : ℕ) → Dec (c ≡ a) → (get_or table c 0 ≡ 0) ⊎ Some k (λ i. get_or first i 0 ≡ c) → (get_or (set table a 1) c 0 ≡ 0) ⊎ Some (k + 1) (λ i. get_or first i 0 ≡ c)
-    only c (yes q) o = inr (k, omega arith, sym e ∙ sym q)
-    only c (no n) (inl z) = inl (get_or-set_other table a c 1 0 n ∙ z)
-    only c (no n) (inr (i, l, z)) = inr (i, omega arith, z)
-
-pub taken_all : {first table : List ℕ} {k n : ℕ} → k ≡ n → CartsTaken first k table → CartsTaken first n table
-taken_all e w = rw (← e) w
+    only : (c : ℕ) → Dec (c ≡ a) → get_or (set table a true) c false ≡ true → Some (k + 1) (λ i. cart_at paths i ≡ c)
+    only c (yes q) t = (k, omega arith, sym e ∙ sym q)
+    only c (no n) t = let (i, l, z) = w.only c (sym (get_or-set_other table a c true false n) ∙ t) in (i, omega arith, z)

@@ -1,9 +1,9 @@
 -- Carts that no call gets, and the lines that they are given in the flow.
-use Rattle.std.specs.Prelude.{ℕ, suc, ◌≤◌, ◌<◌, ◌≡◌, List, ◌⊎◌, length, get_or}
-use Rattle.model.specs.Limits.{max_carts}
+use Rattle.std.specs.Prelude.{ℕ, suc, ◌<◌, ◌≡◌, List, [], Bool, true, false, length, get_or}
 use Rattle.model.specs.Lists.{In}
-use Rattle.model.specs.Job.{Job, Call, cart_cell}
+use Rattle.model.specs.Job.{Job, Call}
 use Rattle.model.specs.Choke.{point}
+use Rattle.job.specs.declared.held.Ride.{Ride}
 use Rattle.job.specs.Held.{Some}
 use Rattle.flow.specs.Flow.{off, end}
 use Rattle.network.specs.declared.planes.Grid.{Grid}
@@ -26,14 +26,9 @@ pub record StartsMore (j : Job) (s s' : List ℕ) (c : ℕ) : Type 0 where
   pub new : Started j s' c
   pub old : (d : ℕ) → Started j s d → Started j s' d
 
--- The array has the carts' cells.
-pub record Starts (j : Job) (starts : List ℕ) (carts : ℕ) : Type 0 where
-  pub counted : length j.carts ≡ carts
-  pub cells : (k : ℕ) → k < carts → cart_cell j k ≡ get_or starts k 0
-
--- The flow serves every call.
-pub record Unkept (j : Job) (starts : List ℕ) (carts : ℕ) (grid : Grid) (s : List ℕ) : Type 0 where
-  pub listed : Starts j starts carts
+-- The flow serves every call; the list has the carts' cells.
+pub record Unkept (j : Job) (carts : List ℕ) (grid : Grid) (s : List ℕ) : Type 0 where
+  pub listed : j.carts ≡ carts
   pub holds : Holds j grid s
   pub full : (q : Call) → In q j.calls → on_link j s (node_of j q) ≡ end
 
@@ -42,21 +37,14 @@ pub record AllKept (j : Job) (grid : Grid) (s : List ℕ) : Type 0 where
   pub keeps : KeepsAll j grid s
   pub all : (c : ℕ) → In c j.carts → Started j s c
 
--- The table marks the carts of the first n lines, and no others.
-pub record CartsTaken (first : List ℕ) (n : ℕ) (table : List ℕ) : Type 0 where
-  pub size : length table ≡ max_carts
-  pub marked : (k : ℕ) → k < n → get_or table (get_or first k 0) 0 ≡ 1
-  pub only : (c : ℕ) → (get_or table c 0 ≡ 0) ⊎ Some n (λ k. get_or first k 0 ≡ c)
+-- the k-th ride, and its cart
+abbrev pub ride_at : List Ride → ℕ → Ride
+ride_at rides k = get_or rides k (record { cart = 0; call = 0; last = 0; cells = [] })
 
--- The first n lines are those of known carts, no cart twice.
-pub record OwnCarts (first : List ℕ) (n carts : ℕ) : Type 0 where
-  pub known : (k : ℕ) → k < n → get_or first k 0 < carts
-  pub own : (i k : ℕ) → i < n → k < n → get_or first i 0 ≡ get_or first k 0 → i ≡ k
+abbrev pub cart_at : List Ride → ℕ → ℕ
+cart_at rides k = (ride_at rides k).cart
 
--- Behind them are those of the other carts, by number, so that every cart has a line.
-pub record SparesListed (first first' : List ℕ) (n carts : ℕ) : Type 0 where
-  pub size : length first' ≡ max_carts
-  pub kept : (k : ℕ) → k < n → get_or first' k 0 ≡ get_or first k 0
-  pub known : (k : ℕ) → n ≤ k → k < carts → get_or first' k 0 < carts
-  pub spare : (i k : ℕ) → i < n → n ≤ k → k < carts → get_or first' i 0 ≡ get_or first' k 0 → ⊥
-  pub rises : (k : ℕ) → n ≤ k → suc k < carts → get_or first' k 0 < get_or first' (suc k) 0
+-- The table marks the paths' carts, and no others.
+pub record CartsTaken (paths : List Ride) (table : List Bool) : Type 0 where
+  pub marked : (k : ℕ) → k < length paths → get_or table (cart_at paths k) false ≡ true
+  pub only : (c : ℕ) → get_or table c false ≡ true → Some (length paths) (λ k. cart_at paths k ≡ c)

@@ -9,8 +9,6 @@ ghost use Rattle.network.specs.Keeping.{KeepsAll, LooseAt, SameStarts};
 ghost use Rattle.network.specs.Holds.{Holds};
 ghost use Rattle.answer.specs.Spares.{linked, StartsMore, Unkept, AllKept};
 
-use model::Limits;
-use model::bytes::wide;
 use network::planes::{Node, Store, Use};
 
 // The cart on the cell at the step stands: the bytes of the two nodes say so.
@@ -61,25 +59,21 @@ fn keep(store: &mut Store<'_>, cell: usize)
     let grid = store.grid;
     store.set_used(grid.place(Node { cell, step: 0 }), Use::Leads);
     let mut at = cell;
-    let mut t = 0;
-    while t + 1 < grid.top {
+    for t in 0..grid.top - 1 {
         at = stand(store, at, t);
-        t += 1;
     }
 }
 
-// Gives each cart that no line uses one of its own.
-pub fn keep_spares(starts: &[u8; Limits::CARTS], carts: usize, store: &mut Store<'_>)
-    requires { (j : model.Job) × Unkept j starts.now carts store.old.grid store.old.bytes.now }
-    ensures { SameStore store.old store.new × ((j : model.Job) → Unkept j starts.now carts store.old.grid store.old.bytes.now → AllKept j store.old.grid store.new.bytes.now) }
+// Gives each cart that no line uses one of its own. The carts are known by their cells.
+pub fn keep_spares(carts: &[u8], store: &mut Store<'_>)
+    requires { (j : model.Job) × Unkept j carts.now store.old.grid store.old.bytes.now }
+    ensures { SameStore store.old store.new × ((j : model.Job) → Unkept j carts.now store.old.grid store.old.bytes.now → AllKept j store.old.grid store.new.bytes.now) }
 {
     let grid = store.grid;
-    let mut k = 0;
-    while k < carts {
-        let cell = wide(starts[k]);
+    for cart in carts {
+        let cell = usize::from(*cart);
         if !store.used(grid.place(Node { cell, step: 0 })) {
             keep(store, cell);
         }
-        k += 1;
     }
 }

@@ -1,5 +1,5 @@
--- `keep` meets its contract: the cart's node at step 0 begins its line, and `stand` leads that on, step by step. The invariant: its loose end is on the cell `at` at the step t. The measure is the
--- number of steps left. Assumes nothing.
+-- `keep` meets its contract: the cart's node at step 0 begins its line, and `stand` leads that on, step by step. The invariant: its loose end is on the cell `at` at the step t.
+-- Assumes nothing.
 use mathlib.Core.Path.{◌∙◌, ap}
 use native.Mathlib.Omega.{arith}
 use native.Mathlib.Numerals.{add-one}
@@ -21,10 +21,10 @@ pub set_used-requires : goal.set_used-requires
 set_used-requires c = rw c.place.ensures (start_within c.requires.0.1 c.args.cell c.requires.0.2)
 
 pub loop-t-init : goal.loop-t-init
-loop-t-init c = (c.set_used.ensures.same, omega (arith, top_few c.requires.0.1), λ j h. chain_none h)
+loop-t-init c = (c.set_used.ensures.same, λ j h. chain_none h)
 
-pub overflow_add-t : goal.overflow_add-t
-overflow_add-t c = omega (arith, top_few c.requires.0.1, c.loop-t.invariant.1)
+pub overflow_sub-t-end : goal.overflow_sub-t-end
+overflow_sub-t-end c = omega (arith, top_few c.requires.0.1)
 
 -- The line begins.
 begun : (c : At-loop-t) (j : Job) → KeepsAll j c.args.store.now.grid c.args.store.now.bytes.now → In c.args.cell j.carts
@@ -33,13 +33,7 @@ begun c j k i =
     kept_first k c.args.cell i c.requires.1 (c.set_used.ensures.bytes ∙ ap (λ v. with_used c.args.store.now.grid c.args.store.now.bytes.now v 1) c.place.ensures)
 
 pub stand-at-requires : goal.stand-at-requires
-stand-at-requires c = let (j, k, i) = c.requires.0 in rw c.loop-t.invariant.0.grid ((j, (c.loop-t.invariant.2 j (begun (goal.at.stand-at-requires c).At-loop-t j k i).loose).loose), c.loop-t-test.true)
-
-pub overflow_add-t-in-loop-t : goal.overflow_add-t-in-loop-t
-overflow_add-t-in-loop-t c = omega (arith, top_few c.requires.0.1, c.loop-t.invariant.1)
-
-pub loop-t-smaller : goal.loop-t-smaller
-loop-t-smaller c = omega (arith, c.loop-t.invariant.1)
+stand-at-requires c = let (j, k, i) = c.requires.0 in rw c.loop-t.invariant.0.grid ((j, (c.loop-t.invariant.1 j (begun (goal.at.stand-at-requires c).At-loop-t j k i).loose).loose), omega (arith, c.loop-t-test.true))
 
 pub loop-t-preserved : goal.loop-t-preserved
 loop-t-preserved c =
@@ -47,13 +41,12 @@ loop-t-preserved c =
     let s = l.invariant.0 in
     let e = c.stand-at.ensures in (
       same_more s e.0,
-      omega (arith, c.loop-t-test.true),
-      λ j h. let w = l.invariant.2 j h in let (n, same) = rw s.grid at (e.1 j (rw s.grid w.loose)) in rw (add-one l.t) (chain_more w n same),
+      λ j h. let w = l.invariant.1 j h in let (n, same) = rw s.grid at (e.1 j (rw s.grid w.loose)) in rw (add-one l.t) (chain_more w n same),
     )
 
 pub returns : goal.returns
 returns c =
     let l = c.loop-t in (
       l.invariant.0,
-      λ j k i. let b = begun (goal.at.returns c).At-loop-t j k i in let w = l.invariant.2 j b.loose in kept_last (kept_more b (w.loose, w.starts)) l.invariant.1 c.loop-t-test.false,
+      λ j k i. let b = begun (goal.at.returns c).At-loop-t j k i in let w = l.invariant.1 j b.loose in kept_last (kept_more b (w.loose, w.starts)) (omega (arith, top_few k, l.auto.t-end)) (omega (arith, c.loop-t-test.false)),
     )
