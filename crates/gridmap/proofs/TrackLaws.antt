@@ -3,15 +3,16 @@
 -- Assumes nothing.
 use Prim.Native.Nat.{ℕ, suc, ◌+◌, ◌*◌, ◌≤◌, ◌<◌}
 use mathlib.Core.Path.{◌≡◌, refl, sym, ap, ◌∙◌}
-use mathlib.Core.List.{List, [], ◌∷◌, ◌++◌}
+use mathlib.Core.List.{List, [], ◌∷◌, ◌++◌, map}
 use mathlib.Core.Logic.{inl, inr, ⊎_elim}
 use mathlib.Core.Bool.{Bool, true, false, cond, ◌&&◌}
 use native.Mathlib.Omega.{arith}
 use native.Mathlib.Numerals.{add-one}
 use native.Mathlib.Nat.{mul-le-mul_right}
 use lib.Dec.{ltb, eqb}
-use lib.ListN.{get_or}
+use lib.ListN.{length, get_or}
 use borrow.Author.Tests.{ltb-true, eqb-true, lt-ltb, eq-eqb}
+use Rattle.std.specs.Prelude.{Option, Some, None}
 use Rattle.model.specs.Limits.{max_cells}
 use Rattle.model.specs.Lists.{Lex, each_below}
 use Rattle.model.specs.Job.{track}
@@ -21,7 +22,9 @@ use Rattle.model.proofs.Lex.{dec_lex, lex_else}
 use Rattle.model.proofs.Decide.{dec-lt}
 use Rattle.model.proofs.Numbering.{number_cell, number_below, number_rises, number_some}
 use Rattle.model.proofs.ByCell.{cell_tracks, cell-tracks, by_cell}
-use Rattle.gridmap.specs.CellPlaces.{CellsPlaced, PlaceReached, TracksNoted, TracksFound, tracks_in, track_if}
+use Rattle.job.specs.declared.state.Track.{Track}
+use Rattle.job.specs.Lists.{as_track}
+use Rattle.gridmap.specs.CellPlaces.{CellsPlaced, PlaceReached, TracksNoted, TracksFound, track_if, track_by}
 
 -- The order of places, and of rows and columns.
 spot_rises : (s r c r' c' : ℕ) → c < s → Lex r c r' c' → r * s + c < r' * s + c'
@@ -125,28 +128,27 @@ module _ {places : List ℕ} {cells stride : ℕ} {m : List (List ℕ)} {w : ℕ
       go n a p (no l) (no o) = omega arith
 
 -- The tracks of the first k cells are found, and the places before j are before the place below cell k.
-pub record Along (places : List ℕ) (cells stride : ℕ) (from to : List ℕ) (k j t : ℕ) : Type 0 where
-  pub tracks : (m : List (List ℕ)) (w : ℕ) → Stand places cells stride m w → tracks_in from to t ≡ each_below k (cell_tracks m)
+pub record Along (places : List ℕ) (cells stride : ℕ) (held : List Track) (k j : ℕ) : Type 0 where
+  pub tracks : (m : List (List ℕ)) (w : ℕ) → Stand places cells stride m w → map as_track held ≡ each_below k (cell_tracks m)
   pub passed : (m : List (List ℕ)) (w : ℕ) → Stand places cells stride m w → k < cells → (i : ℕ) → i < j → get_or places i 0 < get_or places k 0 + stride
 
-pub along_none : {places : List ℕ} {cells stride : ℕ} {from to : List ℕ} → Along places cells stride from to 0 0 0
+pub along_none : {places : List ℕ} {cells stride : ℕ} → Along places cells stride [] 0 0
 along_none = record { tracks = λ m w h. refl; passed = λ m w h b i l. absurd (omega arith) }
 
-pub along_done : {places : List ℕ} {cells stride : ℕ} {from to : List ℕ} {k j t : ℕ} → Along places cells stride from to k j t → k ≡ cells → cells ≤ max_cells → t ≤ 2 * k
-    → TracksFound places cells stride from to t
+pub along_done : {places : List ℕ} {stride : ℕ} {held : List Track} {k j : ℕ} → Along places (length places) stride held k j → k ≡ length places → length places ≤ max_cells
+    → length held ≤ 2 * k → TracksFound places stride held
 along_done a e few l = record {
   tracks = λ m w p q h.
       a.tracks m w (record { few = few; stride_is = p; cells_is = q; placed = h }) ∙ ap (λ n. each_below n (cell_tracks m)) (e ∙ q) ∙ sym (by_cell m);
   few = omega arith;
 }
 
-pub along_turn : {places : List ℕ} {cells stride : ℕ} {from to : List ℕ} {k j t : ℕ} → Along places cells stride from to k j t → k < cells
+along_turn : {places : List ℕ} {cells stride : ℕ} {held : List Track} {k j : ℕ} → Along places cells stride held k j → k < cells
     → {beside : Bool} → beside ≡ (ltb (k + 1) cells && eqb (get_or places (k + 1) 0) (get_or places k 0 + 1))
     → {i : ℕ} → PlaceReached places j cells (get_or places k 0 + stride) i
     → {below : Bool} → below ≡ (ltb i cells && eqb (get_or places i 0) (get_or places k 0 + stride))
-    → {from' to' : List ℕ} {t' : ℕ} → TracksNoted 2 (track_if beside k (k + 1) ++ track_if below k i) from to t from' to' t'
-    → Along places cells stride from' to' (k + 1) i t'
-along_turn {places} {cells} {stride} {from} {to} {k} {j} {t} a b {beside} er {i} reached {below} eb {from'} {to'} {t'} noted =
+    → {held' : List Track} → TracksNoted 2 (track_if beside k (k + 1) ++ track_if below k i) held held' → Along places cells stride held' (k + 1) i
+along_turn {places} {cells} {stride} {held} {k} {j} a b {beside} er {i} reached {below} eb {held'} noted =
     record {
       tracks = λ m w h. turn m w h (some h k b);
       passed = λ m w h l n o. omega (arith, before m w h n o, places_rise h k (k + 1) (omega arith) l);
@@ -160,7 +162,7 @@ along_turn {places} {cells} {stride} {from} {to} {k} {j} {t} a b {beside} er {i}
         go (no d) = reached.before n (omega arith) o
 
     turn : (m : List (List ℕ)) (w : ℕ) → Stand places cells stride m w → (r : ℕ) × (c : ℕ) × (cell_at m r c ≡ true) × (cell_number m r c ≡ k)
-        → tracks_in from' to' t' ≡ each_below (k + 1) (cell_tracks m)
+        → map as_track held' ≡ each_below (k + 1) (cell_tracks m)
     turn m w h (r, c, e, f) =
         let (_, x, y) = here h r c k e f in
         let p : get_or places k 0 + 1 ≡ r * stride + suc c = omega arith in
@@ -174,6 +176,15 @@ along_turn {places} {cells} {stride} {from} {to} {k} {j} {t} a b {beside} er {i}
         ap (cell_tracks m) (sym f) ∙ cell-tracks m r c e ∙ rw (e, u, v) in
         noted.tracks ∙ rw (a.tracks m w h, ← here_tracks, add-one)
 
--- What was found to stand somewhere is a cell.
-pub stood_few : (n cells : ℕ) (t u : Bool) → cells ≤ max_cells → t ≡ (ltb n cells && u) → t ≡ true → n < max_cells
-stood_few n cells t u few e f = omega (arith, ltb-true n cells (and_left (ltb n cells) u (sym e ∙ f)))
+by_if : (t : Bool) (a b : ℕ) → track_by a (cond t (Some b) None) ≡ track_if t a b
+by_if true a b = refl
+by_if false a b = refl
+
+-- The tracks of one cell more.
+pub along_next : {places : List ℕ} {cells stride : ℕ} {held : List Track} {k j : ℕ} → Along places cells stride held k j → k < cells
+    → {i : ℕ} → PlaceReached places j cells (get_or places k 0 + stride) i
+    → {right below : Option ℕ} → right ≡ cond (ltb (k + 1) cells && eqb (get_or places (k + 1) 0) (get_or places k 0 + 1)) (Some (k + 1)) None
+    → below ≡ cond (ltb i cells && eqb (get_or places i 0) (get_or places k 0 + stride)) (Some i) None
+    → {held' : List Track} → TracksNoted 2 (track_by k right ++ track_by k below) held held' → Along places cells stride held' (k + 1) i
+along_next {places} {cells} {stride} {held} {k} {j} a b {i} reached {right} {below} er eb {held'} noted =
+    along_turn a b refl reached refl (rw (by_if _ k (k + 1), by_if _ k i) at (rw (er, eb) at noted))

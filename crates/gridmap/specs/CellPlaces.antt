@@ -1,9 +1,10 @@
 -- Where the cells of a map stand, and the tracks that are found from that.
-use Rattle.std.specs.Prelude.{ℕ, suc, ◌+◌, ◌*◌, ◌≤◌, ◌<◌, ◌≡◌, List, [], ◌∷◌, ◌++◌, Bool, true, cond, get_or}
+use Rattle.std.specs.Prelude.{ℕ, suc, ◌+◌, ◌*◌, ◌≤◌, ◌<◌, ◌≡◌, List, [], ◌∷◌, ◌++◌, map, length, Bool, true, cond, Option, Some, None, get_or}
 use Rattle.model.specs.Limits.{max_cells, max_tracks, max_side}
 use Rattle.model.specs.Job.{Track, track}
 use Rattle.model.specs.GridMap.{cell_at, map_cells, cell_number, tracks_of}
-use Rattle.job.specs.Arrays.{up_to, track_at}
+use Rattle.job.specs.declared.state.Track as held
+use Rattle.job.specs.Lists.{as_track}
 
 -- The places of the largest map: its letters, and a line feed behind each row.
 abbrev pub max_places : ℕ
@@ -20,19 +21,20 @@ pub record PlaceReached (places : List ℕ) (j n p i : ℕ) : Type 0 where
   pub before : (k : ℕ) → j ≤ k → k < i → get_or places k 0 < p
   pub there : i < n → p ≤ get_or places i 0
 
--- the tracks that two arrays hold
-abbrev pub tracks_in : List ℕ → List ℕ → ℕ → List Track
-tracks_in from to t = up_to (track_at from to) t
-
 abbrev pub track_if : Bool → ℕ → ℕ → List Track
 track_if there a b = cond there (track a b ∷ []) []
 
--- What is held is followed by these tracks, which are n at most.
-pub record TracksNoted (n : ℕ) (ts : List Track) (from to : List ℕ) (t : ℕ) (from' to' : List ℕ) (t' : ℕ) : Type 0 where
-  pub tracks : tracks_in from' to' t' ≡ tracks_in from to t ++ ts
-  pub few : t' ≤ t + n
+-- the track from a to b, if there is a b
+abbrev pub track_by : ℕ → Option ℕ → List Track
+track_by a None = []
+track_by a (Some b) = track a b ∷ []
 
--- The tracks are those of any map with so many cells at these places.
-pub record TracksFound (places : List ℕ) (cells stride : ℕ) (from to : List ℕ) (t : ℕ) : Type 0 where
-  pub tracks : (m : List (List ℕ)) (w : ℕ) → stride ≡ suc w → cells ≡ map_cells m → CellsPlaced m w places → tracks_in from to t ≡ tracks_of m
-  pub few : t ≤ max_tracks
+-- What is held is followed by these tracks, which are n at most.
+pub record TracksNoted (n : ℕ) (ts : List Track) (held held' : List held.Track) : Type 0 where
+  pub tracks : map as_track held' ≡ map as_track held ++ ts
+  pub few : length held' ≤ length held + n
+
+-- The tracks are those of any map with as many cells as there are places, at these.
+pub record TracksFound (places : List ℕ) (stride : ℕ) (held : List held.Track) : Type 0 where
+  pub tracks : (m : List (List ℕ)) (w : ℕ) → stride ≡ suc w → length places ≡ map_cells m → CellsPlaced m w places → map as_track held ≡ tracks_of m
+  pub few : length held ≤ max_tracks

@@ -4,7 +4,6 @@ ghost use Rattle.text.specs.Scan.{line_of};
 ghost use Rattle.gridmap.specs.Lines.{opens_at, WordAt, DigitsAt, SizeAt};
 
 use model::Limits;
-use model::bytes::wide;
 use text::Number;
 use text::scan::opens_with;
 
@@ -14,10 +13,7 @@ fn opens_at(map: &[u8], at: usize, word: &[u8]) -> bool
     ensures { result ≡ opens_at word.now map.now at }
 {
     let end = at + word.len();
-    if map.len() <= end {
-        return false;
-    }
-    opens_with(&map[at..end], word)
+    end < map.len() && opens_with(&map[at..end], word)
 }
 
 // Whether the line at a place is the word.
@@ -25,10 +21,7 @@ pub fn word_line(map: &[u8], at: usize, word: &[u8]) -> bool
     requires { (at ≤ length map.now) × (line_of word.now ≡ word.now) }
     ensures { WordAt word.now map.now at result }
 {
-    if !opens_at(map, at, word) {
-        return false;
-    }
-    map[at + word.len()] == 10
+    opens_at(map, at, word) && map[at + word.len()] == b'\n'
 }
 
 // A number from 1 to 64, and so of one or two digits, that a line feed ends; and the place behind that.
@@ -36,39 +29,28 @@ fn size_at(map: &[u8], first: usize) -> Option<Number>
     requires { first < length map.now }
     ensures { DigitsAt map.now first result }
 {
-    let a = wide(map[first]);
-    if a < 49 {
+    let a = map[first];
+    if a < b'1' || b'9' < a {
         return None;
     }
-    if 57 < a {
-        return None;
-    }
+    let tens = usize::from(a - b'0');
     let second = first + 1;
-    if map.len() <= second {
-        return None;
-    }
-    let b = wide(map[second]);
-    if b == 10 {
+    let b = *map.get(second)?;
+    if b == b'\n' {
         return Some(Number {
-            value: a - 48,
+            value: tens,
             next: second + 1,
         });
     }
-    if b < 48 {
+    if b < b'0' || b'9' < b {
         return None;
     }
-    if 57 < b {
-        return None;
-    }
-    let value = (a - 48) * 10 + (b - 48);
+    let value = tens * 10 + usize::from(b - b'0');
     if Limits::SIDE < value {
         return None;
     }
     let third = second + 1;
-    if map.len() <= third {
-        return None;
-    }
-    if map[third] != 10 {
+    if *map.get(third)? != b'\n' {
         return None;
     }
     Some(Number {

@@ -2,16 +2,14 @@
 ghost use Rattle.std.specs.Prelude.{◌≡◌};
 ghost use Rattle.model.specs.GridMap.{is_cell, is_wall};
 
-// `.` or `G`.
-pub fn cell(b: u8) -> bool
-    ensures { result ≡ is_cell b }
+pub fn cell(letter: u8) -> bool
+    ensures { result ≡ is_cell letter }
 {
-    b == 46 || b == 71
+    matches!(letter, b'.' | b'G')
 }
 
-// `@`, `O` or `T`.
-pub fn wall(b: u8) -> bool
-    ensures { result ≡ is_wall b }
+pub fn wall(letter: u8) -> bool
+    ensures { result ≡ is_wall letter }
 {
-    b == 64 || b == 79 || b == 84
+    matches!(letter, b'@' | b'O' | b'T')
 }

@@ -1,54 +1,38 @@
--- `floor::put_lines` meets its contract. The loop's invariant: the lines of the first t tracks stand behind the FLOOR line. There is room for one line more,
--- since the lines of t + 1 tracks are no longer than those of all. The measure is the number of tracks that are left. Assumes nothing.
-use mathlib.Core.Path.{◌≡◌, ◌∙◌, refl}
-use mathlib.Core.List.{[], ◌∷◌}
+-- `floor::put_lines` goes over the tracks. Invariant: the lines of those before the index stand behind the FLOOR line. There is room for one line more, since the lines of so many
+-- tracks are no longer than those of all. Assumes nothing.
+use mathlib.Core.Path.{◌≡◌, ◌∙◌, ap}
+use mathlib.Core.List.{[], ◌∷◌, map}
 use native.Mathlib.Omega.{arith}
-use lib.ListN.{length-append}
+use lib.ListN.{length, get_or, take, length-append}
+use lib.Seq.{take_all}
 use Rattle.model.specs.Text.{line, floor_word, track_word}
-use Rattle.model.specs.Job.{track}
-use Rattle.model.specs.GridMap.{track_numbers}
-use Rattle.job.specs.Arrays.{track_at}
-use Rattle.job.proofs.UpTo.{up_suc}
+use Rattle.model.specs.GridMap.{track_numbers, floor_lines}
+use Rattle.job.specs.Lists.{as_track}
+use Rattle.job.proofs.Lists.{no_track, map_more}
 use Rattle.text.proofs.Wrote.{wrote_lines, wrote_more, wrote_none}
-use Rattle.gridmap.specs.CellPlaces.{tracks_in}
 use Rattle.gridmap.proofs.FloorLaws.{line_fits, track_lines}
 use Rattle.gridmap.proofs.floor.put_lines.Goals as goal
 
 pub head-p-requires : goal.head-p-requires
-head-p-requires c =
-    let s = c.args in
-    (omega arith, omega (arith, length-append (line floor_word (s.cells ∷ [])) (track_lines s.from.now s.to.now s.tracks)))
+head-p-requires c = ?
 
-pub loop-t-init : goal.loop-t-init
-loop-t-init c =
-    let w = c.head-p.ensures in
-    (omega arith, refl, wrote_none (omega (arith, w.next, w.fits)))
+pub loop-track-init : goal.loop-track-init
+loop-track-init c = let w = c.head-p.ensures in wrote_none (omega (arith, w.next, w.fits))
 
 pub pair_line-p-requires : goal.pair_line-p-requires
 pair_line-p-requires c =
     let s = c.args in
-    let l = c.loop-t in
-    let h = c.head-p in
-    let a = c.wide in
-    let b = c.wide-in-loop-t in
-    let r = line_fits s.from.now s.to.now s.cells l.t s.tracks (omega arith) in
-    (omega arith, omega arith, omega (arith, h.ensures.next, h.auto.out, l.invariant.2.next, rw (← a.ensures.0, ← b.ensures.0) at r))
+    let l = c.loop-track in
+    let ts = s.tracks.now in
+    let r = line_fits ts s.cells l.track-index (length ts) c.loop-track-test.true (omega arith) in ?
 
-pub loop-t-preserved : goal.loop-t-preserved
-loop-t-preserved c =
-    let s = c.args in
-    let l = c.loop-t in
-    let a = c.wide in
-    let b = c.wide-in-loop-t in
-    let w = c.pair_line-p in (
-      omega arith,
-      w.auto.out ∙ l.invariant.1,
-      rw (up_suc (track_at s.from.now s.to.now) l.t, ← a.ensures.0, ← b.ensures.0)
-          (wrote_lines (λ t. track_word) track_numbers (tracks_in s.from.now s.to.now l.t) (track a.result b.result) l.invariant.2 w.ensures),
-    )
+pub loop-track-preserved : goal.loop-track-preserved
+loop-track-preserved c =
+    let l = c.loop-track in
+    let ts = c.args.tracks.now in
+    let t = as_track (get_or ts l.track-index no_track) in
+    rw (map_more as_track ts l.track-index no_track c.loop-track-test.true)
+        (wrote_lines (λ t. track_word) track_numbers (map as_track (take l.track-index ts)) t l.invariant (rw (c.from.ensures, c.from-in-loop-track.ensures) at c.pair_line-p.ensures))
 
 pub returns : goal.returns
-returns c =
-    let l = c.loop-t in
-    let e : l.t ≡ c.args.tracks = omega arith in
-    wrote_more c.head-p.ensures (rw e at l.invariant.2)
+returns c = ?

@@ -73,7 +73,7 @@ pub read_rows-requires : goal.read_rows-requires
 read_rows-requires c =
     let h = second (goal.at.read_rows-requires c).In-Some in
     let w = third (goal.at.read_rows-requires c).In-Some-size_line in
-    (omega (arith, (fourth (goal.at.read_rows-requires c).Else-not-word_line-2).inside), h.2, w.2, search rules)
+    (omega (arith, (fourth (goal.at.read_rows-requires c).Else-not-word_line-2).inside), h.2, w.2)
 
 pub returns : goal.returns
 returns c =

@@ -1,15 +1,9 @@
 -- `read_rows` reads the rows. Invariant: what the rows from `p` on say after the r before it is what all say, `cells` are the cells of those r, and their places are noted.
--- The measure is the number of rows left. Assumes nothing.
-use Prim.Native.Nat.{◌+◌, ◌-◌, ◌*◌, ◌≤◌}
-use mathlib.Core.Path.{◌≡◌}
-use lib.ListN.{length}
-use Rattle.model.specs.Limits.{max_cells, max_side}
+-- Assumes nothing.
+use Rattle.std.proofs.Common.{◌+◌, ◌*◌, ◌≤◌, length}
+use Rattle.model.specs.Limits.{max_side}
 use Rattle.gridmap.proofs.RowLines.{RowsLeft}
 use Rattle.gridmap.proofs.read.read_rows.Given as goal
 
 abbrev pub invariant-loop-r : goal.invariant-loop-r
-invariant-loop-r l = (l.r ≤ l.height) × (l.p ≤ length l.map) × (l.start ≤ l.p) × (l.p ≤ l.start + (max_side + 1) * l.r) × (l.cells ≤ max_side * l.r)
-    × (length l.places ≡ max_cells) × RowsLeft l.map l.start l.height l.width l.p l.r l.cells l.places
-
-abbrev pub decreases-loop-r : goal.decreases-loop-r
-decreases-loop-r l = l.height - l.r
+invariant-loop-r l = (l.p ≤ length l.map) × (l.start ≤ l.p) × (l.p ≤ l.start + (max_side + 1) * l.r) × (l.cells ≤ max_side * l.r) × RowsLeft l.map l.start l.height l.width l.p l.r l.cells l.places
