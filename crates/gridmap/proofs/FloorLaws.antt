@@ -6,6 +6,7 @@ use mathlib.Core.List.{List, [], ◌∷◌, append-nil, map}
 use native.Mathlib.Omega.{arith}
 use native.Mathlib.Numerals.{add-one}
 use lib.ListN.{length, get_or, take, length-append}
+use lib.Seq.{take_all}
 use Rattle.model.specs.Text.{numeral, line, floor_word, track_word}
 use Rattle.model.specs.SheetText.{lines_text}
 use Rattle.model.specs.GridMap.{floor_lines, track_numbers}
@@ -42,6 +43,8 @@ module _ (ts : List Track) where
       go (no m) g = omega (arith, g (omega arith) (omega arith), rw add-one at (lines_more n (omega arith)))
 
   -- the FLOOR line, the lines of the first t tracks and the line of the next one are no longer than all lines
-  pub line_fits : (cells t n : ℕ) → t < n → n ≤ length ts
-      → length (line floor_word (cells ∷ [])) + length (track_lines ts t) + length (next_line ts t) ≤ length (floor_lines cells (map as_track (take n ts)))
-  line_fits cells t n h l = rw (length-append (line floor_word (cells ∷ [])) (track_lines ts n)) (omega (arith, lines_more t (omega arith), lines_grow (t + 1) n (omega arith) l))
+  pub line_fits : (cells t : ℕ) → t < length ts
+      → length (line floor_word (cells ∷ [])) + length (track_lines ts t) + length (next_line ts t) ≤ length (floor_lines cells (map as_track ts))
+  line_fits cells t h =
+      let all : map as_track (take (length ts) ts) ≡ map as_track ts = ap (map as_track) (take_all (length ts) ts (omega arith)) in
+      rw (← all, length-append (line floor_word (cells ∷ [])) (track_lines ts (length ts))) (omega (arith, lines_more t h, lines_grow (t + 1) (length ts) (omega arith) (omega arith)))

@@ -38,13 +38,9 @@ pub fn put_lines(cells: usize, tracks: &[Track], out: &mut [u8]) -> usize
 {
     let mut p = put::head(out, 0, b"FLOOR", cells);
     for track in tracks {
-        p = put::pair_line(
-            out,
-            p,
-            b"TRACK",
-            usize::from(track.from),
-            usize::from(track.to),
-        );
+        let a = usize::from(track.from);
+        let b = usize::from(track.to);
+        p = put::pair_line(out, p, b"TRACK", a, b);
     }
     p
 }

@@ -39,7 +39,12 @@ fn note_place(n: usize, place: usize, places: &mut [usize; Limits::CELLS])
 
 // The number of the next cell behind a row whose first letter stands at `first`, after so many cells, if it has no other letters. The place of each of its cells is noted under the
 // cell's number.
-fn read_row(row: &[u8], first: usize, cells: usize, places: &mut [usize; Limits::CELLS]) -> Option<usize>
+fn read_row(
+    row: &[u8],
+    first: usize,
+    cells: usize,
+    places: &mut [usize; Limits::CELLS],
+) -> Option<usize>
     requires { (length row.now ≤ max_side) × (first ≤ max_places) × (cells ≤ max_places) }
     ensures { RowRead row.now first cells places.old places.new result }
 {
@@ -96,17 +101,21 @@ pub fn read_map(map: &[u8], places: &mut [usize; Limits::CELLS]) -> Result<Rows,
     if !word_line(map, 0, b"type octile") {
         return Err(BadLine { line: 1 });
     }
-    let Some(Number {
-        value: height,
-        next: third,
-    }) = size_line(map, 12, b"height ")
+    let Some(
+        Number {
+            value: height,
+            next: third,
+        },
+    ) = size_line(map, 12, b"height ")
     else {
         return Err(BadLine { line: 2 });
     };
-    let Some(Number {
-        value: width,
-        next: fourth,
-    }) = size_line(map, third, b"width ")
+    let Some(
+        Number {
+            value: width,
+            next: fourth,
+        },
+    ) = size_line(map, third, b"width ")
     else {
         return Err(BadLine { line: 3 });
     };

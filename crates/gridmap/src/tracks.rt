@@ -46,7 +46,12 @@ fn note(tracks: &mut ArrayVec<Track, { Limits::TRACKS }>, a: usize, b: Option<us
 }
 
 // The tracks of cell a, in this order.
-fn note_cell(tracks: &mut ArrayVec<Track, { Limits::TRACKS }>, a: usize, right: Option<usize>, below: Option<usize>)
+fn note_cell(
+    tracks: &mut ArrayVec<Track, { Limits::TRACKS }>,
+    a: usize,
+    right: Option<usize>,
+    below: Option<usize>,
+)
     requires { (a < max_cells) × IfSome right (λ n. n < max_cells) × IfSome below (λ n. n < max_cells) × (array_vec_len tracks.old + 1 < max_tracks) }
     ensures { TracksNoted 2 (track_by a right ++ track_by a below) tracks.old.items tracks.new.items }
 {

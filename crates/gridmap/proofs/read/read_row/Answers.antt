@@ -3,8 +3,7 @@ use Prim.Native.Nat.{◌+◌}
 use mathlib.Core.Path.{◌≡◌, sym, ap, ◌∙◌}
 use mathlib.Core.Bool.{true, false}
 use native.Mathlib.Omega.{arith}
-use lib.ListN.{length, get_or, set, length-set}
-use Rattle.model.specs.Limits.{max_cells}
+use lib.ListN.{length, get_or, length-set}
 use Rattle.model.specs.GridMap.{is_cell, is_wall}
 use Rattle.gridmap.proofs.RowWalk.{walked_none, walked_cell, walked_wall, walked_bad, walked_all}
 use Rattle.gridmap.proofs.read.read_row.Goals as goal
@@ -27,9 +26,11 @@ loop-c-preserved c =
     let row = a.row.now in
     elim c.if-cell.branch [
       | then-cell w ↦
-          let e : is_cell (get_or row l.c 0) ≡ true = sym c.cell.ensures ∙ w.if-cell.true in
-          (omega (arith, w.n-is), walked_cell row a.first a.cells a.places.now l.invariant.1 (omega arith) e
-              (sym (length-set l.places l.n (a.first + l.c)) ∙ ap length (sym w.note_place.ensures) ∙ w.note_place.array_long) (w.places-is ∙ w.note_place.ensures) w.n-is)
+          let e : is_cell (get_or row l.c 0) ≡ true = sym c.cell.ensures ∙ w.if-cell.true in (
+            omega (arith, w.n-is),
+            walked_cell row a.first a.cells a.places.now l.invariant.1 (omega arith) e
+                (sym (length-set l.places l.n (a.first + l.c)) ∙ ap length (sym w.note_place.ensures) ∙ w.note_place.array_long) (w.places-is ∙ w.note_place.ensures) w.n-is,
+          )
       | else-cell+else-not-wall w ↦
           let e : is_cell (get_or row l.c 0) ≡ false = sym c.cell.ensures ∙ w.if-cell.false in
           let f : is_wall (get_or row l.c 0) ≡ true = sym w.wall.ensures ∙ w.if-not-wall.false in

@@ -1,6 +1,5 @@
 -- `read_row` reads a row. Invariant: the first c letters are walked over, and no more cells than letters were counted. Assumes nothing.
-use Rattle.std.proofs.Common.{◌+◌, ◌≤◌, ◌≡◌, length}
-use Rattle.model.specs.Limits.{max_cells}
+use Rattle.std.proofs.Common.{◌+◌, ◌≤◌}
 use Rattle.gridmap.proofs.RowWalk.{Walked}
 use Rattle.gridmap.proofs.read.read_row.Given as goal
 

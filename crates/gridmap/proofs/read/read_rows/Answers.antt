@@ -6,7 +6,6 @@ use mathlib.Core.Bool.{false, false≢true}
 use native.Mathlib.Omega.{arith}
 use lib.ListN.{length, take, drop, length-drop}
 use lib.Seq.{length-take-le}
-use borrow.Author.Rules.{rules}
 use Rattle.model.specs.GridMap.{all_letters}
 use Rattle.gridmap.specs.Drawing.{GoodRow, RowRead}
 use Rattle.std.specs.Prelude.{Some}
