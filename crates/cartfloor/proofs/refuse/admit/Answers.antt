@@ -1,24 +1,9 @@
--- `refuse::admit` decides what both calls decide first: each return is a case of the reader's verdict and of the store's length. Assumes nothing.
-use native.Mathlib.Omega.{arith}
-use Rattle.cartfloor.proofs.Verdicts.{admit_refused, read_whole, admit_short, admit_long}
+-- `admit` tests the store of a job that was read, and so has no more cells than a job may have. Assumes nothing.
+use mathlib.Core.Path.{sym, ap, ◌∙◌}
+use Rattle.job.specs.Lists.{job_of}
+use Rattle.model.proofs.Ready.{read_ready}
+use Rattle.reader.specs.Reading.{verdict_of}
 use Rattle.cartfloor.proofs.refuse.admit.Goals as goal
 
-pub returns-in-Refused : goal.returns-in-Refused
-returns-in-Refused c =
-    let r = c.read-reading in
-    admit_refused c.args.text.now c.args.lent r.result r.ensures _ _ c.in-Refused.is
-
 pub store_least-requires : goal.store_least-requires
-store_least-requires c =
-    let r = c.read-reading in
-    (r.ensures.sized, (read_whole c.args.text.now c.args.lent r.result r.ensures c.in_default.is).fit.few_cells)
-
-pub returns-then-lent-store_least : goal.returns-then-lent-store_least
-returns-then-lent-store_least c =
-    let r = c.read-reading in
-    admit_short c.args.text.now c.args.lent r.result r.ensures c.in_default.is (omega (arith, c.if-lent-store_least.true, c.store_least.ensures))
-
-pub returns : goal.returns
-returns c =
-    let r = c.read-reading in
-    admit_long c.args.text.now c.args.lent r.result r.ensures c.in_default.is (omega (arith, c.if-lent-store_least.false, c.store_least.ensures))
+store_least-requires c = (read_ready c.args.text.now (job_of c.in_ok-job.job) (sym c.read.ensures.says ∙ ap verdict_of c.in_ok-job.was)).fit.few_cells
