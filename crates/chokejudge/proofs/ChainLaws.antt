@@ -1,88 +1,94 @@
--- The chains of the calls: one call more becomes the last of its step, and the last before it comes behind it; one with a key past all steps leaves them as they are. Assumes nothing.
-use Prim.Native.Nat.{ℕ, ◌+◌, ◌-◌, ◌≤◌, ◌<◌}
+-- The chains of the bays: a bay more becomes the last of its step, and the last before it comes behind it; a lift leaves them as they are. Along a chain each bay of the step is met.
+-- Assumes nothing.
+use Prim.Native.Nat.{ℕ, zero, suc, ◌+◌, ◌≤◌, ◌<◌}
 use mathlib.Core.Path.{◌≡◌, refl, sym, ◌∙◌, ap, subst}
 use mathlib.Core.List.{List}
 use mathlib.Core.Logic.{⊎_elim}
 use native.Mathlib.Omega.{arith}
 use native.Mathlib.Nat.{eq-or-lt_of_le}
-use lib.ListN.{length, get_or, set, replicate, length-set, length-replicate}
-use Rattle.model.specs.Limits.{max_calls}
-use Rattle.floor.specs.Made.{never}
-use Rattle.floor.proofs.TableLaws.{AfterSet, new, old, after_set, zeros}
-use Rattle.chokejudge.specs.Chains.{LastOf, Chains}
+use native.Mathlib.Decide.{ℕ_discrete}
+use lib.ListN.{length, get_or, set, replicate}
+use Rattle.std.specs.Prelude.{Option, None, Some}
+use Rattle.std.proofs.lemmas.List.{get_or-set_same, get_or-set_other}
+use Rattle.model.specs.Limits.{max_steps}
+use Rattle.model.specs.Job.{lift, bay}
+use Rattle.model.proofs.Decisions.{no_bay}
+use Rattle.job.specs.Lists.{kinds_of, deadlines_of}
+use Rattle.job.specs.declared.state.Call.{Call}
+use Rattle.chokejudge.specs.declared.calls.Chains.{Chains}
+use Rattle.chokejudge.specs.ChokeLayers.{BayAt}
+use Rattle.chokejudge.specs.Chains.{LastOf, Chained}
 use Rattle.chokejudge.proofs.Numbers.{below_or}
 
-pub chains_none : (key : ℕ → ℕ) (before z latest : List ℕ) → length before ≡ max_calls → length z ≡ never → latest ≡ replicate (length z) 0 → Chains key 0 latest before
-chains_none key before z latest h g e = record {
-  steps = ap length e ∙ length-replicate {A = ℕ} (length z) 0 ∙ g;
-  calls = h;
-  last = λ t b. let q : get_or latest t 0 ≡ 0 = ap (λ l. get_or l t 0) e ∙ zeros (length z) t in record { few = omega arith; is = λ p. absurd (omega arith); none = λ k p. absurd (omega arith) };
-  back = λ k p. absurd (omega arith);
-}
+nones : (n k : ℕ) → ◌≡◌ {A = Option ℕ} (get_or (replicate n None) k None) None
+nones zero k = refl
+nones (suc n) zero = refl
+nones (suc n) (suc k) = nones n k
 
-module _ (key : ℕ → ℕ) (n : ℕ) where
-  last_here : LastOf key (n + 1) (key n) (n + 1)
-  last_here = record { few = omega arith; is = λ p. let e : n + 1 - 1 ≡ n = omega arith in rw e refl; none = λ k h e. h }
+-- One number more, that P does not hold of.
+last_older : (P : ℕ → Type 0) {n : ℕ} (o : Option ℕ) → (P n → ⊥) → LastOf P n o → LastOf P (n + 1) o
+last_older P {n} None out r = λ k b p. ⊎_elim (λ e. out (subst P e p)) (λ l. r k l p) (eq-or-lt_of_le {n = k} {m = n} (omega arith))
+last_older P {n} (Some h) out (l, p, r) = (omega arith, p, λ k g b q. ⊎_elim (λ e. out (subst P e q)) (λ m. r k g m q) (eq-or-lt_of_le {n = k} {m = n} (omega arith)))
 
-  last_older : (t h : ℕ) → (t ≡ key n → ⊥) → LastOf key n t h → LastOf key (n + 1) t h
-  last_older t h e r = record {
-    few = omega (arith, r.few);
-    is = r.is;
-    none = λ k b f. ⊎_elim (λ z. absurd (e (sym f ∙ ap key z))) (λ l. r.none k l f) (eq-or-lt_of_le {n = k} {m = n} (omega arith));
+module _ (calls : List Call) where
+  pub chained_none : (c : Chains) → c.latest ≡ replicate max_steps None → Chained calls 0 c
+  chained_none c e = record {
+    last = λ t b. rw (e, nones max_steps t) (λ k l. absurd (omega arith));
+    back = λ k l. absurd (omega arith);
   }
 
-  -- A call before the last one.
-  earlier : (k : ℕ) → k < n + 1 → (k ≡ n → ⊥) → k < n
-  earlier k b e = ⊎_elim (λ z. absurd (e z)) (λ l. l) (eq-or-lt_of_le {n = k} {m = n} (omega arith))
+  module _ (n : ℕ) {c : Chains} (r : Chained calls n c) where
+    -- a call before the last one
+    earlier : (k : ℕ) → k < n + 1 → (k ≡ n → ⊥) → k < n
+    earlier k b e = ⊎_elim (λ z. absurd (e z)) (λ l. l) (eq-or-lt_of_le {n = k} {m = n} (omega arith))
 
-  pub chains_past : (latest before : List ℕ) → never ≤ key n → Chains key n latest before → Chains key (n + 1) latest before
-  chains_past latest before h r = record {
-    steps = r.steps;
-    calls = r.calls;
-    last = λ t b. last_older t (get_or latest t 0) (λ e. omega arith) (r.last t b);
-    back = λ k b l. r.back k (earlier k b (λ e. omega (arith, ap key e))) l;
-  }
+    pub chained_past : get_or (kinds_of calls) n lift ≡ lift → Chained calls (n + 1) c
+    chained_past e = record {
+      last = λ t b. last_older (BayAt calls t) (get_or c.latest t None) (λ p. no_bay (sym e ∙ p.0)) (r.last t b);
+      back = λ k b z. r.back k (earlier k b (λ f. no_bay (sym e ∙ sym (ap (λ x. get_or (kinds_of calls) x lift) f) ∙ z))) z;
+    }
 
-  pub chains_more : (latest before : List ℕ) → n < max_calls → key n < never → Chains key n latest before
-      → Chains key (n + 1) (set latest (key n) (n + 1)) (set before n (get_or latest (key n) 0))
-  chains_more latest before h g r = record {
-    steps = length-set latest (key n) (n + 1) ∙ r.steps;
-    calls = length-set before n (get_or latest (key n) 0) ∙ r.calls;
-    last = λ t b. last t b (after_set latest (key n) (n + 1) t (omega (arith, r.steps)));
-    back = λ k b l. back k b l (after_set before n (get_or latest (key n) 0) k (omega (arith, r.calls)));
-  }
-    where
-      last : (t : ℕ) → t < never → AfterSet latest (key n) (n + 1) t → LastOf key (n + 1) t (get_or (set latest (key n) (n + 1)) t 0)
-      last t b (new e f) = rw (f, e) last_here
-      last t b (old e f) = rw f (last_older t (get_or latest t 0) e (r.last t b))
-
-      back : (k : ℕ) → k < n + 1 → key k < never → AfterSet before n (get_or latest (key n) 0) k → LastOf key k (key k) (get_or (set before n (get_or latest (key n) 0)) k 0)
-      back k b l (new e f) = rw (f, e) (r.last (key n) g)
-      back k b l (old e f) = rw f (r.back k (earlier k b e) l)
-
--- Along a chain: the calls from h on whose key is t were looked at, and none is of Q.
-pub record Passed (key : ℕ → ℕ) (n : ℕ) (Q : ℕ → Type 0) (t h : ℕ) : Type 0 where
-  pub few : h ≤ n
-  pub is : 0 < h → key (h - 1) ≡ t
-  pub none : (k : ℕ) → k < n → h ≤ k → key k ≡ t → Q k → ⊥
-
-module _ {key : ℕ → ℕ} {n : ℕ} {latest before : List ℕ} (r : Chains key n latest before) (Q : ℕ → Type 0) (t : ℕ) (b : t < never) where
-  pub passed_none : (m : ℕ) → m ≡ get_or latest t 0 → Passed key n Q t m
-  passed_none m f = let l = r.last t b in rw f (record { few = l.few; is = l.is; none = λ k h g e q. omega (arith, l.none k h e) })
-
-  module _ (h : ℕ) (p : 0 < h) (d : Passed key n Q t h) where
-    pub behind : LastOf key (h - 1) (key (h - 1)) (get_or before (h - 1) 0)
-    behind = r.back (h - 1) (omega (arith, d.few)) (omega (arith, d.is p))
-
-    pub passed_more : (m : ℕ) → m ≡ get_or before (h - 1) 0 → (Q (h - 1) → ⊥) → Passed key n Q t m
-    passed_more m f out = rw f (record {
-      few = omega (arith, d.few, behind.few);
-      is = λ q. behind.is q ∙ d.is p;
-      none = none;
-    })
+    pub chained_more : (c' : Chains) (d : ℕ) → get_or (kinds_of calls) n lift ≡ bay → get_or (deadlines_of calls) n 0 ≡ d → d < length c.latest → n < length c.before
+        → c'.latest ≡ set c.latest d (Some n) → c'.before ≡ set c.before n (get_or c.latest d None) → d < max_steps → Chained calls (n + 1) c'
+    chained_more c' d z e h g f f' small = record { last = λ t b. rw f (last t b (ℕ_discrete t d)); back = λ k b y. rw f' (back k b y (ℕ_discrete k n)) }
       where
-        none : (k : ℕ) → k < n → get_or before (h - 1) 0 ≤ k → key k ≡ t → Q k → ⊥
-        none k g l e q = ⊎_elim
-            (λ m. omega (arith, behind.none k m (e ∙ sym (d.is p))))
-            (λ m. ⊎_elim (λ z. out (subst Q (sym z) q)) (λ o. d.none k g (omega arith) e q) (eq-or-lt_of_le {n = h - 1} {m = k} m))
-            (below_or k (h - 1))
+        last : (t : ℕ) → t < max_steps → Dec (t ≡ d) → LastOf (BayAt calls t) (n + 1) (get_or (set c.latest d (Some n)) t None)
+        last t b (yes q) = rw (q, get_or-set_same c.latest d (Some n) None h) (omega arith, (z, e), λ k l m p. omega arith)
+        last t b (no q) = rw (get_or-set_other c.latest d t (Some n) None q) (last_older (BayAt calls t) (get_or c.latest t None) (λ p. q (sym p.1 ∙ e)) (r.last t b))
+
+        back : (k : ℕ) → k < n + 1 → get_or (kinds_of calls) k lift ≡ bay → Dec (k ≡ n)
+            → LastOf (BayAt calls (get_or (deadlines_of calls) k 0)) k (get_or (set c.before n (get_or c.latest d None)) k None)
+        back k b y (yes q) = rw (q, get_or-set_same c.before n (get_or c.latest d None) None g, e) (r.last d small)
+        back k b y (no q) = rw (get_or-set_other c.before n k (get_or c.latest d None) None q) (r.back k (earlier k b q) y)
+
+-- Along a chain: the calls from `upto` on were looked at, and none of P is one of Q; `next` is the last of P before.
+pub record Walked (P Q : ℕ → Type 0) (n : ℕ) (next : Option ℕ) : Type 0 where
+  pub upto : ℕ
+  pub few : upto ≤ n
+  pub last : LastOf P upto next
+  pub none : (k : ℕ) → upto ≤ k → k < n → P k → Q k → ⊥
+
+module _ {calls : List Call} {n : ℕ} {c : Chains} (r : Chained calls n c) (Q : ℕ → Type 0) (t : ℕ) where
+  pub walked_none : t < max_steps → Walked (BayAt calls t) Q n (get_or c.latest t None)
+  walked_none b = record { upto = n; few = omega arith; last = r.last t b; none = λ k l m. absurd (omega arith) }
+
+  module _ (h : ℕ) (w : Walked (BayAt calls t) Q n (Some h)) where
+    pub met : (h < n) × BayAt calls t h
+    met = (omega (arith, w.few, w.last.0), w.last.1)
+
+    pub walked_more : (Q h → ⊥) → Walked (BayAt calls t) Q n (get_or c.before h None)
+    walked_more out = record {
+      upto = h;
+      few = omega (arith, w.few, w.last.0);
+      last = rw met.1.1 at (r.back h met.0 met.1.0);
+      none = none;
+    }
+      where
+        none : (k : ℕ) → h ≤ k → k < n → BayAt calls t k → Q k → ⊥
+        none k l m p q = ⊎_elim
+            (λ e. out (subst Q (sym e) q))
+            (λ g. ⊎_elim (λ s. w.last.2 k g s p) (λ s. w.none k s m p q) (below_or k w.upto))
+            (eq-or-lt_of_le {n = h} {m = k} l)
+
+pub walked_all : (P Q : ℕ → Type 0) (n : ℕ) → Walked P Q n None → (k : ℕ) → k < n → P k → Q k → ⊥
+walked_all P Q n w k l p q = ⊎_elim (λ s. w.last k s p) (λ s. w.none k s l p q) (below_or k w.upto)

@@ -6,214 +6,166 @@ use mathlib.Core.List.{List}
 use mathlib.Core.Logic.{⊎_elim, ◌⊎◌, ◌↔◌, inl, inr}
 use native.Mathlib.Omega.{arith}
 use lib.ListN.{length, get_or}
-use Rattle.model.specs.Limits.{max_cells, max_calls, max_steps}
+use Rattle.std.proofs.lemmas.List.{length-map}
+use Rattle.model.specs.Limits.{max_cells, max_steps}
 use Rattle.model.specs.Lists.{In}
-use Rattle.model.specs.Job.{lift, horizon}
+use Rattle.model.specs.Job.{CallKind, lift, bay, horizon}
 use Rattle.model.specs.Walk.{Open, InTime}
-use Rattle.model.specs.Choke.{Point, point, Choke, cell_step, whole_call, KnownChoke, ChokesInOrder}
+use Rattle.model.specs.Choke as choke
+use Rattle.model.specs.Choke.{point, cell_step, whole_call, KnownChoke, ChokesInOrder}
 use Rattle.model.specs.Ready.{Ready}
 use Rattle.model.specs.Promises.{RightChokes}
 use Rattle.model.proofs.Floor.{time_due}
-use Rattle.model.proofs.Basics.{nope}
-use Rattle.model.proofs.Decisions.{no_lift}
-use Rattle.job.specs.Arrays.{call_kind, job_of}
+use Rattle.model.proofs.Decisions.{no_bay}
+use Rattle.job.specs.Lists.{kinds_of, cells_of, deadlines_of, job_of}
+use Rattle.job.specs.Held.{Some, as_choke, as_chokes}
+use Rattle.job.specs.declared.state.Call.{Call}
 use Rattle.job.specs.declared.state.Job.{Job}
-use Rattle.job.specs.Held.{Some, choke_of, choke_at, chokes_to}
-use Rattle.job.proofs.UpTo.{up_count, in_up}
-use Rattle.job.proofs.Arrays.{in_carts, calls_count, call-at, deadline_by}
+use Rattle.job.specs.declared.held.Choke.{Choke}
+use Rattle.job.specs.declared.held.Choke.TheVariants as variant
+use Rattle.job.proofs.Lists.{calls_count, call-at, deadline_by}
+use Rattle.floor.specs.declared.tables.Neighbours.{Neighbours}
 use Rattle.floor.specs.Tables.{OpenAt, Near}
 use Rattle.floor.specs.Made.{Filled, never, closes_at}
 use Rattle.floor.proofs.JobTables.{move_even, near_even, calls_apart, shut_of}
-use Rattle.chokejudge.specs.ChokeLayers.{Placed, Choked, Side, Parted, Closing, MetBy, Reached, SomeMet}
-use Rattle.chokejudge.specs.Grown.{Between}
+use Rattle.chokejudge.specs.ChokeLayers.{Choked, Side, BayOn, Closing, MetBy, Reached, SomeMet}
+use Rattle.chokejudge.specs.Points.{points_in}
 use Rattle.chokejudge.specs.Lifts.{lifted_to, Lifts}
-use Rattle.chokejudge.proofs.Numbers.{below_or}
 use Rattle.chokejudge.proofs.LayerLaws.{layer_known}
+use Rattle.chokejudge.proofs.OrderLaws.{choked, passed}
 use Rattle.chokejudge.proofs.ChokeWalks.{Free, CallFree, chokes}
 
+-- The tables of the calls, by their parts.
+abbrev pub Shuts : List Call → List ℕ → Type 0
+Shuts calls shut = Filled (cells_of calls) (λ k. closes_at (get_or (kinds_of calls) k lift) (get_or (deadlines_of calls) k 0)) never (length calls) shut
+
 -- A cell closes only behind the step of a bay on it.
-pub closing_of : (kinds targets deadlines : List ℕ) {calls : ℕ} {shut : List ℕ} → Filled targets (λ k. closes_at (get_or kinds k 0) (get_or deadlines k 0)) never calls shut
-    → Closing targets calls shut
-closing_of kinds targets deadlines {calls} {shut} r = record { first = λ v h. first v (r.only v h); call = λ v h few. on v few (r.only v h) }
+pub closing_of : (calls : List Call) {shut : List ℕ} → Shuts calls shut → Closing calls shut
+closing_of calls {shut} r = record { first = λ v h. first v (r.only v h); bay = λ t v h few e. on t v few e (r.only v h) }
   where
     Entry : ℕ → Type 0
-    Entry v = (get_or shut v 0 ≡ never) ⊎ Some calls (λ k. (get_or targets k 0 ≡ v) × (get_or shut v 0 ≡ closes_at (get_or kinds k 0) (get_or deadlines k 0)))
+    Entry v = (get_or shut v 0 ≡ never)
+        ⊎ Some (length calls) (λ k. (get_or (cells_of calls) k 0 ≡ v) × (get_or shut v 0 ≡ closes_at (get_or (kinds_of calls) k lift) (get_or (deadlines_of calls) k 0)))
 
-    later : (k d : ℕ) → 0 < closes_at k d
-    later zero d = omega arith
-    later (suc k) d = omega arith
+    later : (k : CallKind) (d : ℕ) → 0 < closes_at k d
+    later lift d = omega arith
+    later bay d = omega arith
 
     first : (v : ℕ) → Entry v → OpenAt shut 0 v
     first v (inl e) = omega arith
-    first v (inr (k, h, (e, f))) = rw f (later (get_or kinds k 0) (get_or deadlines k 0))
+    first v (inr (k, h, (e, f))) = rw f (later (get_or (kinds_of calls) k lift) (get_or (deadlines_of calls) k 0))
 
-    on : (v : ℕ) → get_or shut v 0 ≤ max_steps → Entry v → Some calls (λ k. get_or targets k 0 ≡ v)
-    on v few (inl f) = absurd (omega arith)
-    on v few (inr (k, h, (f, g))) = (k, h, f)
+    parks : (k : CallKind) (d t : ℕ) → t < max_steps → closes_at k d ≡ t + 1 → (k ≡ bay) × (d ≡ t)
+    parks lift d t few e = absurd (omega arith)
+    parks bay d t few e = (refl, omega arith)
 
--- What a choke point is held as.
-cell-of : (x : Choke) → Point → Point
-cell-of (cell_step x) y = x
-cell-of (whole_call k) y = y
-
-number_of : Choke → ℕ
-number_of (cell_step x) = 0
-number_of (whole_call k) = k
-
-held_cell : (kind a b v t : ℕ) → cell_step (point v t) ≡ choke_of kind a b → (kind ≡ 0) × (b ≡ t) × (a ≡ v)
-unfolding cell-of
-held_cell zero a b v t e = let f = ap (λ x. cell-of x (point 0 0)) e in (refl, sym (ap (λ x. x.step) f), sym (ap (λ x. x.cell) f))
-held_cell (suc k) a b v t e = nope (cc)
-
-held_whole : (kind a b k : ℕ) → whole_call k ≡ choke_of kind a b → (0 < kind) × (a ≡ k)
-unfolding number_of
-held_whole zero a b k e = nope (cc)
-held_whole (suc x) a b k e = (omega arith, sym (ap number_of e))
-
-whole_held : (kind a b : ℕ) → 0 < kind → choke_of kind a b ≡ whole_call a
-whole_held zero a b h = absurd (omega arith)
-whole_held (suc k) a b h = refl
+    on : (t v : ℕ) → t < max_steps → get_or shut v 0 ≡ t + 1 → Entry v → BayOn calls t v
+    on t v few e (inl f) = absurd (omega arith)
+    on t v few e (inr (k, h, (f, g))) = (k, h, (f, parks (get_or (kinds_of calls) k lift) (get_or (deadlines_of calls) k 0) t few (sym g ∙ e)))
 
 -- What the kind of a call says of the step at which it is met.
-lifted_in_time : (k d t : ℕ) → t < lifted_to k d → InTime (call_kind k) d t
-lifted_in_time zero d t h = omega arith
-lifted_in_time (suc k) d t h = absurd (omega arith)
-
-parked_in_time : (k d t : ℕ) → t < max_steps → closes_at k d ≡ t + 1 → (call_kind k ≡ lift → ⊥) × InTime (call_kind k) d t
-parked_in_time zero d t few e = absurd (omega arith)
-parked_in_time (suc k) d t few e = (no_lift, omega arith)
+lifted_in_time : (k : CallKind) (d t : ℕ) → t < lifted_to k d → InTime k d t
+lifted_in_time lift d t h = omega arith
+lifted_in_time bay d t h = absurd (omega arith)
 
 module _ (s : Job) (ready : Ready (job_of s)) where
-  pub carts_known : (k : ℕ) → k < s.carts → get_or s.starts k 0 < s.cells
-  carts_known k h = ready.fit.known_carts (get_or s.starts k 0) ((in_carts s (get_or s.starts k 0)).1 (k, h, refl))
+  abbrev calls : List Call
+  calls = s.calls.items
 
-  module _ (first second kinds : List ℕ) {n m : ℕ} (parted : Parted kinds n m)
-      (known : (x : Choke) → In x (chokes_to first second kinds n) → KnownChoke (job_of s) x) where
-    abbrev list : List Choke
-    list = chokes_to first second kinds n
+  abbrev kind : ℕ → CallKind
+  kind k = get_or (kinds_of calls) k lift
 
-    choked : (t v : ℕ) → In (cell_step (point v t)) list ↔ Choked first second m t v
-    choked t v = (there, back)
-      where
-        there : In (cell_step (point v t)) list → Choked first second m t v
-        there i =
-            let (k, b, e) = (in_up (choke_at first second kinds) n (cell_step (point v t))).0 i in
-            let (z, f, g) = held_cell (get_or kinds k 0) (get_or first k 0) (get_or second k 0) v t e in
-            (k, ⊎_elim (λ l. l) (λ l. absurd (omega (arith, parted.whole k l b))) (below_or k m), (f, g))
+  abbrev cell : ℕ → ℕ
+  cell k = get_or (cells_of calls) k 0
 
-        back : Choked first second m t v → In (cell_step (point v t)) list
-        back (k, b, (e, f)) = (in_up (choke_at first second kinds) n (cell_step (point v t))).1 (k, omega (arith, parted.few), rw (parted.cells k b, e, f) refl)
+  abbrev deadline : ℕ → ℕ
+  deadline k = get_or (deadlines_of calls) k 0
 
-    passed : (k : ℕ) → In (whole_call k) list ↔ Between first m n k
-    passed k = (there, back)
-      where
-        there : In (whole_call k) list → Between first m n k
-        there i =
-            let (l, b, e) = (in_up (choke_at first second kinds) n (whole_call k)).0 i in
-            let (p, f) = held_whole (get_or kinds l 0) (get_or first l 0) (get_or second l 0) k e in
-            (l, ⊎_elim (λ g. absurd (omega (arith, parted.cells l g))) (λ g. g) (below_or l m), b, f)
-
-        back : Between first m n k → In (whole_call k) list
-        back (l, lo, hi, e) = (in_up (choke_at first second kinds) n (whole_call k)).1 (l, hi, rw (whole_held (get_or kinds l 0) (get_or first l 0) (get_or second l 0) (parted.whole l lo hi), e) refl)
-
-    pub points_known : (k : ℕ) → k < m → get_or first k 0 < s.cells
-    points_known k b = (known (cell_step (point (get_or first k 0) (get_or second k 0))) ((choked (get_or second k 0) (get_or first k 0)).1 (k, b, (refl, refl)))).0
+  module _ (list : List Choke) (known : (x : choke.Choke) → In x (as_chokes list) → KnownChoke (job_of s) x) where
+    pub points_known : (t v : ℕ) → Choked (points_in list) t v → v < s.cells
+    points_known t v m = (known (cell_step (point v t)) ((choked list t v).1 m)).0
 
     -- a whole call is one at a lift
-    whole_known : (k : ℕ) → Between first m n k → (k < s.calls) × (call_kind (get_or s.kinds k 0) ≡ lift)
-    whole_known k p =
-        let (b, e) = known (whole_call k) ((passed k).1 p) in
-        let h : k < s.calls = omega (arith, b, calls_count s) in
-        (h, sym (ap (λ q. q.kind) (call-at s k h)) ∙ e)
+    whole_known : (k : ℕ) → In (variant.Call k) list → (k < length calls) × (kind k ≡ lift)
+    whole_known k m =
+        let (b, e) = known (whole_call k) ((passed list k).1 m) in
+        (omega (arith, b, calls_count s), sym (ap (λ q. q.kind) (call-at s k)) ∙ e)
 
-    pub calls_known : s.calls ≤ max_calls → (i : ℕ) → m ≤ i → i < n → get_or first i 0 < max_calls
-    calls_known few i lo hi = omega (arith, (whole_known (get_or first i 0) (i, lo, hi, refl)).0)
+    pub calls_known : (k : ℕ) → In (variant.Call k) list → k < length calls
+    calls_known k m = (whole_known k m).0
 
-    module _ {near begin shut : List ℕ} (r : Near (job_of s) near begin)
-        (shuts : Filled s.targets (λ k. closes_at (get_or s.kinds k 0) (get_or s.deadlines k 0)) never s.calls shut) where
-      -- the layers by the arrays
+    module _ {rows : Neighbours} {shut : List ℕ} (r : Near (job_of s) rows.near rows.begin) (shuts : Shuts calls shut) where
       abbrev InLayer : ℕ → ℕ → Type 0
-      InLayer = Reached near begin shut s.starts s.carts first second m
+      InLayer = Reached rows shut s.carts.items (points_in list)
 
       in_floor : (t v : ℕ) → InLayer t v → v < s.cells
-      in_floor = layer_known (Placed s.starts s.carts) (Side near begin) shut (Choked first second m) s.cells (λ v p. rw (sym p.2) (carts_known p.0 p.1))
-          (λ c h. r.all c c h (inl refl)) (near_even r)
+      in_floor = layer_known (λ v. In v s.carts.items) (Side rows) shut (Choked (points_in list)) s.cells ready.fit.known_carts (λ c h. r.all c c h (inl refl)) (near_even r)
 
       opens : (t v : ℕ) → v < s.cells → t ≤ max_steps → OpenAt shut t v ↔ Open (job_of s) t v
       opens t v b few = (shut_of s shuts).opens v t (omega (arith, ready.fit.few_cells)) few
 
-      free : (t v : ℕ) → t ≤ max_steps → InLayer t v ↔ Free (job_of s) list t v
-      free zero v few = (λ p. ((in_carts s v).1 p.0, λ q. p.1 ((choked 0 v).0 q)), λ p. ((in_carts s v).0 p.0, λ q. p.1 ((choked 0 v).1 q)))
+      free : (t v : ℕ) → t ≤ max_steps → InLayer t v ↔ Free (job_of s) (as_chokes list) t v
+      free zero v few = (λ p. (p.0, λ q. p.1 ((choked list 0 v).0 q)), λ p. (p.0, λ q. p.1 ((choked list 0 v).1 q)))
       free (suc t) v few = (λ p. there p (λ u. (free t u (omega arith)).0), λ p. back p (λ u. (free t u (omega arith)).1))
         where
-          there : InLayer (suc t) v → ((u : ℕ) → InLayer t u → Free (job_of s) list t u) → Free (job_of s) list (suc t) v
+          there : InLayer (suc t) v → ((u : ℕ) → InLayer t u → Free (job_of s) (as_chokes list) t u) → Free (job_of s) (as_chokes list) (suc t) v
           there ((u, f, p), o, q) is =
               let l = in_floor t u f in
-              ((u, is u f, (move_even (job_of s) v u (r.only u v l p), (opens (suc t) v (near_even r u v l p).0 few).0 o)), λ x. q ((choked (suc t) v).0 x))
+              ((u, is u f, (move_even (job_of s) v u (r.only u v l p), (opens (suc t) v (near_even r u v l p).0 few).0 o)), λ x. q ((choked list (suc t) v).0 x))
 
-          back : Free (job_of s) list (suc t) v → ((u : ℕ) → Free (job_of s) list t u → InLayer t u) → InLayer (suc t) v
+          back : Free (job_of s) (as_chokes list) (suc t) v → ((u : ℕ) → Free (job_of s) (as_chokes list) t u → InLayer t u) → InLayer (suc t) v
           back ((u, f, (p, o)), q) is =
               let l = in_floor t u (is u f) in
               let i = r.all u v l (move_even (job_of s) u v p) in
-              ((u, is u f, i), (opens (suc t) v (near_even r u v l i).0 few).1 o, λ x. q ((choked (suc t) v).1 x))
+              ((u, is u f, i), (opens (suc t) v (near_even r u v l i).0 few).1 o, λ x. q ((choked list (suc t) v).1 x))
 
-      module _ {due : List ℕ} (lifts : Lifts s.kinds s.targets s.deadlines s.calls first m n due) where
+      module _ {due : List ℕ} (lifts : Lifts calls list due) where
         -- call k is none of the whole calls, and is met at the step t
         abbrev MetAt : ℕ → ℕ → Type 0
-        MetAt k t = (Between first m n k → ⊥) × InTime (call_kind (get_or s.kinds k 0)) (get_or s.deadlines k 0) t
+        MetAt k t = (In (variant.Call k) list → ⊥) × InTime (kind k) (deadline k) t
 
         abbrev MetOn : ℕ → ℕ → Type 0
-        MetOn t v = Some s.calls (λ k. (get_or s.targets k 0 ≡ v) × MetAt k t)
+        MetOn t v = Some (length calls) (λ k. (cell k ≡ v) × MetAt k t)
 
-        met_call : (t v : ℕ) → v < max_cells → t < max_steps → MetBy due shut t v → MetOn t v
-        met_call t v small few (inl l) = ⊎_elim
+        met_call : (t v : ℕ) → v < max_cells → MetBy due calls t v → MetOn t v
+        met_call t v small (inl l) = ⊎_elim
             (λ e. ⊎_elim (λ z. absurd (omega arith)) (go e) (lifts.filled.only v small))
             (λ p. absurd (omega (arith, lifts.passed.gone v p)))
             (lifts.passed.each v)
           where
-            go : get_or due v 0 ≡ get_or lifts.all v 0
-                → Some s.calls (λ k. (get_or s.targets k 0 ≡ v) × (get_or lifts.all v 0 ≡ lifted_to (get_or s.kinds k 0) (get_or s.deadlines k 0))) → MetOn t v
-            go e (k, b, (f, g)) =
-                let out : Between first m n k → ⊥ = λ (i, lo, hi, d). omega (arith, lifts.passed.gone v (i, lo, hi, ap (λ x. get_or s.targets x 0) d ∙ f)) in
-                (k, b, (f, (out, lifted_in_time (get_or s.kinds k 0) (get_or s.deadlines k 0) t (omega arith))))
-        met_call t v small few (inr e) = ⊎_elim (λ z. absurd (omega arith)) go (shuts.only v small)
-          where
-            go : Some s.calls (λ k. (get_or s.targets k 0 ≡ v) × (get_or shut v 0 ≡ closes_at (get_or s.kinds k 0) (get_or s.deadlines k 0))) → MetOn t v
-            go (k, b, (f, g)) =
-                let (bay, soon) = parked_in_time (get_or s.kinds k 0) (get_or s.deadlines k 0) t few (sym g ∙ e) in
-                (k, b, (f, (λ p. bay (whole_known k p).1, soon)))
+            go : get_or due v 0 ≡ get_or lifts.all v 0 → Some (length calls) (λ k. (cell k ≡ v) × (get_or lifts.all v 0 ≡ lifted_to (kind k) (deadline k))) → MetOn t v
+            go e (k, b, (f, g)) = (k, b, (f, (λ m. omega (arith, lifts.passed.gone v (k, m, f)), lifted_in_time (kind k) (deadline k) t (omega arith))))
+        met_call t v small (inr (k, b, (f, (g, e)))) =
+            (k, b, (f, (λ m. no_bay (sym (whole_known k m).1 ∙ g), rw (g, e) refl)))
 
-        call_met : (k t : ℕ) → k < s.calls → MetAt k t → MetBy due shut t (get_or s.targets k 0)
-        call_met k t b (out, soon) = go (get_or s.kinds k 0) (lifts.filled.has k b) (shuts.has k b) soon
+        call_met : (k t : ℕ) → k < length calls → MetAt k t → MetBy due calls t (cell k)
+        call_met k t b (out, soon) = go (kind k) refl (lifts.filled.has k b) soon
           where
-            kept : get_or due (get_or s.targets k 0) 0 ≡ get_or lifts.all (get_or s.targets k 0) 0
-            kept = ⊎_elim (λ e. e)
-                (λ (i, lo, hi, e). absurd (out (i, lo, hi, calls_apart s ready (get_or first i 0) k (whole_known (get_or first i 0) (i, lo, hi, refl)).0 b e)))
-                (lifts.passed.each (get_or s.targets k 0))
+            kept : get_or due (cell k) 0 ≡ get_or lifts.all (cell k) 0
+            kept = ⊎_elim (λ e. e) (λ (q, m, e). absurd (out (rw (calls_apart s ready q k (whole_known q m).0 b e) at m))) (lifts.passed.each (cell k))
 
-            go : (x : ℕ) → get_or lifts.all (get_or s.targets k 0) 0 ≡ lifted_to x (get_or s.deadlines k 0) → get_or shut (get_or s.targets k 0) 0 ≡ closes_at x (get_or s.deadlines k 0)
-                → InTime (call_kind x) (get_or s.deadlines k 0) t → MetBy due shut t (get_or s.targets k 0)
-            go zero e f l = inl (omega (arith, kept))
-            go (suc x) e f l = inr (omega arith)
+            go : (x : CallKind) → kind k ≡ x → get_or lifts.all (cell k) 0 ≡ lifted_to x (deadline k) → InTime x (deadline k) t → MetBy due calls t (cell k)
+            go lift f e l = inl (omega (arith, kept))
+            go bay f e l = inr (k, b, (refl, (f, sym l)))
 
         module _ {last : ℕ} (h : last ≡ horizon (job_of s)) (few : last < max_steps) where
           -- a call that is met refutes the list
-          pub chokes_wrong : SomeMet (MetBy due shut) last InLayer → RightChokes (job_of s) list → ⊥
+          pub chokes_wrong : SomeMet (MetBy due calls) last InLayer → RightChokes (job_of s) (as_chokes list) → ⊥
           chokes_wrong (t, soon, (v, o, i)) truly =
-              let (k, b, (e, (out, met))) = met_call t v (omega (arith, in_floor t v o, ready.fit.few_cells)) (omega arith) i in
-              let q = call-at s k b in
-              (chokes (job_of s) list).1 truly.0.chokes k (omega (arith, calls_count s))
-              (λ p. out ((passed k).0 p), (t, rw q met, rw (q, e) ((free t v (omega arith)).0 o)))
+              let (k, b, (e, (out, met))) = met_call t v (omega (arith, in_floor t v o, ready.fit.few_cells)) i in
+              let q = call-at s k in
+              (chokes (job_of s) (as_chokes list)).1 truly.0.chokes k (omega (arith, calls_count s))
+              (λ p. out ((passed list k).0 p), (t, rw q met, rw (q, e) ((free t v (omega arith)).0 o)))
 
           -- a list that no call refutes is right
-          pub chokes_right : (SomeMet (MetBy due shut) last InLayer → ⊥) → n < s.calls → ChokesInOrder list → RightChokes (job_of s) list
+          pub chokes_right : (SomeMet (MetBy due calls) last InLayer → ⊥) → length list < length calls → ChokesInOrder (as_chokes list) → RightChokes (job_of s) (as_chokes list)
           chokes_right none short order =
-              (record { known = known; few = omega (arith, short, up_count (choke_at first second kinds) n, calls_count s); chokes = (chokes (job_of s) list).0 out }, order)
+              (record { known = known; few = omega (arith, short, length-map list as_choke, calls_count s); chokes = (chokes (job_of s) (as_chokes list)).0 out }, order)
             where
-              out : (k : ℕ) → k < length (job_of s).calls → CallFree (job_of s) list k → ⊥
+              out : (k : ℕ) → k < length (job_of s).calls → CallFree (job_of s) (as_chokes list) k → ⊥
               out k b (whole, (t, met, f)) =
-                  let l : k < s.calls = omega (arith, b, calls_count s) in
-                  let q = call-at s k l in
-                  let met' : InTime (call_kind (get_or s.kinds k 0)) (get_or s.deadlines k 0) t = rw q at met in
-                  let soon : t ≤ last = omega (arith, time_due (call_kind (get_or s.kinds k 0)) (get_or s.deadlines k 0) t met', deadline_by s k l) in
-                  none (t, soon, (get_or s.targets k 0, (free t (get_or s.targets k 0) (omega arith)).1 (rw q at f), call_met k t l (λ p. whole ((passed k).1 p), met')))
+                  let l : k < length calls = omega (arith, b, calls_count s) in
+                  let q = call-at s k in
+                  let met' : InTime (kind k) (deadline k) t = rw q at met in
+                  let soon : t ≤ last = omega (arith, time_due (kind k) (deadline k) t met', deadline_by s k l) in
+                  none (t, soon, (cell k, (free t (cell k) (omega arith)).1 (rw q at f), call_met k t l (λ m. whole ((passed list k).1 m), met')))

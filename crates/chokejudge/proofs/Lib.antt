@@ -1,11 +1,12 @@
-pub mod ChokeWalks
 pub mod Numbers
-pub mod Ranges
-pub mod OrderLaws
+pub mod AnyLaws
 pub mod MemberLaws
 pub mod GrownLaws
-pub mod ClearedLaws
+pub mod PointLaws
+pub mod LiftLaws
 pub mod ChainLaws
 pub mod LayerLaws
+pub mod OrderLaws
 pub mod StepLaws
+pub mod ChokeWalks
 pub mod ChokeLayers

@@ -5,7 +5,7 @@ use mathlib.Core.Path.{◌≡◌}
 use mathlib.Core.List.{List, [], ◌∷◌}
 use native.Mathlib.Omega.{arith}
 use lib.ListN.{length, get_or, set}
-use Rattle.chokejudge.specs.Grown.{members}
+use Rattle.chokejudge.specs.Members.{members}
 
 pub members_le : (l : List ℕ) → members l ≤ length l
 members_le [] = omega arith

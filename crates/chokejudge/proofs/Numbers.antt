@@ -18,5 +18,5 @@ below_or a b = go (ltb a b) refl
     go true e = inl (ltb-true a b e)
     go false e = inr (ltb-false a b e)
 
-pub above : {x : ℕ} → (x ≡ 0 → ⊥) → 0 < x
-above {x} n = ⊎_elim (λ e. absurd (n e)) (λ p. p) (zero_or x)
+pub none : {x : ℕ} → (0 < x → ⊥) → x ≡ 0
+none {x} n = ⊎_elim (λ e. e) (λ p. absurd (n p)) (zero_or x)

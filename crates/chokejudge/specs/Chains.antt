@@ -1,16 +1,18 @@
--- The calls of each step as a chain: from the last to the one before it. Calls with a key past all steps, those at lifts, are in none.
-use Rattle.std.specs.Prelude.{ℕ, ◌-◌, ◌≤◌, ◌<◌, ◌≡◌, List, length, get_or}
-use Rattle.model.specs.Limits.{max_calls}
-use Rattle.floor.specs.Made.{never}
+-- The bays of each step as a chain: from the last to the one before it.
+use Rattle.std.specs.Prelude.{ℕ, ◌<◌, ◌≡◌, List, Option, None, Some, get_or}
+use Rattle.model.specs.Limits.{max_steps}
+use Rattle.model.specs.Job.{lift, bay}
+use Rattle.job.specs.Lists.{kinds_of, deadlines_of}
+use Rattle.job.specs.declared.state.Call.{Call}
+use Rattle.chokejudge.specs.declared.calls.Chains.{Chains}
+use Rattle.chokejudge.specs.ChokeLayers.{BayAt}
 
--- One more than the last of the first n whose key is t, or 0.
-pub record LastOf (key : ℕ → ℕ) (n t h : ℕ) : Type 0 where
-  pub few : h ≤ n
-  pub is : 0 < h → key (h - 1) ≡ t
-  pub none : (k : ℕ) → k < n → key k ≡ t → k < h
+-- The last of the first n that P holds of, if there is one.
+abbrev pub LastOf : (ℕ → Type 0) → ℕ → Option ℕ → Type 0
+LastOf P n None = (k : ℕ) → k < n → P k → ⊥
+LastOf P n (Some h) = (h < n) × P h × ((k : ℕ) → h < k → k < n → P k → ⊥)
 
-pub record Chains (key : ℕ → ℕ) (n : ℕ) (latest before : List ℕ) : Type 0 where
-  pub steps : length latest ≡ never
-  pub calls : length before ≡ max_calls
-  pub last : (t : ℕ) → t < never → LastOf key n t (get_or latest t 0)
-  pub back : (k : ℕ) → k < n → key k < never → LastOf key k (key k) (get_or before k 0)
+-- The chains of the first n calls.
+pub record Chained (calls : List Call) (n : ℕ) (c : Chains) : Type 0 where
+  pub last : (t : ℕ) → t < max_steps → LastOf (BayAt calls t) n (get_or c.latest t None)
+  pub back : (k : ℕ) → k < n → get_or (kinds_of calls) k lift ≡ bay → LastOf (BayAt calls (get_or (deadlines_of calls) k 0)) k (get_or c.before k None)

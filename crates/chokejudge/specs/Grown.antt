@@ -1,55 +1,41 @@
--- A layer as the check holds it: a table with an entry above 0 for each of its cells, and a queue of the cells that were added, with what an added cell or a choke point does to them.
-use Rattle.std.specs.Prelude.{ℕ, zero, suc, ◌+◌, ◌≤◌, ◌<◌, ◌≡◌, List, [], ◌∷◌, ◌⊎◌, length, get_or}
-use Rattle.model.specs.Limits.{max_cells, max_calls}
-use Rattle.chokejudge.specs.ChokeLayers.{Side}
+-- A layer as the check holds it: a table with an entry above 0 for each of its cells, and a queue of the cells that were added; and what an added cell or a choke point does to them.
+use Rattle.std.specs.Prelude.{ℕ, ◌+◌, ◌≤◌, ◌<◌, ◌≡◌, List, ◌++◌, ◌⊎◌, length, get_or, drop, slice_range}
+use Rattle.model.specs.Lists.{In}
+use Rattle.floor.specs.declared.tables.Neighbours.{Neighbours}
+use Rattle.floor.specs.Tables.{OpenAt}
+use Rattle.chokejudge.specs.declared.layer.Point.{Point}
+use Rattle.chokejudge.specs.declared.layer.Layer.{Layer}
+use Rattle.chokejudge.specs.ChokeLayers.{Side, Choked}
+use Rattle.chokejudge.specs.Points.{cells_of, Cursor}
 
--- no cell is added again before a choke point has taken it out
-abbrev pub queue_size : ℕ
-queue_size = max_cells + max_calls
+-- the cells of the last step
+abbrev pub last_cells : Layer → List ℕ
+last_cells a = drop a.head a.queue.items
 
--- how many cells the table has
-abbrev pub members : List ℕ → ℕ
-members [] = 0
-members (zero ∷ l) = members l
-members (suc x ∷ l) = suc (members l)
+-- the points of the last step
+abbrev pub last_points : List Point → Layer → List Point
+last_points points a = slice_range points a.opens a.closed
 
--- v is one of the values of f from a to before b.
-abbrev pub RangeHas : (ℕ → ℕ) → ℕ → ℕ → ℕ → Type 0
-RangeHas f a b v = (k : ℕ) × (a ≤ k) × (k < b) × (f k ≡ v)
+-- v was in the layer before the step t.
+abbrev pub Older : Layer → ℕ → ℕ → Type 0
+Older a t v = (0 < get_or a.since v 0) × (get_or a.since v 0 ≤ t)
 
--- v is one of the entries from a to before b.
-abbrev pub Between : List ℕ → ℕ → ℕ → ℕ → Type 0
-Between l = RangeHas (λ k. get_or l k 0)
+-- v is the cell of one of these points, and an older cell leads to it.
+abbrev pub Again : Neighbours → List Point → Layer → ℕ → ℕ → Type 0
+Again near points a t v = In v (cells_of points) × ((x : ℕ) × Side near v x × Older a t x)
 
--- v was in the table before the cells of stamp s.
-abbrev pub Older : List ℕ → ℕ → ℕ → Type 0
-Older l s v = (0 < get_or l v 0) × (get_or l v 0 < s)
+-- An older one of the cells of the last step leads to v.
+abbrev pub Onward : Neighbours → Layer → ℕ → ℕ → Type 0
+Onward near a t v = (u : ℕ) × In u (last_cells a) × (Older a t u × Side near u v)
 
--- v is one of the points from a to before b, and an older cell leads to it.
-abbrev pub Again : List ℕ → List ℕ → List ℕ → ℕ → ℕ → List ℕ → ℕ → ℕ → Type 0
-Again near begin cells a b l s v = Between cells a b v × ((x : ℕ) × Side near begin v x × Older l s x)
-
--- An older cell of the queue from a to before b leads to v.
-abbrev pub Onward : List ℕ → List ℕ → List ℕ → ℕ → ℕ → List ℕ → ℕ → ℕ → Type 0
-Onward near begin queue a b l s v = (u : ℕ) × Between queue a b u × (Older l s u × Side near begin u v)
-
--- The table and the queue have room for a cell more.
-pub record Roomy (l queue : List ℕ) (n : ℕ) : Type 0 where
-  pub cells : length l ≡ max_cells
-  pub places : length queue ≡ queue_size
-  pub ends : n ≤ members l + max_calls
-
--- The cells of P that were not in the table, and are open at the step before s, were added: to it with the stamp s, and to the end of the queue.
-pub record Grown (shut : List ℕ) (s : ℕ) (P : ℕ → Type 0) (l₀ queue₀ : List ℕ) (n₀ : ℕ) (l queue : List ℕ) (n : ℕ) : Type 0 where
-  pub cells : length l ≡ length l₀
-  pub places : length queue ≡ length queue₀
-  pub more : n₀ ≤ n
-  pub count : n + members l₀ ≡ n₀ + members l
-  pub kept : (v : ℕ) → 0 < get_or l₀ v 0 → get_or l v 0 ≡ get_or l₀ v 0
-  pub only : (v : ℕ) → get_or l₀ v 0 ≡ 0 → 0 < get_or l v 0 → (get_or l v 0 ≡ s) × P v × Between queue n₀ n v
-  pub opened : (v : ℕ) → get_or l₀ v 0 ≡ 0 → 0 < get_or l v 0 → s ≤ get_or shut v 0
-  pub all : (v : ℕ) → P v → s ≤ get_or shut v 0 → 0 < get_or l v 0
-  pub front : (k : ℕ) → k < n₀ → get_or queue k 0 ≡ get_or queue₀ k 0
+-- The cells of P that were not in the layer, and are open at the step t, were added: to the table as those of that step, and to the end of the queue.
+pub record Grown (shut : List ℕ) (t : ℕ) (P : ℕ → Type 0) (a b : Layer) : Type 0 where
+  pub added : List ℕ
+  pub queue : b.queue.items ≡ a.queue.items ++ added
+  pub closed : b.closed ≡ a.closed
+  pub kept : (v : ℕ) → 0 < get_or a.since v 0 → get_or b.since v 0 ≡ get_or a.since v 0
+  pub only : (v : ℕ) → get_or a.since v 0 ≡ 0 → 0 < get_or b.since v 0 → (get_or b.since v 0 ≡ t + 1) × OpenAt shut t v × (P v × In v added)
+  pub all : (v : ℕ) → P v → OpenAt shut t v → 0 < get_or b.since v 0
 
 -- The cells of P were taken out.
 pub record Cleared (P : ℕ → Type 0) (l₀ l : List ℕ) : Type 0 where
@@ -57,12 +43,10 @@ pub record Cleared (P : ℕ → Type 0) (l₀ l : List ℕ) : Type 0 where
   pub gone : (v : ℕ) → P v → get_or l v 0 ≡ 0
   pub each : (v : ℕ) → (get_or l v 0 ≡ get_or l₀ v 0) ⊎ P v
 
--- The first n steps do not fall.
-abbrev pub Climbs : List ℕ → ℕ → Type 0
-Climbs steps n = (i k : ℕ) → i ≤ k → k < n → get_or steps i 0 ≤ get_or steps k 0
-
--- p is the place of the first of n points whose step is at least t.
-pub record Cursor (steps : List ℕ) (n t p : ℕ) : Type 0 where
-  pub few : p ≤ n
-  pub before : (k : ℕ) → k < p → get_or steps k 0 < t
-  pub after : (k : ℕ) → p ≤ k → k < n → t ≤ get_or steps k 0
+-- The points of the step t were taken out.
+pub record Gone (points : List Point) (t : ℕ) (a b : Layer) : Type 0 where
+  pub opens : b.opens ≡ a.closed
+  pub next : Cursor points (t + 1) b.closed
+  pub queue : b.queue.items ≡ a.queue.items
+  pub head : b.head ≡ a.head
+  pub cells : Cleared (Choked points t) a.since b.since

@@ -1,3 +1,5 @@
+pub mod Members
+pub mod Points
 pub mod ChokeLayers
 pub mod Grown
 pub mod Lifts

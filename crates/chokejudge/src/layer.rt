@@ -1,190 +1,176 @@
-// The cells that a cart can be on at a step without having stood on a choke point: since[v] is one more than the step at which v was added, or 0. The cells that were
-// added stand in a queue, so that each is spread from once, at the next step. shut[v] is the first step at which v is closed, and no cell is added from then on.
-ghost use Rattle.std.specs.Prelude.{◌≡◌, ◌⊎◌, ℕ, ◌+◌, ◌<◌, ◌≤◌, length, get_or};
-ghost use Rattle.model.specs.Limits.{max_cells, max_carts};
+// The cells that a cart can be on at a step without having stood on a choke point. A cart may stand, and none of the cells closes before a call is reached, so from one step to
+// the next they stay but for its choke points, and only two kinds of cells can add to them: those added at the step before, and the choke points of the step before. shut[v] is
+// the first step at which v is closed, and no cell is added from then on.
+ghost use Rattle.std.specs.Prelude.{◌≡◌, ◌⊎◌, [], ℕ, ◌+◌, ◌<◌, ◌≤◌, length, get_or, replicate};
+ghost use Rattle.model.specs.Limits.{max_cells, max_calls};
 ghost use Rattle.model.specs.Lists.{In};
 ghost use Rattle.job.specs.Held.{Decides};
-ghost use Rattle.floor.specs.Tables.{Rows};
-ghost use Rattle.chokejudge.specs.ChokeLayers.{Placed};
-ghost use Rattle.chokejudge.specs.Grown.{Between, Older, Again, Onward, Roomy, Grown, Climbs, Cursor, Cleared, members};
+ghost use Rattle.floor.specs.Tables.{OpenAt};
+ghost use Rattle.chokejudge.specs.Members.{members};
 
-use floor::tables::row;
+use arrayvec::ArrayVec;
+use floor::tables::Neighbours;
 use model::Limits;
-use model::bytes::wide;
 
-// Adds v where it is not in the layer, and is open at the step of the stamp. Answers where the queue ends then.
-fn add(
-    shut: &[u16; Limits::CELLS],
-    since: &mut [u16],
-    queue: &mut [u8],
-    tail: usize,
-    v: u8,
-    stamp: u16,
-) -> usize
-    requires { (0 < stamp) × Roomy since.old queue.old tail }
-    ensures { Grown shut.now stamp (λ x. x ≡ v) since.old queue.old tail since.new queue.new result }
-{
-    let c = wide(v);
-    if since[c] != 0 {
-        return tail;
-    }
-    if shut[c] < stamp {
-        return tail;
-    }
-    since[c] = stamp;
-    queue[tail] = v;
-    tail + 1
+// No cell is added again before a choke point has taken it out.
+const QUEUE: usize = Limits::CELLS + Limits::CALLS;
+
+// A choke point that is a cell, with its step.
+#[derive(Clone, Copy, Debug, Default, PartialEq, Eq)]
+pub struct Point {
+    pub step: u8,
+    pub cell: u8,
 }
 
-// Adds the cells of the carts to an empty layer.
-pub fn place(
-    starts: &[u8; Limits::CARTS],
-    carts: usize,
-    shut: &[u16; Limits::CELLS],
-    since: &mut [u16],
-    queue: &mut [u8],
-) -> usize
-    requires { (carts ≤ max_carts) × Roomy since.old queue.old 0 }
-    ensures { Grown shut.now 1 (Placed starts.now carts) since.old queue.old 0 since.new queue.new result }
-{
-    let mut tail = 0;
-    for i in 0..carts {
-        tail = add(shut, since, queue, tail, starts[i], 1);
-    }
-    tail
-}
-
-// Adds the cells of a row.
-fn spread(
-    row: &[u8],
-    shut: &[u16; Limits::CELLS],
-    since: &mut [u16],
-    queue: &mut [u8],
-    tail: usize,
-    stamp: u16,
-) -> usize
-    requires { (0 < stamp) × Roomy since.old queue.old tail }
-    ensures { Grown shut.now stamp (λ x. In x row.now) since.old queue.old tail since.new queue.new result }
-{
-    let mut end = tail;
-    for i in 0..row.len() {
-        end = add(shut, since, queue, end, row[i], stamp);
-    }
-    end
-}
-
-// Whether an entry is that of a cell which was in the layer before this stamp.
-fn is_older(entry: u16, stamp: u16) -> bool
-    ensures { Decides result ((0 < entry) × (entry < stamp)) }
-{
-    if entry == 0 {
-        return false;
-    }
-    entry < stamp
-}
-
-// Whether a row has a cell that is older in the layer than this stamp.
-fn borders(row: &[u8], since: &[u16], stamp: u16) -> bool
-    requires { length since.now ≡ max_cells }
-    ensures { Decides result ((x : ℕ) × In x row.now × Older since.now stamp x) }
-{
-    for i in 0..row.len() {
-        let x = wide(row[i]);
-        if is_older(since[x], stamp) {
-            return true;
-        }
-    }
-    false
-}
-
-// Adds the cells of the points from `opens` to before `end` that an older cell leads to: they were choke points when it was spread from.
-fn rejoin(
-    near: &[u8],
-    begin: &[u16],
-    shut: &[u16; Limits::CELLS],
-    cells: &[u8],
-    opens: usize,
-    end: usize,
-    since: &mut [u16],
-    queue: &mut [u8],
-    tail: usize,
-    stamp: u16,
-) -> usize
-    requires { (0 < stamp) × Roomy since.old queue.old tail × (opens ≤ end) × (end ≤ length cells.now) × ((floor : ℕ) × Rows floor near.now begin.now × ((k : ℕ) → k < end → get_or cells.now k 0 < floor)) }
-    ensures { Grown shut.now stamp (Again near.now begin.now cells.now opens end since.old stamp) since.old queue.old tail since.new queue.new result }
-{
-    let mut at = tail;
-    for k in opens..end {
-        let c = wide(cells[k]);
-        if borders(row(near, begin, c), since, stamp) {
-            at = add(shut, since, queue, at, cells[k], stamp);
-        }
-    }
-    at
-}
-
-// Adds what the older cells of the queue from `head` to before `end` lead to.
-fn advance(
-    near: &[u8],
-    begin: &[u16],
-    shut: &[u16; Limits::CELLS],
-    since: &mut [u16],
-    queue: &mut [u8],
+#[derive(Drop)]
+pub struct Layer {
+    // One more than the step at which a cell was added, 0 where it is not in the layer.
+    since: [u16; Limits::CELLS],
+    // The cells in the order in which they were added, those of the last step from `head` on.
+    queue: ArrayVec<u8, QUEUE>,
     head: usize,
-    end: usize,
-    tail: usize,
-    stamp: u16,
-) -> usize
-    requires { (0 < stamp) × Roomy since.old queue.old tail × (head ≤ end) × (end ≤ tail) × ((floor : ℕ) × Rows floor near.now begin.now × ((v : ℕ) → Older since.old stamp v → v < floor)) }
-    ensures { Grown shut.now stamp (Onward near.now begin.now queue.old head end since.old stamp) since.old queue.old tail since.new queue.new result }
-{
-    let mut at = tail;
-    for i in head..end {
-        let u = wide(queue[i]);
-        if is_older(since[u], stamp) {
-            at = spread(row(near, begin, u), shut, since, queue, at, stamp);
-        }
-    }
-    at
-}
-
-// The next layer but for its choke points. A cart may stand, and none of the layer's cells closes before a call is reached, so they stay, and only two kinds of cells can
-// add to it: those added at the last step, which stand in the queue from `head` on, and the choke points of the last step, from `opens` to before `end`.
-pub fn grow(
-    near: &[u8],
-    begin: &[u16],
-    shut: &[u16; Limits::CELLS],
-    cells: &[u8],
+    // How many points were taken out, those of the last step from `opens` on.
     opens: usize,
-    end: usize,
-    since: &mut [u16],
-    queue: &mut [u8],
-    head: usize,
-    tail: usize,
-    stamp: u16,
-) -> usize
-    requires { (0 < stamp) × Roomy since.old queue.old tail × (opens ≤ end) × (end ≤ length cells.now) × (head ≤ tail) × ((floor : ℕ) × Rows floor near.now begin.now × ((k : ℕ) → k < end → get_or cells.now k 0 < floor) × ((v : ℕ) → Older since.old stamp v → v < floor)) }
-    ensures { Grown shut.now stamp (λ v. Again near.now begin.now cells.now opens end since.old stamp v ⊎ Onward near.now begin.now queue.old head tail since.old stamp v) since.old queue.old tail since.new queue.new result }
-{
-    let at = rejoin(
-        near, begin, shut, cells, opens, end, since, queue, tail, stamp,
-    );
-    advance(near, begin, shut, since, queue, head, tail, at, stamp)
+    closed: usize,
+    ghost added: { head ≤ length queue.items },
+    ghost last: { opens ≤ closed },
+    ghost few: { closed ≤ max_calls },
+    ghost room: { length queue.items ≤ members since + closed },
 }
 
-// Takes the choke points of step t out, which begin at `at`. Answers where those of later steps begin.
-pub fn close(cells: &[u8], steps: &[u8], n: usize, t: usize, at: usize, since: &mut [u16]) -> usize
-    requires { (n ≤ length cells.now) × (n ≤ length steps.now) × (length since.old ≡ max_cells) × Climbs steps.now n × Cursor steps.now n t at }
-    ensures { (at ≤ result) × Cursor steps.now n (t + 1) result × Cleared (Between cells.now at result) since.old since.new × (members since.old + at ≤ members since.new + result) }
+fn is_open(shut: &[u16; Limits::CELLS], v: u8, t: u16) -> bool
+    ensures { Decides result (OpenAt shut.now t v) }
 {
-    let mut i = at;
-    while i < n {
-        if wide(steps[i]) != t {
-            return i;
+    t < shut[usize::from(v)]
+}
+
+impl Layer {
+    ghost use Rattle.floor.specs.Tables.{Rows};
+    ghost use Rattle.chokejudge.specs.ChokeLayers.{Choked};
+    ghost use Rattle.chokejudge.specs.Grown.{last_cells, last_points, Older, Again, Onward, Grown, Gone};
+    ghost use Rattle.chokejudge.specs.Points.{cells_of, Climbs, Cursor};
+
+    // No cell is in it.
+    pub fn new() -> Layer
+        ensures { (result.since ≡ replicate max_cells 0) × (result.queue.items ≡ []) × (result.head ≡ 0) × (result.closed ≡ 0) }
+    {
+        Layer {
+            since: [0; Limits::CELLS],
+            queue: ArrayVec::new(),
+            head: 0,
+            opens: 0,
+            closed: 0,
         }
-        let v = wide(cells[i]);
-        since[v] = 0;
-        i += 1;
     }
-    i
+
+    pub fn has(&self, v: u8) -> bool
+        ensures { Decides result (0 < get_or self.now.since v 0) }
+    {
+        0 < self.since[usize::from(v)]
+    }
+
+    // The cells that were added at the last step.
+    pub fn last_cells(&self) -> &[u8]
+        ensures { result.now ≡ last_cells self.now }
+    {
+        &self.queue.as_slice()[self.head..]
+    }
+
+    // Adds v where it is not in the layer, and is open at step t.
+    fn add(&mut self, shut: &[u16; Limits::CELLS], v: u8, t: u16)
+        ensures { Grown shut.now t (λ x. x ≡ v) self.old self.new × (self.new.head ≡ self.old.head) }
+    {
+        if !self.has(v) && is_open(shut, v, t) {
+            self.since[usize::from(v)] = t + 1;
+            self.queue.push(v);
+        }
+    }
+
+    // Adds the cells of a row.
+    pub fn spread(&mut self, row: &[u8], shut: &[u16; Limits::CELLS], t: u16)
+        ensures { Grown shut.now t (λ x. In x row.now) self.old self.new × (self.new.head ≡ self.old.head) }
+    {
+        for &v in row {
+            self.add(shut, v, t);
+        }
+    }
+
+    // Whether v was in the layer before step t.
+    fn is_older(&self, v: u8, t: u16) -> bool
+        ensures { Decides result (Older self.now t v) }
+    {
+        let since = self.since[usize::from(v)];
+        0 < since && since <= t
+    }
+
+    // Whether a row has a cell that was in the layer before step t.
+    fn borders(&self, row: &[u8], t: u16) -> bool
+        ensures { Decides result ((x : ℕ) × In x row.now × Older self.now t x) }
+    {
+        row.iter().any(|x| self.is_older(*x, t))
+    }
+
+    // Adds the cells of the points that an older cell leads to: they were choke points when it was spread from.
+    fn rejoin(
+        &mut self,
+        neighbours: &Neighbours,
+        shut: &[u16; Limits::CELLS],
+        points: &[Point],
+        t: u16,
+    )
+        requires { (floor : ℕ) × Rows floor neighbours.now.near neighbours.now.begin × ((v : ℕ) → In v (cells_of points.now) → v < floor) }
+        ensures { Grown shut.now t (Again neighbours.now points.now self.old t) self.old self.new }
+    {
+        for point in points {
+            if self.borders(neighbours.row(usize::from(point.cell)), t) {
+                self.add(shut, point.cell, t);
+            }
+        }
+    }
+
+    // Adds what the older cells of the last step lead to.
+    fn advance(&mut self, neighbours: &Neighbours, shut: &[u16; Limits::CELLS], t: u16)
+        requires { (floor : ℕ) × Rows floor neighbours.now.near neighbours.now.begin × ((v : ℕ) → Older self.old t v → v < floor) }
+        ensures { Grown shut.now t (Onward neighbours.now self.old t) self.old self.new }
+    {
+        for i in self.head..self.queue.len() {
+            let u = self.queue[i];
+            if self.is_older(u, t) {
+                self.spread(neighbours.row(usize::from(u)), shut, t);
+            }
+        }
+    }
+
+    // The layer of step t but for its choke points.
+    pub fn grow(
+        &mut self,
+        neighbours: &Neighbours,
+        shut: &[u16; Limits::CELLS],
+        points: &[Point],
+        t: u16,
+    )
+        requires { (self.old.closed ≤ length points.now) × ((floor : ℕ) × Rows floor neighbours.now.near neighbours.now.begin × ((v : ℕ) → In v (cells_of points.now) → v < floor) × ((v : ℕ) → Older self.old t v → v < floor)) }
+        ensures { Grown shut.now t (λ v. Onward neighbours.now self.old t v ⊎ Again neighbours.now (last_points points.now self.old) self.old t v) self.old self.new × (self.new.head ≡ length self.old.queue.items) }
+    {
+        let tail = self.queue.len();
+        let last = &points[self.opens..self.closed];
+        self.advance(neighbours, shut, t);
+        self.rejoin(neighbours, shut, last, t);
+        self.head = tail;
+    }
+
+    // Takes the choke points of step t out.
+    pub fn close(&mut self, points: &[Point], t: u16)
+        requires { Climbs points.now × (length points.now ≤ max_calls) × Cursor points.now t self.old.closed }
+        ensures { Gone points.now t self.old self.new }
+    {
+        self.opens = self.closed;
+        for point in &points[self.closed..] {
+            if u16::from(point.step) != t {
+                break;
+            }
+            self.since[usize::from(point.cell)] = 0;
+            self.closed += 1;
+        }
+    }
 }

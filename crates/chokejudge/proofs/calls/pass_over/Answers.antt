@@ -1,32 +1,41 @@
--- `pass_over` takes the cell of one call after the other out of the table. Invariant: those of the calls from place m to before place i of the list are out. The measure is what is left
--- of the list. Assumes nothing.
-use mathlib.Core.Path.{◌∙◌, ◌≡◌, ap}
+-- `pass_over` takes the cell of one whole call after the other out of the table. Invariant: those of the choke points before the one at the index are out. Assumes nothing.
+use mathlib.Core.Path.{◌≡◌, subst, ap, ◌∙◌}
+use mathlib.Core.List.{List}
 use native.Mathlib.Omega.{arith}
-use Rattle.chokejudge.proofs.ClearedLaws.{cleared_more, cleared_none}
-use lib.ListN.{get_or}
+use lib.ListN.{length, take}
+use lib.Seq.{take-length}
+use Rattle.model.specs.Lists.{In}
+use Rattle.model.proofs.Lists.{in_get_or}
+use Rattle.job.specs.declared.held.Choke.{Choke}
+use Rattle.chokejudge.specs.Grown.{Cleared}
+use Rattle.chokejudge.specs.Lifts.{WholeOn}
+use Rattle.chokejudge.proofs.LiftLaws.{passed_none, passed_cell, passed_call}
 use Rattle.chokejudge.proofs.calls.pass_over.Goals as goal
+use Rattle.chokejudge.proofs.calls.pass_over.Goals.{in-Call, in_default}
 
-pub loop-i-init : goal.loop-i-init
-loop-i-init c =
-    let a = c.args in
-    (omega arith, c.requires.0, cleared_none (λ k. get_or a.targets.now (get_or a.first.now k 0) 0) a.m a.due.now)
+pub loop-choke-init : goal.loop-choke-init
+loop-choke-init c = passed_none c.args.calls.now c.args.chokes.now c.args.due.now
 
-pub bounds-targets-k : goal.bounds-targets-k
-bounds-targets-k c = omega (arith, c.wide-k.ensures.0, c.requires.2 c.loop-i.i c.loop-i.invariant.0 c.loop-i-test.true)
+pub cell_of-requires : goal.cell_of-requires
+cell_of-requires c =
+    let l = c.args.chokes.now in
+    c.requires c.in-Call.call (subst (λ (x : Choke). In x l) c.in-Call.is (in_get_or l c.loop-choke.choke-index _ c.loop-choke-test.true))
 
-pub loop-i-preserved : goal.loop-i-preserved
-loop-i-preserved c =
-    let a = c.args in
-    let l = c.loop-i in
-    let e = c.wide-v.ensures.0 ∙ ap (λ k. get_or a.targets.now k 0) c.wide-k.ensures.0 in (
-      omega arith,
-      omega arith,
-      rw e
-          (cleared_more (λ k. get_or a.targets.now (get_or a.first.now k 0) 0) a.m l.i a.due.now l.due l.invariant.0
-          (omega (arith, e, c.wide-v.ensures.1, l.invariant.2.size, c.requires.3)) l.invariant.2),
-    )
+pub loop-choke-preserved : goal.loop-choke-preserved
+loop-choke-preserved c =
+    let calls = c.args.calls.now in
+    let chokes = c.args.chokes.now in
+    let l = c.loop-choke in
+    let i = l.choke-index in
+    elim c.match-choke.branch [
+      | in-Call w ↦
+          let e = w.from.ensures ∙ w.cell_of.ensures in
+          rw (w.due-is, e) (passed_call calls chokes i _ c.loop-choke-test.true l.invariant w.in-Call.is (omega (arith, e, l.invariant.size)))
+      | in_default w ↦ rw w.due-is (passed_cell calls chokes i _ c.loop-choke-test.true l.invariant w.in_default.is)
+    ]
 
 pub returns : goal.returns
 returns c =
-    let e : c.loop-i.i ≡ c.args.n = omega arith in
-    rw e at c.loop-i.invariant.2
+    let chokes = c.args.chokes.now in
+    let e : c.loop-choke.choke-index ≡ length chokes = omega arith in
+    subst (λ (l : List Choke). Cleared (WholeOn c.args.calls.now l) c.args.due.now c.loop-choke.due) (ap (λ k. take k chokes) e ∙ take-length chokes) c.loop-choke.invariant

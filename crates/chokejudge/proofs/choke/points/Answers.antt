@@ -1,0 +1,35 @@
+-- `points` goes over the choke points. Invariant: the list has those cells that stand before the index. Assumes nothing.
+use mathlib.Core.Path.{◌≡◌, sym, ◌∙◌, ap}
+use mathlib.Core.List.{[], ◌∷◌, ◌++◌}
+use native.Mathlib.Omega.{arith}
+use lib.ListN.{length, take}
+use lib.Seq.{take-length}
+use Rattle.std.proofs.lemmas.List.{append-nil}
+use Rattle.job.specs.declared.held.Choke.{Choke}
+use Rattle.chokejudge.specs.Points.{points_in}
+use Rattle.chokejudge.proofs.OrderLaws.{no_choke, points_more}
+use Rattle.chokejudge.proofs.choke.points.Goals as goal
+use Rattle.chokejudge.proofs.choke.points.Goals.{in-Cell, in_default}
+
+pub loop-choke-preserved : goal.loop-choke-preserved
+loop-choke-preserved c =
+    let chokes = c.args.chokes.now in
+    let l = c.loop-choke in
+    let i = l.choke-index in
+    let e = points_more chokes i no_choke c.loop-choke-test.true in
+    elim c.match-choke.branch [
+      | in-Cell w ↦
+          let f = ap (λ (v : _). v.items) w.points-is in
+          let g = ap (λ (x : Choke). points_in (x ∷ [])) w.in-Cell.is in
+          (f ∙ w.push.ensures.items ∙ ap (λ q. q ++ (record { step = w.in-Cell.step; cell = w.in-Cell.cell } ∷ [])) l.invariant.0 ∙ sym (e ∙ ap (λ q. points_in (take i chokes) ++ q) g), omega (arith, ap length f, w.push.ensures.len, l.invariant.1))
+      | in_default w ↦
+          let f = ap (λ (v : _). v.items) w.points-is in
+          let g = ap (λ (x : Choke). points_in (x ∷ [])) w.in_default.is in
+          (f ∙ l.invariant.0 ∙ sym (e ∙ ap (λ q. points_in (take i chokes) ++ q) g ∙ append-nil (points_in (take i chokes))), omega (arith, ap length f, l.invariant.1))
+    ]
+
+pub returns : goal.returns
+returns c =
+    let chokes = c.args.chokes.now in
+    let e : c.loop-choke.choke-index ≡ length chokes = omega arith in
+    c.loop-choke.invariant.0 ∙ ap points_in (ap (λ k. take k chokes) e ∙ take-length chokes)
