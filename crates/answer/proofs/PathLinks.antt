@@ -7,7 +7,6 @@ use mathlib.Core.Bool.{Bool, true, false}
 use native.Mathlib.Omega.{arith}
 use Rattle.model.specs.Job.{Job}
 use Rattle.model.specs.Choke.{Point, point}
-use Rattle.model.proofs.Basics.{nope}
 use Rattle.flow.specs.Flow.{Link, off, to}
 use Rattle.network.specs.declared.planes.Grid.{Grid}
 use Rattle.network.specs.Graph.{top, Inside}
@@ -20,7 +19,7 @@ use Rattle.network.proofs.Points.{point_cell, point_eq, to_eq}
 use Rattle.network.proofs.ChokeTargets.{edge_earlier}
 use Rattle.network.proofs.Calm.{Meets, trades, passes, meets}
 use Rattle.answer.specs.Trail.{back_from, HasCart, CameFrom}
-use Rattle.answer.proofs.Nodes.{came_call, came_step, back_off, back_to, back_of}
+use Rattle.answer.proofs.Nodes.{came_call, came_step, back_to}
 
 -- The cart on v came from u. It stood if the other one came from v's cell, and else it went.
 module _ (back : Point → Link Point) (v u : Point) (e : back v ≡ to u) where
@@ -81,19 +80,12 @@ module _ {j : Job} {g : Grid} {s : List ℕ} (h : KeepsAll j g s) (x : Point) (c
     pub other_known : Inside j other
     other_known = ((edge_earlier (h.flow.edge x before back) (omega (arith, last))).known_before, cart_known.1)
 
-    -- And where the node of that cell stands.
-    module _ {w : ℕ} (there : w ≡ place_at g other) where
-      pub from_free : used_at g s w ≡ 0 → CameFrom j s x a
-      from_free e = went (back_link j s) x before back (λ f. nope (cc (back_off j h.grid s other (rw there at e))))
+    -- And where the node of that cell stands, and what its byte says.
+    module _ {w b : ℕ} (there : w ≡ place_at g other) (says : b ≡ prev_at g s w) where
+      other_came : came_from g s other ≡ point b (x.step - 1)
+      other_came = came_step g s other there says (λ e. omega arith)
 
-      module _ {b : ℕ} (says : b ≡ prev_at g s w) where
-        other_came : came_from g s other ≡ point b (x.step - 1)
-        other_came = came_step g s other there says (λ e. omega arith)
-
-        pub from_other : (b ≡ x.cell → ⊥) → CameFrom j s x a
-        from_other ne = went (back_link j s) x before back (λ f. ne (point_cell (sym other_came ∙ back_of j h.grid s other f)))
-
-        pub from_same : (used_at g s w ≡ 0 → ⊥) → b ≡ x.cell → CameFrom j s x x.cell
-        from_same u e =
-            stood (back_link j s) x before back
-            (back_to j h.grid s other other_known (λ z. u (rw there z)) (λ z. omega arith) ∙ ap to (other_came ∙ point_eq e refl))
+      pub from_same : (used_at g s w ≡ 0 → ⊥) → b ≡ x.cell → CameFrom j s x x.cell
+      from_same u e =
+          stood (back_link j s) x before back
+          (back_to j h.grid s other other_known (λ z. u (rw there z)) (λ z. omega arith) ∙ ap to (other_came ∙ point_eq e refl))

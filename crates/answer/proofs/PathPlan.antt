@@ -33,9 +33,6 @@ use Rattle.answer.proofs.Rides.{ride_new, ride_kept}
 use Rattle.answer.proofs.Calls.{counted, node_read}
 use Rattle.answer.proofs.PathLinks.{call_met}
 
-pub traced_none : (j : Job) (order s : List ℕ) (rides : List Ride) → PathsTraced j order s rides 0
-traced_none j order s rides = record { calls = λ m h. absurd (omega arith); traced = λ m h. absurd (omega arith) }
-
 pub traced_all : {j : Job} {order s : List ℕ} {rides : List Ride} {n m : ℕ} → m ≡ n → PathsTraced j order s rides m → PathsTraced j order s rides n
 traced_all e w = rw (← e) w
 
@@ -52,9 +49,6 @@ module _ {j : Job} {calls : List Call} {cart_on order : List ℕ} {grid : Grid} 
 
   is_call : {i : ℕ} → i < length order → q i < length j.calls
   is_call {i} more = g.ordered.known i (omega (arith, each, count))
-
-  pub call_known : {i : ℕ} → i < length order → get_or order i 0 < length calls
-  call_known more = omega (arith, is_call more, count)
 
   abbrev last : grid.top ≡ top j
   last = ap (λ g. g.top) g.kept.keeps.grid

@@ -1,6 +1,6 @@
 -- A row that is written from its end on holds the way of a cart: each call finds the part before its own cell. Assumes nothing.
 use Prim.Native.Nat.{ℕ, suc, ◌-◌, ◌<◌}
-use mathlib.Core.Path.{◌≡◌, refl, sym, ap, ◌∙◌}
+use mathlib.Core.Path.{◌≡◌, sym, ap, ◌∙◌}
 use mathlib.Core.List.{List}
 use native.Mathlib.Omega.{arith}
 use lib.ListN.{length, get_or, set}
@@ -13,7 +13,6 @@ use Rattle.flow.specs.Flow.{to}
 use Rattle.network.specs.declared.planes.Grid.{Grid}
 use Rattle.network.specs.Keeping.{KeepsAll}
 use Rattle.network.proofs.Points.{point_eq}
-use Rattle.network.proofs.Plans.{began}
 use Rattle.network.proofs.Calm.{stood_flow}
 use Rattle.answer.specs.Trail.{back_from, HasCart, CameFrom, Trail}
 
@@ -30,15 +29,6 @@ module _ {j : Job} {g : Grid} {s : List ℕ} (h : KeepsAll j g s) (x : Point) wh
 
     other : (t : ℕ) → x.step < t → get_or row₁ t 0 ≡ get_or row t 0
     other t l = get_or-set_other row x.step t x.cell 0 (λ e. omega arith)
-
-    pub trail_start : x.step ≡ 0 → Trail j s x row row₁ x.cell
-    trail_start e = record {
-      ends = here;
-      follows = λ t l. absurd (omega arith);
-      begins = sym here ∙ ap (λ i. get_or row₁ i 0) e;
-      starts = ap (back_from j s) (point_eq {y = x} refl (sym e)) ∙ began (stood_flow h.flow) x cart e;
-      kept = other;
-    }
 
     pub trail_more : (x.step ≡ 0 → ⊥) → (c : ℕ) {r : ℕ} {row' : List ℕ} → CameFrom j s x c → Trail j s (point c (x.step - 1)) row₁ row' r → Trail j s x row row' r
     trail_more later c {r} {row'} came tr = record {

@@ -32,16 +32,6 @@ pub record Listing (f₀ f : ℕ → ℕ) (n k c : ℕ) : Type 0 where
   pub rises : (i m : ℕ) → n ≤ i → i < m → m < k → f i < f m
   pub all : (d : ℕ) → d < c → Some k (λ i. f i ≡ d)
 
-pub listing_none : (f : ℕ → ℕ) (n : ℕ) → Listing f f n n 0
-listing_none f n = record {
-  from = omega arith;
-  kept = λ i l. refl;
-  low = λ i l h. absurd (omega arith);
-  spare = λ i m l h h' e. absurd (omega arith);
-  rises = λ i m l h h'. absurd (omega arith);
-  all = λ d l. absurd (omega arith);
-}
-
 module _ {f₀ f : ℕ → ℕ} {n k c carts : ℕ} (own : OwnCarts f₀ n carts) (w : Listing f₀ f n k c) (more : c < carts) where
   -- The cart c has a path.
   pub listing_skip : Some n (λ i. f₀ i ≡ c) → Listing f₀ f n k (c + 1)

@@ -37,7 +37,7 @@ use Rattle.answer.specs.Spares.{ride_at, cart_at, CartsTaken}
 use Rattle.answer.specs.Full.{PathsTraced, PathsWritten}
 use Rattle.answer.specs.Trail.{back_from, HasCart, MeetsNone, WalkRow}
 use Rattle.answer.proofs.Rides.{no_path, no_spare, ride_new, ride_kept, ride_first, path_read, path_count, path_in, spare_read, spare_count, spare_in}
-use Rattle.answer.proofs.SpareList.{OwnCarts, Listing, listing_none, listing_skip, listing_room, listing_take, listing_full}
+use Rattle.answer.proofs.SpareList.{OwnCarts, Listing, listing_skip, listing_room, listing_take, listing_full}
 use Rattle.answer.proofs.Rising.{rising_once, precedes_apart}
 
 -- Links followed from one node end at one node.
@@ -60,9 +60,6 @@ pub record RidesTraced (j : Job) (order s : List ℕ) (rides₀ rides : List Rid
 module _ {j : Job} {carts : List ℕ} {calls : ℕ} {order : List ℕ} {grid : Grid} {s : List ℕ} {rides : List Ride} (g : PathsWritten j carts calls order grid s rides) where
   count : length j.carts ≡ length carts
   count = ap length g.listed
-
-  pub rides_none : RidesTraced j order s rides rides calls calls 0
-  rides_none = record { paths = g.paths; listing = listing_none (cart_at rides) calls; rode = λ m l h. absurd (omega arith) }
 
   pub written_so : {rides' : List Ride} {k c : ℕ} → length rides' ≡ length rides → RidesTraced j order s rides rides' calls k c → PathsWritten j carts calls order grid s rides'
   written_so same w = record { listed = g.listed; counted = g.counted; room = same ∙ g.room; ordered = g.ordered; kept = g.kept; paths = w.paths }
@@ -245,12 +242,7 @@ module _ {j : Job} {carts : List ℕ} {calls : ℕ} {order : List ℕ} {grid : G
     pub right_plan : RightPlan j (paths_to rides calls) (spares_from rides calls)
     right_plan = subst (λ m. RightPlan j (paths_to rides m) ss) g.counted (planned, (in_order, by_number))
 
-  -- The table of the carts that have paths.
-  pub path_known : (i : ℕ) → i < length (take calls rides) → cart_at (take calls rides) i < max_carts
-  path_known i l =
-      let m : i < calls = omega (arith, length-take-le calls rides calls_few) in
-      omega (arith, ap (λ r. r.cart) (ride_first rides calls i m), own_carts.known i m, carts_few)
-
+  -- What the table of the carts with paths says of the cart c.
   module _ {table : List Bool} (marks : CartsTaken (take calls rides) table) (c : ℕ) where
     pub none_has : get_or table c false ≡ false → (i : ℕ) → i < calls → cart_at rides i ≡ c → ⊥
     none_has e i l q =

@@ -127,9 +127,6 @@ pub record ChainTo (j : Job) (g : Grid) (s₀ s : List ℕ) (x : Point) : Type 0
   pub loose : LooseAt j g s x
   pub starts : SameStarts j s₀ s
 
-pub chain_none : {j : Job} {g : Grid} {s : List ℕ} {x : Point} → LooseAt j g s x → ChainTo j g s s x
-chain_none h = record { loose = h; starts = λ x e. refl }
-
 pub chain_more : {j : Job} {g : Grid} {s₀ s s' : List ℕ} {x y : Point} → ChainTo j g s₀ s x → LooseAt j g s' y → SameStarts j s s' → ChainTo j g s₀ s' y
 chain_more ch h st = record { loose = h; starts = λ x e. st x e ∙ ch.starts x e }
 

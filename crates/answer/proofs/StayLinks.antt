@@ -29,9 +29,6 @@ module _ {j : Job} {g : Grid} {s : List ℕ} (h : KeepsAll j g s) (x : Point) (u
   pub here_known : Inside j x
   here_known = cart_known h x u.cart
 
-  pub beside_known : Inside j (point x.cell (x.step + 1))
-  beside_known = (here_known.0, omega (arith, last))
-
   -- A call that is met from here is on the line.
   unmet : (y : Point) → back_link j s y ≡ to x → MetFrom j y x → ⊥
   unmet y e m =

@@ -5,13 +5,13 @@ use mathlib.Core.List.{List}
 use mathlib.Core.Bool.{Bool, true, false}
 use native.Mathlib.Omega.{arith}
 use native.Mathlib.Numerals.{add-one}
-use lib.ListN.{length, get_or, set, replicate, length-set, length-replicate}
+use lib.ListN.{length, get_or, set, replicate, length-replicate}
 use lib.Seq.{get_or-set_same, get_or-set_other}
 use Rattle.model.specs.Limits.{max_carts, max_cells}
 use Rattle.model.specs.Job.{Job}
 use Rattle.model.specs.Choke.{Point, point}
 use Rattle.model.proofs.Basics.{nope}
-use Rattle.model.proofs.Decide.{dec-lt, dec_eq}
+use Rattle.model.proofs.Decide.{dec-lt}
 use Rattle.flow.specs.Flow.{to}
 use Rattle.job.specs.declared.held.Ride.{Ride}
 use Rattle.job.specs.Held.{Some}
@@ -28,11 +28,6 @@ pub record WalkedTo (j : Job) (s : List ℕ) (c : ℕ) (row : List ℕ) (a t : �
   pub onward : WalkRow j s c (suc t) row
   pub here : get_or row t 0 ≡ a
   pub unmet : MeetsNone j s (point a t)
-
-pub going_first : {j : Job} {s : List ℕ} {c : ℕ} (row : List ℕ) → 0 < length row → MeetsNone j s (point c 0) → WalkedTo j s c (set row 0 c) c 0
-going_first {c = c} row long u =
-    let e = get_or-set_same row 0 c 0 long in
-    record { onward = record { begins = e; follows = λ t l. absurd (omega arith) }; here = e; unmet = u }
 
 module _ {j : Job} {g : Grid} {s : List ℕ} (h : KeepsAll j g s) {c : ℕ} {row : List ℕ} {a t : ℕ} (w : WalkedTo j s c row a t) (early : t + 1 < g.top) (long : t + 1 < length row) where
   pub going_more : (b : ℕ) → GoesTo j s (point a t) b → WalkedTo j s c (set row (t + 1) b) b (t + 1)
@@ -81,18 +76,3 @@ blank (suc n) (suc c) = blank n c
 
 pub taken_none : (paths : List Ride) → TakenTo paths 0 (replicate max_carts false)
 taken_none paths = record { size = length-replicate max_carts false; marked = λ i l. absurd (omega arith); only = λ c e. nope (cc (blank max_carts c)) }
-
-pub taken_more : {paths : List Ride} {table : List Bool} {k a : ℕ} → TakenTo paths k table → a ≡ cart_at paths k → a < max_carts → TakenTo paths (k + 1) (set table a true)
-taken_more {paths} {table} {k} {a} w e few = record { size = simp length-set w.size; marked = λ i l. marked i (dec_eq (cart_at paths i) a) (dec-lt i k) l; only = λ c. only c (dec_eq c a) }
-  where
-    new : get_or (set table a true) a false ≡ true
-    new = get_or-set_same table a true false (omega (arith, w.size))
-
-    marked : (i : ℕ) → Dec (cart_at paths i ≡ a) → Dec (i < k) → i < k + 1 → get_or (set table a true) (cart_at paths i) false ≡ true
-    marked i (yes q) d l = rw q new
-    marked i (no n) (yes m) l = get_or-set_other table a (cart_at paths i) true false n ∙ w.marked i m
-    marked i (no n) (no m) l = let z : i ≡ k = omega arith in absurd (n (ap (cart_at paths) z ∙ sym e))
-
-    only : (c : ℕ) → Dec (c ≡ a) → get_or (set table a true) c false ≡ true → Some (k + 1) (λ i. cart_at paths i ≡ c)
-    only c (yes q) t = (k, omega arith, sym e ∙ sym q)
-    only c (no n) t = let (i, l, z) = w.only c (sym (get_or-set_other table a c true false n) ∙ t) in (i, omega arith, z)

@@ -2,14 +2,11 @@
 -- Assumes nothing.
 use native.Mathlib.Omega.{arith}
 use Rattle.answer.proofs.SpareKeep.{top_few}
-use Rattle.answer.proofs.PathTrail.{cart_before, trail_start, trail_more}
+use Rattle.answer.proofs.PathTrail.{cart_before, trail_more}
 use Rattle.answer.proofs.paths.+follow.Goals as goal
 
 pub bounds-row-step : goal.bounds-row-step
 bounds-row-step t c = omega (arith, c.requires.1, top_few c.requires.0.1)
-
-pub returns-then-step-eq0 : goal.returns-then-step-eq0
-returns-then-step-eq0 t c = λ j h k. trail_start h _ k _ (omega (arith, c.requires.1, top_few h)) c.if-step-eq0.true
 
 pub follow-requires : goal.follow-requires
 follow-requires t c =

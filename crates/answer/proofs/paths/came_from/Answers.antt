@@ -3,17 +3,11 @@ use Rattle.model.specs.Job.{Job}
 use Rattle.model.specs.Choke.{point}
 use Rattle.network.specs.Graph.{Inside}
 use Rattle.network.specs.Keeping.{KeepsAll}
-use Rattle.network.proofs.StoreLaws.{is_unused, is_in_use}
+use Rattle.network.proofs.StoreLaws.{is_in_use}
 use Rattle.network.proofs.KeepLaws.{keeps_within}
-use Rattle.answer.proofs.PathLinks.{cart_known, other_known, from_free, from_other, from_same}
+use Rattle.answer.proofs.PathLinks.{other_known, from_same}
 use Rattle.answer.proofs.paths.came_from.Goals as goal
 use Rattle.answer.proofs.paths.came_from.Goals.{After-prev-from}
-
-pub place-requires : goal.place-requires
-place-requires c = let (j, h, k) = c.requires.0 in (keeps_within h (cart_known h _ k)).1
-
-pub prev-from-requires : goal.prev-from-requires
-prev-from-requires c = let (j, h, k) = c.requires.0 in rw c.place.ensures (keeps_within h (cart_known h _ k))
 
 -- The node of the cell that the flow tells.
 other : (c : After-prev-from) → (j : Job) × KeepsAll j c.args.store.now.grid c.args.store.now.bytes.now × Inside j (point c.prev-from.result c.args.node.step)
@@ -25,18 +19,8 @@ place-other-requires c = let (j, h, k) = other (goal.at.place-other-requires c).
 pub used-requires : goal.used-requires
 used-requires c = let (j, h, k) = other (goal.at.used-requires c).After-prev-from in rw c.place-other.ensures (keeps_within h k)
 
-pub returns-then-not-used : goal.returns-then-not-used
-returns-then-not-used c = λ j h k.
-    from_free h _ k c.requires.1 c.requires.2 c.place.ensures c.prev-from.ensures.0 c.place-other.ensures
-    (is_unused c.used.ensures c.if-not-used.true)
-
 pub prev-requires : goal.prev-requires
 prev-requires c = let (j, h, k) = other (goal.at.prev-requires c).After-prev-from in rw c.place-other.ensures (keeps_within h k)
-
-pub returns-then-prev-cell : goal.returns-then-prev-cell
-returns-then-prev-cell c = λ j h k.
-    from_other h _ k c.requires.1 c.requires.2 c.place.ensures c.prev-from.ensures.0 c.place-other.ensures
-    c.prev.ensures.0 c.if-prev-cell.true
 
 pub returns : goal.returns
 returns c = λ j h k.

@@ -9,15 +9,12 @@ use Rattle.model.specs.Choke.{point}
 use Rattle.network.proofs.KeepLaws.{keeps_within}
 use Rattle.answer.specs.Full.{FullFlow}
 use Rattle.answer.specs.Trail.{HasCart}
-use Rattle.answer.proofs.PathPlan.{each, node_known, can_follow, below_top, has_cart, traced_all, traced_more, traced_none}
+use Rattle.answer.proofs.PathPlan.{each, node_known, can_follow, below_top, has_cart, traced_all, traced_more}
 use Rattle.answer.proofs.paths.write_paths.Goals as goal
 use Rattle.answer.proofs.paths.write_paths.Goals.{After-prev-step, After-follow-start}
 
 abbrev Full : After-prev-step → Job → Type 0
 Full c j = FullFlow j c.args.calls.now c.args.cart_on.now c.args.order.now c.args.store.now.grid c.args.store.now.bytes.now
-
-pub loop-i-init : goal.loop-i-init
-loop-i-init c = λ j g. traced_none j _ _ _
 
 -- The next call's node is read.
 pub place-requires : goal.place-requires

@@ -9,7 +9,7 @@ use Rattle.model.specs.Choke.{point}
 use Rattle.network.specs.Store.{with_used}
 use Rattle.network.specs.Keeping.{KeepsAll}
 use Rattle.network.proofs.StoreLaws.{same_more}
-use Rattle.answer.proofs.SpareTurn.{chain_none, chain_more}
+use Rattle.answer.proofs.SpareTurn.{chain_more}
 use Rattle.answer.proofs.SpareKeep.{KeptTo, start_within, kept_first, kept_more, kept_last, top_few}
 use Rattle.answer.proofs.spares.keep.Goals as goal
 use Rattle.answer.proofs.spares.keep.Goals.{At-loop-t}
@@ -19,12 +19,6 @@ place-requires c = (start_within c.requires.0.1 c.args.cell c.requires.0.2).1
 
 pub set_used-requires : goal.set_used-requires
 set_used-requires c = rw c.place.ensures (start_within c.requires.0.1 c.args.cell c.requires.0.2)
-
-pub loop-t-init : goal.loop-t-init
-loop-t-init c = (c.set_used.ensures.same, λ j h. chain_none h)
-
-pub overflow_sub-t-end : goal.overflow_sub-t-end
-overflow_sub-t-end c = omega (arith, top_few c.requires.0.1)
 
 -- The line begins.
 begun : (c : At-loop-t) (j : Job) → KeepsAll j c.args.store.now.grid c.args.store.now.bytes.now → In c.args.cell j.carts

@@ -6,22 +6,13 @@ use native.Mathlib.Omega.{arith}
 use native.Mathlib.Numerals.{add-one}
 use Rattle.model.specs.Choke.{point}
 use Rattle.network.specs.Store.{place_in, used_at, prev_at}
-use Rattle.network.proofs.StoreLaws.{same_none, same_more, is_unused, is_in_use}
-use Rattle.answer.proofs.SpareTurn.{ChainTo, chain_none, chain_more, cell_few, step_few, here_within, next_within, turn_loose, turn_starts, turn_fewer, ended, chain_end}
+use Rattle.network.proofs.StoreLaws.{same_more, is_unused, is_in_use}
+use Rattle.answer.proofs.SpareTurn.{ChainTo, chain_more, cell_few, step_few, here_within, next_within, turn_loose, turn_starts, turn_fewer, ended, chain_end}
 use Rattle.answer.proofs.spares.stand.Goals as goal
 use Rattle.answer.proofs.spares.stand.Goals.{After-link, At-loop-grid, Start}
 
 early : (c : Start) → suc c.args.step < c.args.store.now.grid.top
 early c = omega (arith, c.requires.1)
-
-pub overflow_add-step : goal.overflow_add-step
-overflow_add-step c = omega (arith, step_few c.requires.0.1 (early (goal.at.overflow_add-step c).Start))
-
-pub place-v-requires : goal.place-v-requires
-place-v-requires c = rw (add-one c.args.step) (next_within c.requires.0.1 (early (goal.at.place-v-requires c).Start)).1
-
-pub loop-grid-init : goal.loop-grid-init
-loop-grid-init c = (c.place-v.ensures ∙ ap (place_in c.args.store.now.grid c.args.cell) (add-one c.args.step), same_none c.args.store.now, λ j h. chain_none h)
 
 -- The loose end of the chain, for the job that there is.
 chain : (c : At-loop-grid)
@@ -49,9 +40,6 @@ taken c e =
 came : (c : After-link)
     → c.prev-came.result ≡ prev_at c.args.store.now.grid c.loop-grid.store.bytes.now (place_in c.args.store.now.grid c.loop-grid.at (suc c.args.step))
 came c = (rw c.loop-grid.invariant.1.grid at c.prev-came.ensures.0) ∙ ap (prev_at c.args.store.now.grid c.loop-grid.store.bytes.now) c.loop-grid.invariant.0
-
-pub overflow_add-step-in-loop-grid : goal.overflow_add-step-in-loop-grid
-overflow_add-step-in-loop-grid c = omega (arith, step_few c.requires.0.1 (early (goal.at.overflow_add-step-in-loop-grid c).Start))
 
 pub place-v-requires-in-loop-grid : goal.place-v-requires-in-loop-grid
 place-v-requires-in-loop-grid c =

@@ -7,21 +7,9 @@ use Rattle.model.specs.Choke.{point}
 use Rattle.network.specs.Keeping.{KeepsAll}
 use Rattle.answer.specs.Trail.{MeetsNone}
 use Rattle.answer.proofs.SpareKeep.{top_few}
-use Rattle.answer.proofs.StayRows.{WalkedTo, going_first, going_more, going_last, unmet_cell}
+use Rattle.answer.proofs.StayRows.{WalkedTo, going_more, going_last, unmet_cell}
 use Rattle.answer.proofs.staying.go_on.Goals as goal
 use Rattle.answer.proofs.staying.go_on.Goals.{After-goes_to-at}
-
-pub overflow_cast-row : goal.overflow_cast-row
-overflow_cast-row c = let (j, h, u) = c.requires in omega (arith, unmet_cell h u)
-
-pub loop-t-init : goal.loop-t-init
-loop-t-init c = (simp length-set c.told-row, λ j h u. going_first c.args.row.now (omega (arith, c.told-row)) u)
-
-pub overflow_sub-t-end : goal.overflow_sub-t-end
-overflow_sub-t-end c = omega (arith, top_few c.requires.1)
-
-pub goes_to-at-requires : goal.goes_to-at-requires
-goes_to-at-requires c = let (j, h, u) = c.requires in ((j, h, (c.loop-t.invariant.1 j h u).unmet), omega (arith, c.loop-t-test.true))
 
 -- The cart goes on there.
 goes : (c : After-goes_to-at) (j : Job) → KeepsAll j c.args.store.now.grid c.args.store.now.bytes.now

@@ -9,15 +9,12 @@ use Rattle.model.specs.Job.{Job}
 use Rattle.answer.specs.Full.{PathsWritten}
 use Rattle.answer.specs.Spares.{cart_at}
 use Rattle.answer.proofs.SpareKeep.{top_few}
-use Rattle.answer.proofs.SparePlan.{carts_few, rides_none, written_so, rides_skip, line_unmet, room_left, rides_more, right_plan, none_has, one_has}
+use Rattle.answer.proofs.SparePlan.{carts_few, written_so, rides_skip, line_unmet, room_left, rides_more, right_plan, none_has, one_has}
 use Rattle.answer.proofs.staying.write_spares.Goals as goal
 use Rattle.answer.proofs.staying.write_spares.Goals.{Then-not-taken-cart, then-not-taken-cart, else-not-taken-cart}
 
 pub overflow_cast-last : goal.overflow_cast-last
 overflow_cast-last c = let (j, o, g) = c.requires in omega (arith, top_few g.kept.keeps)
-
-pub loop-cart-init : goal.loop-cart-init
-loop-cart-init c = λ j o g. rides_none g
 
 -- The cart has no path.
 free : (c : Then-not-taken-cart) (j : Job) (o : List ℕ) → PathsWritten j c.args.carts.now c.args.calls o c.args.store.now.grid c.args.store.now.bytes.now c.args.rides.now
