@@ -1,75 +1,58 @@
--- Lists by their places, the first values of a function among them, and what the known lines of a sheet keep to. Assumes nothing.
-use Prim.Native.Nat.{ℕ, zero, suc, ◌+◌, ◌*◌, ◌≤◌, ◌<◌}
-use mathlib.Core.Path.{◌≡◌, refl, sym, ap, ◌∙◌}
-use mathlib.Core.List.{List, [], ◌∷◌, ◌++◌, map, append-nil, append_assoc, map-append}
-use mathlib.Core.Logic.{inl, inr}
+-- Lists that a function gives of a list, by their places, and what the known lines of a sheet keep to. Assumes nothing.
+use Prim.Native.Nat.{ℕ, zero, suc, ◌≤◌, ◌<◌}
+use mathlib.Core.Path.{◌≡◌, sym, ap}
+use mathlib.Core.List.{List, [], ◌∷◌, map}
 use mathlib.Core.Bool.{true, ◌&&◌}
 use native.Mathlib.Omega.{arith}
-use native.Mathlib.Nat.{add-zero, add-suc}
 use lib.Dec.{ltb, eqb}
-use lib.ListN.{length, get_or, drop, length-take, length-drop}
-use lib.Seq.{get_or-take, get_or-drop}
+use lib.ListN.{length, get_or}
 use borrow.Author.Tests.{ltb-true, eqb-true}
+use Rattle.std.proofs.Math.ListN.{get_or-map}
+use Rattle.std.proofs.lemmas.List.{length-map}
+use Rattle.std.proofs.lemmas.Simd.{map-map}
 use Rattle.model.specs.Lists.{In, NoDup, Rising}
-use Rattle.model.specs.Limits.{max_carts, max_steps}
 use Rattle.model.specs.Job.{Job, CallKind, lift, bay, call_of, horizon}
 use Rattle.model.specs.Walk.{InTime}
-use Rattle.model.specs.Plan.{Path, Ride}
+use Rattle.model.specs.Plan.{Path, Ride, Before}
 use Rattle.model.specs.ReadSheet.{all_below, size_fits, known_path, known_spare}
 use Rattle.model.proofs.Basics.{and_left, and_right}
 use Rattle.model.proofs.Floor.{fits_time}
-use Rattle.model.proofs.Lists.{place_of, rising_of, rising_at}
-use Rattle.job.specs.Arrays.{up_to}
-use Rattle.job.specs.Held.{ride_at}
-use Rattle.job.proofs.UpTo.{up_count, up_at}
-use Rattle.planjudge.specs.PlanTests.{cell_of}
+use Rattle.model.proofs.Lex.{lex_on, lex_apart}
+use Rattle.model.proofs.Lists.{in_unmap, place_of, rising_of, rising_at, rising_first}
+use Rattle.job.proofs.Lists.{in_mapped}
 
-module _ {A : Type 0} (d : A) where
-  in_map_place : (f : A → ℕ) (x : ℕ) (l : List A) → In x (map f l) → (i : ℕ) × (i < length l) × (x ≡ f (get_or l i d))
-  in_map_place f x [] h = absurd h
-  in_map_place f x (b ∷ l) (inl e) = (0, omega arith, e)
-  in_map_place f x (b ∷ l) (inr h) = let (i, k, e) = in_map_place f x l h in (suc i, omega arith, e)
+-- A list has no member twice under f if f tells its places apart.
+nodup_of : {A : Type 0} (d : A) (f : A → ℕ) (l : List A) → ((i k : ℕ) → i < length l → k < length l → f (get_or l i d) ≡ f (get_or l k d) → i ≡ k) → NoDup (map f l)
+nodup_of d f [] h = tt
+nodup_of d f (a ∷ l) h = (
+  (λ m. let (k, b, e) = (in_mapped f l d (f a)).0 m in omega (arith, h 0 (suc k) (omega arith) (omega arith) e)),
+  nodup_of d f l (λ i k a b e. omega (arith, h (suc i) (suc k) (omega arith) (omega arith) e)),
+)
 
-  -- A list has no member twice under f if f tells its places apart.
-  nodup_of : (f : A → ℕ) (l : List A)
-      → ((i k : ℕ) → i < length l → k < length l → f (get_or l i d) ≡ f (get_or l k d) → i ≡ k) → NoDup (map f l)
-  nodup_of f [] h = tt
-  nodup_of f (a ∷ l) h = (
-    (λ m. let (i, k, e) = in_map_place f (f a) l m in omega (arith, h 0 (suc i) (omega arith) (omega arith) e)),
-    nodup_of f l (λ i k a b e. omega (arith, h (suc i) (suc k) (omega arith) (omega arith) e)),
-  )
+module _ {A B : Type 0} (g : A → B) (l : List A) (d : A) where
+  pub own_of : (f : B → ℕ) → ((i k : ℕ) → i < length l → k < length l → f (g (get_or l i d)) ≡ f (g (get_or l k d)) → i ≡ k) → NoDup (map f (map g l))
+  own_of f h = rw (map-map f g l) (nodup_of d (λ a. f (g a)) l h)
 
--- The same of the first n values of f, and their order.
-module _ {A : Type 0} (f : ℕ → A) (n : ℕ) where
-  up_place : (k : ℕ) → k < n → get_or (up_to f n) k (f 0) ≡ f k
-  up_place k h = up_at f n k (f 0) h
+  pub own_at : (f : B → ℕ) → NoDup (map f (map g l)) → (i k : ℕ) → i < length l → k < length l → f (g (get_or l i d)) ≡ f (g (get_or l k d)) → i ≡ k
+  own_at f nd i k = place_of (λ a. f (g a)) l (rw (map-map f g l) at nd) i k d
 
-  pub own_of : (g : A → ℕ) → ((i k : ℕ) → i < n → k < n → g (f i) ≡ g (f k) → i ≡ k) → NoDup (map g (up_to f n))
-  own_of g h = nodup_of (f 0) g (up_to f n) (λ i k a b e.
-      let a' : i < n = omega (arith, up_count f n) in
-      let b' : k < n = omega (arith, up_count f n) in
-      h i k a' b' (sym (ap g (up_place i a')) ∙ e ∙ ap g (up_place k b')))
+  pub rise_of : (R : B → B → Type 0) → ((k : ℕ) → suc k < length l → R (g (get_or l k d)) (g (get_or l (suc k) d))) → Rising R (map g l)
+  rise_of R h = rising_of (g d) R (map g l) (λ k m. rw (get_or-map g l k d, get_or-map g l (suc k) d) (h k (rw (length-map l g) at m)))
 
-  pub own_at : (g : A → ℕ) → NoDup (map g (up_to f n)) → (i k : ℕ) → i < n → k < n → g (f i) ≡ g (f k) → i ≡ k
-  own_at g nd i k a b e =
-      place_of g (up_to f n) nd i k (f 0) (omega (arith, up_count f n)) (omega (arith, up_count f n)) (ap g (up_place i a) ∙ e ∙ sym (ap g (up_place k b)))
+  pub rise_at : (R : B → B → Type 0) → Rising R (map g l) → (k : ℕ) → suc k < length l → R (g (get_or l k d)) (g (get_or l (suc k) d))
+  rise_at R r k m = rw (get_or-map g l k d, get_or-map g l (suc k) d) at (rising_at (g d) R (map g l) r k (rw (length-map l g) m))
 
-  pub rise_of : (Q : A → A → Type 0) → ((k : ℕ) → suc k < n → Q (f k) (f (suc k))) → Rising Q (up_to f n)
-  rise_of Q h = rising_of (f 0) Q (up_to f n) (λ k l.
-      let b : suc k < n = omega (arith, up_count f n) in
-      rw (up_place k (omega arith), up_place (suc k) b) (h k b))
-
-  pub rise_at : (Q : A → A → Type 0) → Rising Q (up_to f n) → (k : ℕ) → suc k < n → Q (f k) (f (suc k))
-  rise_at Q r k b = rw (up_place k (omega arith), up_place (suc k) b) at (rising_at (f 0) Q (up_to f n) r k (omega (arith, up_count f n)))
-
--- The first values as they are mapped, and with those behind them.
-pub map_up : {A B : Type 0} (f : A → B) (g : ℕ → A) (n : ℕ) → map f (up_to g n) ≡ up_to (λ k. f (g k)) n
-map_up f g zero = refl
-map_up f g (suc n) = map-append f (up_to g n) (g n ∷ []) ∙ ap (λ l. l ++ (f (g n) ∷ [])) (map_up f g n)
-
-pub up_part : {A : Type 0} (f : ℕ → A) (n m : ℕ) → up_to f n ++ up_to (λ k. f (n + k)) m ≡ up_to f (n + m)
-up_part f n zero = rw add-zero (append-nil (up_to f n))
-up_part f n (suc m) = rw add-suc (sym (append_assoc (up_to f n) (up_to (λ k. f (n + k)) m) (f (n + m) ∷ [])) ∙ ap (λ l. l ++ (f (n + m) ∷ [])) (up_part f n m))
+-- paths in order have no call twice
+pub own_calls : (j : Job) (ps : List Path) → Rising (Before j) ps → NoDup (map (λ p. p.call) ps)
+own_calls j [] r = tt
+own_calls j (p ∷ []) r = ((λ m. m), tt)
+own_calls j (p ∷ q ∷ ps) r = (apart, own_calls j (q ∷ ps) r.1)
+  where
+    apart : In p.call (map (λ p. p.call) (q ∷ ps)) → ⊥
+    apart m =
+        let (x, i, e) = in_unmap (λ (p : Path). p.call) p.call (q ∷ ps) m in
+        let b = rising_first (Before j) (λ x y z. lex_on) p (q ∷ ps) r x i in
+        lex_apart b (ap (λ k. (call_of j k).deadline) (sym e)) (ap (λ k. (call_of j k).cell) (sym e))
 
 pub below_at : (n : ℕ) (l : List ℕ) → all_below n l ≡ true → (t : ℕ) → t < length l → get_or l t 0 < n
 below_at n [] e t h = absurd (omega arith)
@@ -126,10 +109,3 @@ spare_ranged j r e =
       size = eqb-true _ _ (and_right a b ab);
       cells = below_at j.cells r.cells (and_right (a && b) c e);
     }
-
-module _ (carts lasts rows : List ℕ) (k : ℕ) where
-  pub cell_at : (t : ℕ) → t ≤ get_or lasts k 0 → get_or (ride_at carts lasts rows k).cells t 0 ≡ cell_of rows k t
-  cell_at t h = get_or-take (suc (get_or lasts k 0)) (drop (k * max_steps) rows) t 0 (omega arith) ∙ get_or-drop (k * max_steps) rows t 0
-
-  pub cells_count : k < max_carts → length rows ≡ max_carts * max_steps → get_or lasts k 0 < max_steps → length (ride_at carts lasts rows k).cells ≡ suc (get_or lasts k 0)
-  cells_count h e l = simp (length-take, length-drop) (omega arith)

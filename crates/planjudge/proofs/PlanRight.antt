@@ -1,155 +1,102 @@
--- The tests of `plan`, put together, are what makes paths and spare carts a plan in the written order, both ways. Different lines stand for different
--- carts: on one side because they do not share a cell at step 0, on the other because no cart has two rides. Assumes nothing.
-use Prim.Native.Nat.{ℕ, suc, ◌+◌, ◌-◌, ◌≤◌, ◌<◌}
-use mathlib.Core.Path.{◌≡◌, refl, sym, ap, ◌∙◌}
-use mathlib.Core.List.{List}
+-- The tests of a plan, put together, are what makes paths and spare carts a plan in the written order, both ways. Different rides stand for different carts: on one side because they do not
+-- share a cell at step 0, on the other because no cart has two rides. Assumes nothing.
+use Prim.Native.Nat.{ℕ, suc, ◌≤◌, ◌<◌}
+use mathlib.Core.Path.{◌≡◌, sym, ap, ◌∙◌}
+use mathlib.Core.List.{List, ◌++◌, map}
 use native.Mathlib.Omega.{arith}
 use native.Mathlib.Numerals.{add-one}
 use lib.ListN.{length, get_or}
+use Rattle.std.proofs.lemmas.List.{length-map}
 use Rattle.model.specs.Lists.{In}
-use Rattle.model.specs.Job.{call_of, horizon}
-use Rattle.model.specs.Plan.{Path, Ride, Plan, Before, PlanInOrder, SparesInOrder, Share, Trade, Apart}
+use Rattle.model.specs.Job.{horizon}
+use Rattle.model.specs.Plan as plan
+use Rattle.model.specs.Plan.{Plan, Before, PlanInOrder, SparesInOrder, Share, Trade, Apart}
 use Rattle.model.specs.Promises.{RightPlan}
-use Rattle.model.proofs.Decide.{dec_eq, dec_le}
-use Rattle.job.specs.Arrays.{up_to, call_at, job_of}
+use Rattle.model.proofs.Decide.{dec_eq}
+use Rattle.job.specs.Lists.{job_of}
 use Rattle.job.specs.declared.state.Job.{Job}
-use Rattle.job.specs.Held.{path_at, paths_to, ride_at, spares_from}
-use Rattle.job.proofs.Arrays.{calls_count, carts_count, call-at}
-use Rattle.job.proofs.UpTo.{up_count, in_up}
-use Rattle.floor.specs.Tables.{Shut}
-use Rattle.planjudge.specs.PlanTests.{cell_of, Ordered, SparesRise, Marks, AllLed, AllStay, Unshared, Untraded, Clear}
-use Rattle.planjudge.proofs.PlanLaws.{own_of, own_at, rise_of, rise_at}
-use Rattle.planjudge.proofs.PlanSteps.{other_call}
-use Rattle.planjudge.proofs.PlanLines.{Given, rides, known_call, long, line_at, line_next, by_last}
+use Rattle.job.specs.declared.held.Ride.{Ride}
+use Rattle.job.specs.Held.{as_path, as_ride}
+use Rattle.job.proofs.Lists.{calls_count, in_mapped}
+use Rattle.planjudge.specs.declared.walks.Floor.{Floor}
+use Rattle.planjudge.specs.PlanTests.{ride_at, walk_at, Ordered, SparesRise, IsFloor, AllLed, AllStay, Clear}
+use Rattle.planjudge.proofs.PlanLaws.{own_of, own_at, rise_of, rise_at, own_calls}
+use Rattle.planjudge.proofs.PlanLines.{no_ride, Given, ride_in, call_is, ride_known, all_rides}
 use Rattle.planjudge.proofs.PlanWalks.{led_leads, stayed_stays, starts_on}
 
-module _ {s : Job} {carts calls lasts rows : List ℕ} (g : Given s carts calls lasts rows) where
-  abbrev P : ℕ → Path
-  P = path_at carts calls lasts rows
+-- Order.
+pub plan_ordered : (s : Job) (paths : List Ride) → PlanInOrder (job_of s) (map as_path paths) → Ordered s.calls.items paths
+plan_ordered s paths r k h = rw add-one (rw (call_is s (ride_at paths k), call_is s (ride_at paths (suc k))) at (rise_at as_path paths no_ride (Before (job_of s)) r k (omega arith)))
 
-  abbrev R : ℕ → Ride
-  R = ride_at carts lasts rows
+ordered_plan : (s : Job) (paths : List Ride) → Ordered s.calls.items paths → PlanInOrder (job_of s) (map as_path paths)
+ordered_plan s paths o = rise_of as_path paths no_ride (Before (job_of s)) (λ k h. rw (call_is s (ride_at paths k), call_is s (ride_at paths (suc k))) (rw add-one at (o k (omega arith))))
 
-  abbrev n : ℕ
-  n = length (job_of s).calls
+pub spares_rising : (spares : List Ride) → SparesInOrder (map as_ride spares) → SparesRise spares
+spares_rising spares r k h = rw add-one (rise_at as_ride spares no_ride (λ r x. r.cart < x.cart) r k (omega arith))
 
-  abbrev m : ℕ
-  m = length (job_of s).carts - length (job_of s).calls
+rising_spares : (spares : List Ride) → SparesRise spares → SparesInOrder (map as_ride spares)
+rising_spares spares o = rise_of as_ride spares no_ride (λ r x. r.cart < x.cart) (λ k h. rw add-one at (o k (omega arith)))
 
-  abbrev Ps : List Path
-  Ps = paths_to carts calls lasts rows n
+-- No two rides in one place.
+pub apart_clear : (rides : List Ride) → Apart (map as_ride rides) → (t : ℕ) → Clear rides t
+apart_clear rides p t = (
+  (λ i k a b c. one i k a b (p.no_share _ _ (ride_in rides i a) (ride_in rides k b) t c)),
+  λ k a (i, b, other, c). other (one i k b a (sym (p.no_trade _ _ (ride_in rides k a) (ride_in rides i b) t c))),
+)
+  where
+    one : (i k : ℕ) → i < length rides → k < length rides → (ride_at rides i).cart ≡ (ride_at rides k).cart → i ≡ k
+    one = own_at as_ride rides no_ride (λ r. r.cart) p.own_cart
 
-  abbrev Ss : List Ride
-  Ss = spares_from carts lasts rows n m
+module _ (carts : List ℕ) (rides : List Ride) (h : ℕ) (late : (r : plan.Ride) → In r (map as_ride rides) → length r.cells ≤ suc h) (clear : (t : ℕ) → t ≤ h → Clear rides t) where
+  one_share : (i k t : ℕ) → i < length rides → k < length rides → Share (walk_at rides i) (walk_at rides k) t → i ≡ k
+  one_share i k t a b (v, x, y) =
+      let l = x.0 in
+      (clear t (omega (arith, late _ (ride_in rides i a)))).0 i k a b (v, x, y)
 
-  -- Order.
-  call_is : (k : ℕ) → k < n → call_of (job_of s) (get_or calls k 0) ≡ call_at s.kinds s.targets s.deadlines (get_or calls k 0)
-  call_is k h = call-at s (get_or calls k 0) (known_call g k (omega (arith, calls_count s)))
-
-  in_order : Ordered s.targets s.deadlines calls s.calls → PlanInOrder (job_of s) Ps
-  in_order o = rise_of P n (Before (job_of s)) (λ k h.
-      rw (call_is k (omega arith), call_is (suc k) h) (rw add-one at (o k (omega (arith, calls_count s)))))
-
-  pub right_ordered : PlanInOrder (job_of s) Ps → Ordered s.targets s.deadlines calls s.calls
-  right_ordered r k l =
-      let h : suc k < n = omega (arith, calls_count s) in
-      rw add-one (rw (call_is k (omega arith), call_is (suc k) h) at (rise_at P n (Before (job_of s)) r k h))
-
-  own_call : Ordered s.targets s.deadlines calls s.calls → (i k : ℕ) → i < n → k < n → get_or calls i 0 ≡ get_or calls k 0 → i ≡ k
-  own_call o i k a b e = go (dec_le i k) (dec_le k i)
+  one_trade : (i k t : ℕ) → i < length rides → k < length rides → Trade (walk_at rides i) (walk_at rides k) t → i ≡ k
+  one_trade i k t a b c = go (dec_eq k i)
     where
-      go : Dec (i ≤ k) → Dec (k ≤ i) → i ≡ k
-      go (yes l) (yes r) = omega arith
-      go (yes l) (no r) = absurd (other_call s.targets s.deadlines calls s.calls o i k (omega arith) (omega (arith, calls_count s)) e)
-      go (no l) r = absurd (other_call s.targets s.deadlines calls s.calls o k i (omega arith) (omega (arith, calls_count s)) (sym e))
+      go : Dec (k ≡ i) → i ≡ k
+      go (yes e) = sym e
+      go (no other) =
+          let (u, v, x, x', y, y') = c in
+          let l = x.0 in
+          absurd ((clear t (omega (arith, late _ (ride_in rides i a)))).1 i a (k, b, other, c))
 
-  spares_in_order : SparesRise carts s.calls s.carts → SparesInOrder Ss
-  spares_in_order o = rise_of (λ k. R (n + k)) m (λ r x. r.cart < x.cart) (λ k h.
-      let e : n + suc k ≡ n + k + 1 = omega arith in
-      rw e (o (n + k) (omega (arith, calls_count s)) (omega (arith, carts_count s))))
+  -- what is one ride has one cart
+  no_pair : (C : List ℕ → List ℕ → ℕ → Type 0) → ((i k t : ℕ) → i < length rides → k < length rides → C (walk_at rides i) (walk_at rides k) t → i ≡ k)
+      → (p q : plan.Ride) → In p (map as_ride rides) → In q (map as_ride rides) → (t : ℕ) → C p.cells q.cells t → p.cart ≡ q.cart
+  no_pair C one p q x y t w =
+      let (i, a, e) = (in_mapped as_ride rides no_ride p).0 x in
+      let (k, b, f) = (in_mapped as_ride rides no_ride q).0 y in
+      ap (λ p. p.cart) e ∙ ap (λ x. (ride_at rides x).cart) (one i k t a b (rw (e, f) at w)) ∙ sym (ap (λ p. p.cart) f)
 
-  pub right_rise : SparesInOrder Ss → SparesRise carts s.calls s.carts
-  right_rise r k a b =
-      let e : n + (k - n) ≡ k = omega (arith, calls_count s) in
-      let f : n + suc (k - n) ≡ k + 1 = omega (arith, calls_count s) in
-      rw (e, f) at (rise_at (λ k. R (n + k)) m (λ r x. r.cart < x.cart) r (k - n) (omega (arith, calls_count s, carts_count s)))
+  clear_apart : ((r : plan.Ride) → In r (map as_ride rides) → (0 < length r.cells) × (get_or r.cells 0 0 ≡ get_or carts r.cart 0)) → Apart (map as_ride rides)
+  clear_apart f = record {
+    own_cart = own_of as_ride rides no_ride (λ r. r.cart) (λ i k a b e.
+        let x = f _ (ride_in rides i a) in
+        let y = f _ (ride_in rides k b) in
+        one_share i k 0 a b (_, x, (y.0, y.1 ∙ ap (λ c. get_or carts c 0) (sym e))));
+    no_share = no_pair Share one_share;
+    no_trade = no_pair Trade one_trade;
+  }
 
-  -- No two lines in one place.
-  line_in : (k : ℕ) → k < s.carts → In (R k) (up_to R s.carts)
-  line_in k h = (in_up R s.carts (R k)).1 (k, h, refl)
+module _ {s : Job} {paths spares : List Ride} (g : Given s paths spares) where
+  pub plan_clear : Plan (job_of s) (map as_path paths) (map as_ride spares) → (t : ℕ) → Clear (paths ++ spares) t
+  plan_clear p = apart_clear (paths ++ spares) (rw (all_rides paths spares) at p.apart)
 
-  apart_clear : Apart (up_to R s.carts) → (t : ℕ) → Clear lasts rows s.carts t
-  apart_clear p t = (apart, untraded)
-    where
-      apart : Unshared lasts rows s.carts t
-      apart i k a b c d e = own_at R s.carts (λ r. r.cart) p.own_cart i k a b (p.no_share (R i) (R k) (line_in i a) (line_in k b) t
-          (cell_of rows i t, (omega (arith, long g i a), line_at g i t c), (omega (arith, long g k b), line_at g k t d ∙ sym e)))
-
-      untraded : Untraded lasts rows s.carts t
-      untraded k a c (i, b, other, d, e, f) = other (own_at R s.carts (λ r. r.cart) p.own_cart i k b a (p.no_trade (R i) (R k) (line_in i b) (line_in k a) t (
-        cell_of rows i t,
-        cell_of rows i (t + 1),
-        (omega (arith, long g i b), line_at g i t (omega arith)),
-        (omega (arith, long g i b), line_next g i t d),
-        (omega (arith, long g k a), line_at g k t (omega arith) ∙ sym f),
-        (omega (arith, long g k a), line_next g k t c ∙ sym e),
-      )))
-
-  pub plan_clear : Plan (job_of s) Ps Ss → (t : ℕ) → Clear lasts rows s.carts t
-  plan_clear p = apart_clear (rw (rides g) at p.apart)
-
-  module _ (h : ℕ) (late : horizon (job_of s) ≤ h) (clear : (t : ℕ) → t ≤ h → Clear lasts rows s.carts t) where
-    one_share : (i k t : ℕ) → i < s.carts → k < s.carts → Share (R i).cells (R k).cells t → i ≡ k
-    one_share i k t a b (v, x, y) =
-        let c : t ≤ get_or lasts i 0 = omega (arith, long g i a, x.0) in
-        let d : t ≤ get_or lasts k 0 = omega (arith, long g k b, y.0) in
-        (clear t (omega (arith, by_last g i a))).0 i k a b c d (sym (line_at g i t c) ∙ x.1 ∙ sym y.1 ∙ line_at g k t d)
-
-    one_trade : (i k t : ℕ) → i < s.carts → k < s.carts → Trade (R i).cells (R k).cells t → i ≡ k
-    one_trade i k t a b (u, v, x, x', y, y') = go (dec_eq k i)
-      where
-        c : t < get_or lasts i 0
-        c = omega (arith, long g i a, x'.0)
-
-        d : t < get_or lasts k 0
-        d = omega (arith, long g k b, y'.0)
-
-        go : Dec (k ≡ i) → i ≡ k
-        go (yes e) = sym e
-        go (no other) = absurd ((clear t (omega (arith, by_last g i a, c))).1 i a c (
-          k,
-          b,
-          other,
-          d,
-          sym (line_at g k t (omega (arith, d))) ∙ y.1 ∙ sym x'.1 ∙ line_next g i t c,
-          sym (line_next g k t d) ∙ y'.1 ∙ sym x.1 ∙ line_at g i t (omega (arith, c)),
-        ))
-
-    -- what is one line has one cart
-    no_pair : (C : List ℕ → List ℕ → ℕ → Type 0) → ((i k t : ℕ) → i < s.carts → k < s.carts → C (R i).cells (R k).cells t → i ≡ k)
-        → (p q : Ride) → In p (up_to R s.carts) → In q (up_to R s.carts) → (t : ℕ) → C p.cells q.cells t → p.cart ≡ q.cart
-    no_pair C one p q x y t w =
-        let (i, a, e) = (in_up R s.carts p).0 x in
-        let (k, b, f) = (in_up R s.carts q).0 y in
-        ap (λ p. p.cart) e ∙ ap (λ x. get_or carts x 0) (one i k t a b (rw (e, f) at w)) ∙ sym (ap (λ p. p.cart) f)
-
-    clear_apart : ((k : ℕ) → k < s.carts → cell_of rows k 0 ≡ get_or s.starts (get_or carts k 0) 0) → Apart (up_to R s.carts)
-    clear_apart f = record {
-      own_cart = own_of R s.carts (λ r. r.cart) (λ i k a b e.
-          (clear 0 (omega arith)).0 i k a b (omega arith) (omega arith) (f i a ∙ ap (λ c. get_or s.starts c 0) e ∙ sym (f k b)));
-      no_share = no_pair Share one_share;
-      no_trade = no_pair Trade one_trade;
-    }
-
-  pub tests_right : {table shut : List ℕ} (h : ℕ) → Marks s.from s.to s.tracks table → Shut (job_of s) shut → horizon (job_of s) ≤ h
-      → Ordered s.targets s.deadlines calls s.calls → SparesRise carts s.calls s.carts → AllLed table shut rows lasts carts s.starts calls s.targets s.calls
-      → AllStay table shut rows lasts carts s.starts s.calls s.carts → ((t : ℕ) → t ≤ h → Clear lasts rows s.carts t) → RightPlan (job_of s) Ps Ss
-  tests_right h marks shuts late order rise led stayed clear = (
+  pub tests_right : {floor : Floor} → IsFloor (job_of s) floor → Ordered s.calls.items paths → SparesRise spares
+      → AllLed floor s.carts.items s.calls.items paths → AllStay floor s.carts.items spares
+      → ((t : ℕ) → t ≤ horizon (job_of s) → Clear (paths ++ spares) t) → RightPlan (job_of s) (map as_path paths) (map as_ride spares)
+  tests_right made order rise led stayed clear = (
     record {
-      served = record { size = up_count P n; leads = led_leads g marks shuts led; own_call = own_of P n (λ p. p.call) (own_call order) };
-      stay = stayed_stays g marks shuts stayed;
-      size = omega (arith, up_count P n, up_count (λ k. R (n + k)) m, g.ready.enough);
-      apart = rw (rides g) (clear_apart h late clear (starts_on g marks shuts led stayed));
+      served = record { size = omega (arith, length-map paths as_path, calls_count s, g.calls); leads = led_leads g made led; own_call = own_calls (job_of s) _ in_order };
+      stay = stayed_stays g made stayed;
+      size = omega (arith, length-map paths as_path, length-map spares as_ride, g.carts);
+      apart = rw (all_rides paths spares) (clear_apart s.carts.items (paths ++ spares) (horizon (job_of s)) (λ r i. (ride_known g r i).ends) clear (starts_on g made led stayed));
     },
-    (in_order order, spares_in_order rise),
+    (in_order, rising_spares spares rise),
   )
+    where
+      in_order : PlanInOrder (job_of s) (map as_path paths)
+      in_order = ordered_plan s paths order

@@ -1,169 +1,198 @@
--- What each turn of the loops of `plan` keeps, over plain lists and numbers. Assumes nothing.
+-- What each turn of the loops keeps, over plain lists and numbers. Assumes nothing.
 use Prim.Native.Nat.{ℕ, zero, suc, ◌+◌, ◌*◌, ◌≤◌, ◌<◌}
-use mathlib.Core.Path.{◌≡◌, sym, ◌∙◌, ap}
-use mathlib.Core.List.{List}
+use mathlib.Core.Path.{◌≡◌, refl, sym, ◌∙◌, ap}
+use mathlib.Core.List.{List, [], ◌∷◌, ◌++◌}
 use mathlib.Core.Logic.{inl, inr, ◌⊎◌, ⊎_elim}
 use mathlib.Core.Bool.{true, false, false≢true}
 use native.Mathlib.Omega.{arith}
 use native.Mathlib.Numerals.{add-one}
-use lib.ListN.{length, get_or, set}
-use lib.Seq.{get_or-set_same, get_or-set_other}
-use borrow.Author.Count.{below_more}
-use Rattle.model.specs.Limits.{max_cells, max_carts}
+use lib.ListN.{length, get_or, set, replicate, length-take}
+use lib.Seq.{get_or-set_same, get_or-set_other, get_or-take}
+use Rattle.std.specs.Prelude.{Option, None, Some, is_some}
+use Rattle.model.specs.Limits.{max_cells}
+use Rattle.model.specs.Lists.{In}
+use Rattle.model.specs.Job.{Track, track}
+use Rattle.model.specs.Walk.{At}
 use Rattle.model.proofs.Decide.{dec_eq}
-use Rattle.model.proofs.Lex.{lex_on, lex_apart}
-use Rattle.floor.specs.Order.{SoonerIn}
+use Rattle.model.proofs.Decisions.{track_eq, track_parts}
+use Rattle.model.proofs.Lists.{in_left, in_right, in_part}
 use Rattle.job.specs.Bits.{bit_at, with_bit, pairs_below, pair_at}
-use Rattle.job.proofs.BitLaws.{bit_set, bit_other, bits_length}
+use Rattle.job.specs.Held.{as_ride}
+use Rattle.job.specs.declared.held.Ride.{Ride}
+use Rattle.job.proofs.BitLaws.{bit_set, bit_other}
 use Rattle.job.proofs.Triangle.{pair_small, pair_same}
-use Rattle.planjudge.specs.PlanTests.{cell_of, Ordered, PairIn, Marks, Goes, Unshared, Trades, Standing}
-
--- what holds of two numbers holds of those that they are equal to
-pub at_both : (F : ℕ → ℕ → Type 0) {x y p q : ℕ} → x ≡ p → y ≡ q → F x y → F p q
-at_both F e f h = rw (e, f) at h
-
--- Order.
-module _ (targets deadlines calls : List ℕ) where
-  abbrev PathBefore : ℕ → ℕ → Type 0
-  PathBefore k m = SoonerIn targets deadlines (get_or calls k 0) (get_or calls m 0)
-
-  path_before_all : (n : ℕ) → Ordered targets deadlines calls n → (m k : ℕ) → k < m → m < n → PathBefore k m
-  path_before_all n o zero k h l = absurd (omega arith)
-  path_before_all n o (suc m) k h l = go (dec_eq k m) (λ h'. path_before_all n o m k h' (omega arith))
-    where
-      next : PathBefore m (suc m)
-      next = rw add-one at (o m (omega arith))
-
-      go : Dec (k ≡ m) → (k < m → PathBefore k m) → PathBefore k (suc m)
-      go (yes e) f = rw e next
-      go (no n) f = lex_on (f (omega arith)) next
-
-  -- no call is twice
-  pub other_call : (n : ℕ) → Ordered targets deadlines calls n → (i k : ℕ) → i < k → k < n → get_or calls i 0 ≡ get_or calls k 0 → ⊥
-  other_call n o i k a b e = lex_apart (path_before_all n o k i a b) (ap (λ q. get_or deadlines q 0) e) (ap (λ q. get_or targets q 0) e)
+use Rattle.planjudge.specs.declared.walks.Floor.{Floor}
+use Rattle.planjudge.specs.PlanTests.{ride_at, walk_at, Marks, Allowed, Walks, Unshared, Trades, Standing}
 
 -- Tracks.
-module _ (from to : List ℕ) where
-  pub marks_none : (table : List ℕ) → ((x : ℕ) → bit_at table x ≡ false) → Marks from to 0 table
-  marks_none table z = record {
-    all = λ u v a b w. absurd (omega (arith, w.1));
-    only = λ u v a b e. absurd (false≢true (sym (z (pair_at u v)) ∙ e));
-  }
+pub marks_none : (table : List ℕ) → ((x : ℕ) → bit_at table x ≡ false) → Marks [] table
+marks_none table z = record {
+  all = λ u v a b w. absurd w;
+  only = λ u v a b e. absurd (false≢true (sym (z (pair_at u v)) ∙ e));
+}
 
-  module _ (i : ℕ) (table : List ℕ) (size : 8 * length table ≡ pairs_below max_cells) (a : get_or from i 0 < max_cells) (b : get_or to i 0 < max_cells) (m : Marks from to i table) where
-    abbrev at : ℕ
-    at = pair_at (get_or from i 0) (get_or to i 0)
+module _ (tracks : List Track) (u v : ℕ) (table : List ℕ) (size : 8 * length table ≡ pairs_below max_cells) (a : u < max_cells) (b : v < max_cells) (m : Marks tracks table) where
+  abbrev at : ℕ
+  at = pair_at u v
 
-    inside : at < 8 * length table
-    inside = rw size (pair_small (get_or from i 0) (get_or to i 0) a b)
+  abbrev more : List Track
+  more = tracks ++ (track u v ∷ [])
 
-    older : (u v : ℕ) → PairIn from to i u v → PairIn from to (i + 1) u v
-    older u v (x, h, f, g) = (x, omega arith, f, g)
+  inside : at < 8 * length table
+  inside = rw size (pair_small u v a b)
 
-    more_all : (u v : ℕ) → u < max_cells → v < max_cells → PairIn from to (i + 1) u v → bit_at (with_bit table at) (pair_at u v) ≡ true
-    more_all u v c d (x, h, e, f) = go (dec_eq (pair_at u v) at)
-      where
-        go : Dec (pair_at u v ≡ at) → bit_at (with_bit table at) (pair_at u v) ≡ true
-        go (yes q) = rw q (bit_set table at inside)
-        go (no n) = bit_other table at inside (pair_at u v) n ∙ m.all u v c d (x, earlier (dec_eq x i), e, f)
-          where
-            earlier : Dec (x ≡ i) → x < i
-            earlier (yes q) = absurd (n (rw (sym (rw q at e), sym (rw q at f))))
-            earlier (no k) = omega arith
+  more_all : (x y : ℕ) → x < max_cells → y < max_cells → In (track x y) more → bit_at (with_bit table at) (pair_at x y) ≡ true
+  more_all x y c d i = go (dec_eq (pair_at x y) at)
+    where
+      earlier : (pair_at x y ≡ at → ⊥) → In (track x y) tracks ⊎ In (track x y) (track u v ∷ []) → In (track x y) tracks
+      earlier n (inl h) = h
+      earlier n (inr (inl e)) = absurd (n (rw ((track_parts e).0, (track_parts e).1)))
+      earlier n (inr (inr h)) = absurd h
 
-    more_only : (u v : ℕ) → u < max_cells → v < max_cells → bit_at (with_bit table at) (pair_at u v) ≡ true → PairIn from to (i + 1) u v ⊎ PairIn from to (i + 1) v u
-    more_only u v c d e = go (dec_eq (pair_at u v) at)
-      where
-        here : ((u ≡ get_or from i 0) × (v ≡ get_or to i 0)) ⊎ ((v ≡ get_or from i 0) × (u ≡ get_or to i 0)) → PairIn from to (i + 1) u v ⊎ PairIn from to (i + 1) v u
-        here (inl (p, q)) = inl (i, omega arith, sym p, sym q)
-        here (inr (p, q)) = inr (i, omega arith, sym p, sym q)
+      go : Dec (pair_at x y ≡ at) → bit_at (with_bit table at) (pair_at x y) ≡ true
+      go (yes q) = rw q (bit_set table at inside)
+      go (no n) = bit_other table at inside (pair_at x y) n ∙ m.all x y c d (earlier n (in_part (track x y) tracks (track u v ∷ []) i))
 
-        go : Dec (pair_at u v ≡ at) → PairIn from to (i + 1) u v ⊎ PairIn from to (i + 1) v u
-        go (yes q) = here (pair_same u v (get_or from i 0) (get_or to i 0) q)
-        go (no n) = ⊎_elim (λ l. inl (older u v l)) (λ l. inr (older v u l)) (m.only u v c d (sym (bit_other table at inside (pair_at u v) n) ∙ e))
+  more_only : (x y : ℕ) → x < max_cells → y < max_cells → bit_at (with_bit table at) (pair_at x y) ≡ true → In (track x y) more ⊎ In (track y x) more
+  more_only x y c d e = go (dec_eq (pair_at x y) at)
+    where
+      last : (p q : ℕ) → p ≡ u → q ≡ v → In (track p q) more
+      last p q f g = in_right (track p q) tracks (track u v ∷ []) (inl (track_eq (f, g)))
 
-    pub marks_more : Marks from to (i + 1) (with_bit table at)
-    marks_more = record { all = more_all; only = more_only }
+      go : Dec (pair_at x y ≡ at) → In (track x y) more ⊎ In (track y x) more
+      go (yes q) = ⊎_elim (λ s. inl (last x y s.0 s.1)) (λ s. inr (last y x s.0 s.1)) (pair_same x y u v q)
+      go (no n) =
+          let old = m.only x y c d (sym (bit_other table at inside (pair_at x y) n) ∙ e) in
+          ⊎_elim (λ h. inl (in_left (track x y) tracks (track u v ∷ []) h)) (λ h. inr (in_left (track y x) tracks (track u v ∷ []) h)) old
 
--- The same, of what the code has in locals.
-pub marks_turn : (from to : List ℕ) (i : ℕ) (table : List ℕ) {table' : List ℕ} {u v p : ℕ} → u ≡ get_or from i 0 → v ≡ get_or to i 0 → p ≡ pair_at u v → table' ≡ with_bit table p
-    → u < max_cells → v < max_cells → 8 * length table ≡ pairs_below max_cells → Marks from to i table → (8 * length table' ≡ pairs_below max_cells) × Marks from to (i + 1) table'
-marks_turn from to i table e f g h b d long m =
-    (ap (λ n. 8 * n) (ap length h ∙ bits_length table _) ∙ long, rw (h, g, e, f) (marks_more from to i table long (omega arith) (omega arith) m))
+  pub marks_more : Marks more (with_bit table at)
+  marks_more = record { all = more_all; only = more_only }
 
--- Steps by the table: what is not the same cell is marked.
-pub no_go : (table : List ℕ) (u v : ℕ) → (u ≡ v → ⊥) → Goes table u v → bit_at table (pair_at u v) ≡ true
-no_go table u v a (inl e) = absurd (a e)
-no_go table u v a (inr e) = e
+-- a table of nobody
+pub nobody : (n c : ℕ) → get_or (replicate {A = Option ℕ} n None) c None ≡ None
+nobody zero c = refl
+nobody (suc n) zero = refl
+nobody (suc n) (suc c) = nobody n c
 
--- Who is on which cell at a step.
-module _ (lasts rows : List ℕ) (t : ℕ) where
-  pub standing_none : (on : List ℕ) → ((c : ℕ) → c < max_cells → get_or on c 0 ≡ max_carts) → Standing lasts rows 0 t on
-  standing_none on z = record {
-    there = λ k h. absurd (omega arith);
-    back = λ c h l. absurd (omega (arith, z c h));
-  }
+at_next : (w : List ℕ) (t v : ℕ) → At w (t + 1) v → At w (suc t) v
+at_next w t v h = rw add-one at h
 
-  -- the cart of line k has left the floor
-  pub standing_left : (k : ℕ) (on : List ℕ) → get_or lasts k 0 < t → Standing lasts rows k t on → Standing lasts rows (k + 1) t on
-  standing_left k on h s = record {
-    there = below_more _ k s.there (λ l. absurd (omega arith));
-    back = λ c l f. let b = s.back c l f in (omega (arith, b.0), b.1, b.2);
-  }
+-- A ride's cells, in its row.
+module _ (r : Ride) where
+  abbrev w : List ℕ
+  w = (as_ride r).cells
 
-  -- the cart of line k is put on a free cell
-  module _ (k : ℕ) (on : List ℕ) (size : length on ≡ max_cells) (small : k < max_carts) (known : cell_of rows k t < max_cells) (lives : t ≤ get_or lasts k 0)
-      (free : max_carts ≤ get_or on (cell_of rows k t) 0) (s : Standing lasts rows k t on) where
-    abbrev on' : List ℕ
-    on' = set on (cell_of rows k t) k
+  pub short : length w ≤ suc r.last
+  short = simp length-take (omega arith)
 
-    put_there : (m : ℕ) → m < k → t ≤ get_or lasts m 0 → get_or on' (cell_of rows m t) 0 ≡ m
-    put_there m h l =
-        let e = s.there m h l in
-        get_or-set_other on (cell_of rows k t) (cell_of rows m t) k 0 (λ q. omega (arith, rw q at e)) ∙ e
+  pub cell_at : (t : ℕ) → t ≤ r.last → get_or w t 0 ≡ get_or r.cells t 0
+  cell_at t h = get_or-take (suc r.last) r.cells t 0 (omega arith)
 
-    put_back : (c : ℕ) → c < max_cells → get_or on' c 0 < max_carts → (get_or on' c 0 < k + 1) × (t ≤ get_or lasts (get_or on' c 0) 0) × (cell_of rows (get_or on' c 0) t ≡ c)
-    put_back c h f = go (dec_eq c (cell_of rows k t))
-      where
-        go : Dec (c ≡ cell_of rows k t) → (get_or on' c 0 < k + 1) × (t ≤ get_or lasts (get_or on' c 0) 0) × (cell_of rows (get_or on' c 0) t ≡ c)
-        go (yes q) =
-            let e : get_or on' c 0 ≡ k = rw q (get_or-set_same on (cell_of rows k t) k 0 (omega arith)) in
-            rw e (omega arith, lives, sym q)
-        go (no n) =
-            let e : get_or on' c 0 ≡ get_or on c 0 = get_or-set_other on (cell_of rows k t) c k 0 n in
-            let b = s.back c h (rw e at f) in
-            rw e (omega (arith, b.0), b.1, b.2)
+  module _ (full : r.last < length r.cells) where
+    pub long : length w ≡ suc r.last
+    long = simp length-take (omega arith)
 
-    pub standing_more : Standing lasts rows (k + 1) t on'
-    standing_more = record {
-      there = below_more _ k put_there (λ l. get_or-set_same on (cell_of rows k t) k 0 (omega arith));
-      back = put_back;
+    pub on_floor : (t : ℕ) → t ≤ r.last → At w t (get_or r.cells t 0)
+    on_floor t h = (omega (arith, long), cell_at t h)
+
+    pub walks_of : (floor : Floor) (a : ℕ) → get_or r.cells 0 0 ≡ a → ((t : ℕ) → t < r.last → Allowed floor t (get_or r.cells t 0) (get_or r.cells (t + 1) 0)) → Walks floor a w
+    walks_of floor a e f = record {
+      starts = (omega (arith, long), cell_at 0 (omega arith) ∙ e);
+      steps = λ t h.
+          let l : t < r.last = omega (arith, long) in
+          rw (cell_at t (omega arith), cell_at (suc t) l) (rw (add-one t) at (f t l));
     }
 
-  pub standing_unshared : (n : ℕ) (on : List ℕ) → Standing lasts rows n t on → Unshared lasts rows n t
-  standing_unshared n on s k m a b h l e = sym (s.there k a h) ∙ ap (λ c. get_or on c 0) e ∙ s.there m b l
+    pub walks_at : (floor : Floor) (a : ℕ) → Walks floor a w → (t : ℕ) → t < r.last → Allowed floor t (get_or r.cells t 0) (get_or r.cells (t + 1) 0)
+    walks_at floor a k t h = rw (add-one t) (rw (cell_at t (omega arith), cell_at (suc t) h) at (k.steps t (omega (arith, long))))
 
-  -- the cell of line k is taken by an earlier line's cart
-  pub standing_taken : (n k : ℕ) (on : List ℕ) → Standing lasts rows k t on → k < n → cell_of rows k t < max_cells → t ≤ get_or lasts k 0
-      → get_or on (cell_of rows k t) 0 < max_carts → Unshared lasts rows n t → ⊥
-  standing_taken n k on s h c l f a =
-      let (m, d, e) = s.back (cell_of rows k t) c f in
-      omega (arith, a (get_or on (cell_of rows k t) 0) k (omega arith) h d l e)
+    pub ends_of : (b : ℕ) → get_or r.cells r.last 0 ≡ b → (t : ℕ) → length w ≡ suc t → get_or w t 0 ≡ b
+    ends_of b e t h =
+        let f : t ≡ r.last = omega (arith, long) in
+        rw f (cell_at r.last (omega arith) ∙ e)
 
-  -- Who meets the cart of line k is that of the line o, on the cell that it goes to.
-  pub record Facing (k o : ℕ) : Type 0 where
-    pub known : o < max_carts
-    pub other : o ≡ k → ⊥
-    pub lives : t < get_or lasts o 0
-    pub back : cell_of rows o (t + 1) ≡ cell_of rows k t
+-- Who is on which cell at a step.
+module _ (rides : List Ride) (t : ℕ) where
+  -- the cart of ride k has left the floor
+  pub standing_left : (k : ℕ) (on : List (Option ℕ)) → (ride_at rides k).last < t → Standing rides k t on → Standing rides (k + 1) t on
+  standing_left k on h s = record {
+    there = λ m c l f. go m c f (dec_eq m k) l;
+    back = λ m c e. let b = s.back m c e in (omega (arith, b.0), b.1);
+  }
+    where
+      go : (m c : ℕ) → At (walk_at rides m) t c → Dec (m ≡ k) → m < k + 1 → get_or on c None ≡ Some m
+      go m c f (yes e) l = let g = f.0 in absurd (omega (arith, short (ride_at rides m), ap (λ x. (ride_at rides x).last) e))
+      go m c f (no n) l = s.there m c (omega arith) f
 
-  module _ (n k : ℕ) (on : List ℕ) (few : n ≤ max_carts) (s : Standing lasts rows n t on) (o : ℕ) (e : o ≡ get_or on (cell_of rows k (t + 1)) 0) where
-    pub facing : Trades lasts rows n t k → Facing k o
-    facing (m, h, d, l, f, f') =
-        let q : o ≡ m = e ∙ ap (λ c. get_or on c 0) (sym f) ∙ s.there m h (omega arith) in
-        rw q (record { known = omega arith; other = d; lives = l; back = f' })
+  -- the cart of ride k is put on a free cell
+  module _ (k : ℕ) (on : List (Option ℕ)) (here : ℕ) (known : here < length on) (lives : At (walk_at rides k) t here) (free : get_or on here None ≡ None) (s : Standing rides k t on) where
+    abbrev on' : List (Option ℕ)
+    on' = set on here (Some k)
 
-    pub trades_of : cell_of rows k (t + 1) < max_cells → Facing k o → Trades lasts rows n t k
-    trades_of c m =
-        let b = s.back (cell_of rows k (t + 1)) c (rw e at m.known) in
-        (o, rw e b.0, m.other, m.lives, rw e b.2, m.back)
+    put_there : (m c : ℕ) → m < k + 1 → At (walk_at rides m) t c → get_or on' c None ≡ Some m
+    put_there m c l f = go (dec_eq m k)
+      where
+        go : Dec (m ≡ k) → get_or on' c None ≡ Some m
+        go (yes e) =
+            let f' = rw e at f in
+            let g : c ≡ here = sym f'.1 ∙ lives.1 in
+            rw (g, e) (get_or-set_same on here (Some k) None known)
+        go (no n) =
+            let e = s.there m c (omega arith) f in
+            get_or-set_other on here c (Some k) None (λ q. let g = ap (λ x. get_or on x None) q in false≢true (cc)) ∙ e
+
+    put_back : (m c : ℕ) → get_or on' c None ≡ Some m → (m < k + 1) × At (walk_at rides m) t c
+    put_back m c e = go (dec_eq c here)
+      where
+        go : Dec (c ≡ here) → (m < k + 1) × At (walk_at rides m) t c
+        go (yes q) =
+            let f = get_or-set_same on here (Some k) None known in
+            let g = ap (λ x. get_or on' x None) q in
+            let h : k ≡ m = cc in
+            rw (← h, q) (omega arith, lives)
+        go (no n) =
+            let b = s.back m c (sym (get_or-set_other on here c (Some k) None n) ∙ e) in
+            (omega (arith, b.0), b.1)
+
+    pub standing_more : Standing rides (k + 1) t on'
+    standing_more = record { there = put_there; back = put_back }
+
+  pub standing_unshared : (on : List (Option ℕ)) → Standing rides (length rides) t on → Unshared rides t
+  standing_unshared on s k m a b (v, x, y) =
+      let p = s.there k v a x in
+      let q = s.there m v b y in
+      cc
+
+  -- the cell of ride k is taken by an earlier one's cart
+  pub standing_taken : (k : ℕ) (on : List (Option ℕ)) (here : ℕ) → Standing rides k t on → k < length rides → At (walk_at rides k) t here
+      → is_some (get_or on here None) ≡ true → Unshared rides t → ⊥
+  standing_taken k on here s h l taken apart = go (get_or on here None) (λ m e. e) taken
+    where
+      go : (o : Option ℕ) → ((m : ℕ) → o ≡ Some m → get_or on here None ≡ Some m) → is_some o ≡ true → ⊥
+      go None f e = false≢true e
+      go (Some m) f e =
+          let b = s.back m here (f m refl) in
+          omega (arith, apart m k (omega (arith, b.0)) h (here, b.1, l))
+
+  -- a cart at its last step goes nowhere
+  pub no_move : (k : ℕ) → (ride_at rides k).last ≤ t → Trades rides t k → ⊥
+  no_move k h (m, l, d, (u, v, a, b, x, y)) = let g = b.0 in omega (arith, short (ride_at rides k))
+
+  -- Only the cart that stands where ride k's goes can trade with it.
+  module _ (k : ℕ) (on : List (Option ℕ)) (s : Standing rides (length rides) t on) (u v : ℕ) (leaves : At (walk_at rides k) t u) (goes : At (walk_at rides k) (t + 1) v) where
+    pub nobody_there : get_or on v None ≡ None → Trades rides t k → ⊥
+    nobody_there e (o, h, d, (x, y, a, b, a', b')) =
+        let p = s.there o y h a' in
+        let g = ap (λ c. get_or on c None) (sym (at_next (walk_at rides k) t v goes).1 ∙ b.1) in
+        false≢true (cc)
+
+    module _ (m : ℕ) (e : get_or on v None ≡ Some m) where
+      pub facing : Trades rides t k → (m ≡ k → ⊥) × At (walk_at rides m) (t + 1) u
+      facing (o, h, d, (x, y, a, b, a', b')) =
+          let p = s.there o y h a' in
+          let g = ap (λ c. get_or on c None) (sym (at_next (walk_at rides k) t v goes).1 ∙ b.1) in
+          let q : m ≡ o = cc in
+          rw (q, add-one, sym leaves.1 ∙ a.1) (d, b')
+
+      pub trades_of : (m ≡ k → ⊥) → At (walk_at rides m) (t + 1) u → Trades rides t k
+      trades_of d b = (m, (s.back m v e).0, d, (u, v, leaves, at_next (walk_at rides k) t v goes, (s.back m v e).1, at_next (walk_at rides m) t u b))

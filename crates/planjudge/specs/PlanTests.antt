@@ -1,88 +1,102 @@
--- What the tests of a plan decide, by the numbers of its lines. Line k has its cart at k of `carts`, and its cells in row k of `rows`, up to the step that `lasts` has at k. Lines of paths
--- have a call too; behind them stand those of the spare carts.
-use Rattle.std.specs.Prelude.{ℕ, ◌+◌, ◌*◌, ◌≤◌, ◌<◌, ◌≡◌, List, ◌⊎◌, true, get_or, length}
+-- What the tests of a plan decide, of the rides of a sheet's lines: first those of the paths, which have a call too, behind them those of the spare carts. A ride's cart is on its cells from
+-- step 0 to its last.
+use Rattle.std.specs.Prelude.{ℕ, suc, ◌+◌, ◌<◌, ◌≡◌, List, [], ◌⊎◌, true, Option, None, Some, get_or, length}
+use Rattle.model.specs.Limits.{max_cells}
+use Rattle.model.specs.Lists.{In}
+use Rattle.model.specs.Job as model
+use Rattle.model.specs.Job.{track}
+use Rattle.model.specs.Walk.{At}
+use Rattle.model.specs.Plan.{Sooner, Share, Trade}
+use Rattle.job.specs.declared.state.CallKind.TheVariants.{Lift}
+use Rattle.job.specs.declared.state.Call.{Call}
+use Rattle.job.specs.declared.held.Ride.{Ride}
 use Rattle.job.specs.Bits.{bit_at, pair_at}
-use Rattle.floor.specs.Tables.{OpenAt}
-use Rattle.floor.specs.Order.{SoonerIn}
-use Rattle.model.specs.Limits.{max_cells, max_carts, max_steps}
+use Rattle.job.specs.Lists.{as_call}
+use Rattle.job.specs.Held.{as_ride}
+use Rattle.floor.specs.Tables.{OpenAt, Shut}
+use Rattle.planjudge.specs.declared.walks.Floor.{Floor}
 
--- the cell of line k at the step t
-abbrev pub cell_of : List ℕ → ℕ → ℕ → ℕ
-cell_of rows k t = get_or rows (k * max_steps + t) 0
+-- ride k of a list
+abbrev pub ride_at : List Ride → ℕ → Ride
+ride_at rides k = get_or rides k (record { cart = 0; call = 0; last = 0; cells = [] })
 
--- There is room for n lines.
-pub record Fits (lasts rows : List ℕ) (n : ℕ) : Type 0 where
-  pub few : n ≤ max_carts
-  pub ends : length lasts ≡ max_carts
-  pub cells : length rows ≡ max_carts * max_steps
+-- its cells
+abbrev pub walk_at : List Ride → ℕ → List ℕ
+walk_at rides k = (as_ride (ride_at rides k)).cells
 
--- The first n entries are below m.
-abbrev pub Below : List ℕ → ℕ → ℕ → Type 0
-Below numbers n m = (k : ℕ) → k < n → get_or numbers k 0 < m
+-- the call of a path
+abbrev pub call_at : List Call → Ride → Call
+call_at calls path = get_or calls path.call (record { kind = Lift; cell = 0; deadline = 0 })
 
--- Each of the first n paths' calls stands before the next.
-abbrev pub Ordered : List ℕ → List ℕ → List ℕ → ℕ → Type 0
-Ordered targets deadlines calls n = (k : ℕ) → k + 1 < n → SoonerIn targets deadlines (get_or calls k 0) (get_or calls (k + 1) 0)
+-- Each path's call is one of these, each ride's cart has a cell here.
+abbrev pub CallsKnown : List Call → List Ride → Type 0
+CallsKnown calls paths = (k : ℕ) → k < length paths → (ride_at paths k).call < length calls
 
--- Each cart of the lines from `paths` to `lines` has a smaller number than the next.
-abbrev pub SparesRise : List ℕ → ℕ → ℕ → Type 0
-SparesRise carts paths lines = (k : ℕ) → paths ≤ k → k + 1 < lines → get_or carts k 0 < get_or carts (k + 1) 0
+abbrev pub CartsKnown : List ℕ → List Ride → Type 0
+CartsKnown carts rides = (k : ℕ) → k < length rides → (ride_at rides k).cart < length carts
 
--- One of the first n pairs of the two lists is u and v.
-abbrev pub PairIn : List ℕ → List ℕ → ℕ → ℕ → ℕ → Type 0
-PairIn from to n u v = (i : ℕ) × (i < n) × (get_or from i 0 ≡ u) × (get_or to i 0 ≡ v)
+-- Each path's call stands before the next one's.
+abbrev pub Ordered : List Call → List Ride → Type 0
+Ordered calls paths = (k : ℕ) → k + 1 < length paths → Sooner (as_call (call_at calls (ride_at paths k))) (as_call (call_at calls (ride_at paths (k + 1))))
 
--- The table's bit is set for each of the first n pairs, either way round, and for no other.
-pub record Marks (from to : List ℕ) (n : ℕ) (table : List ℕ) : Type 0 where
-  pub all : (u v : ℕ) → u < max_cells → v < max_cells → PairIn from to n u v → bit_at table (pair_at u v) ≡ true
-  pub only : (u v : ℕ) → u < max_cells → v < max_cells → bit_at table (pair_at u v) ≡ true → PairIn from to n u v ⊎ PairIn from to n v u
+-- Each spare cart has a smaller number than the next.
+abbrev pub SparesRise : List Ride → Type 0
+SparesRise spares = (k : ℕ) → k + 1 < length spares → (ride_at spares k).cart < (ride_at spares (k + 1)).cart
 
--- By the table, a cart may go from u to v in a step.
-abbrev pub Goes : List ℕ → ℕ → ℕ → Type 0
-Goes table u v = (u ≡ v) ⊎ (bit_at table (pair_at u v) ≡ true)
+-- The table's bit is set for the two cells of each track, either way round, and for no other two.
+pub record Marks (tracks : List model.Track) (table : List ℕ) : Type 0 where
+  pub all : (u v : ℕ) → u < max_cells → v < max_cells → In (track u v) tracks → bit_at table (pair_at u v) ≡ true
+  pub only : (u v : ℕ) → u < max_cells → v < max_cells → bit_at table (pair_at u v) ≡ true → In (track u v) tracks ⊎ In (track v u) tracks
+
+-- The tables are those of the job.
+pub record IsFloor (j : model.Job) (floor : Floor) : Type 0 where
+  pub marks : Marks j.tracks floor.joined.bytes
+  pub shuts : Shut j floor.shut
+
+-- By the tables, a cart may go from u to v in a step.
+abbrev pub Goes : Floor → ℕ → ℕ → Type 0
+Goes floor u v = (u ≡ v) ⊎ (bit_at floor.joined.bytes (pair_at u v) ≡ true)
 
 -- By the tables, it may do so from the step t to the next: `shut` has for each cell the first step at which it is closed.
-abbrev pub Allowed : List ℕ → List ℕ → ℕ → ℕ → ℕ → Type 0
-Allowed table shut t u v = Goes table u v × OpenAt shut (t + 1) v
+abbrev pub Allowed : Floor → ℕ → ℕ → ℕ → Type 0
+Allowed floor t u v = Goes floor u v × OpenAt floor.shut (suc t) v
 
--- By the tables, line k's cart walks up to the step d.
-abbrev pub Walks : List ℕ → List ℕ → List ℕ → ℕ → ℕ → Type 0
-Walks table shut rows k d = (t : ℕ) → t < d → Allowed table shut t (cell_of rows k t) (cell_of rows k (t + 1))
+-- By the tables, w is a walk from the cell a.
+pub record Walks (floor : Floor) (a : ℕ) (w : List ℕ) : Type 0 where
+  pub starts : At w 0 a
+  pub steps : (t : ℕ) → suc t < length w → Allowed floor t (get_or w t 0) (get_or w (suc t) 0)
 
--- Path k walks from the cell a to the cell b, on which it is at the step d.
-pub record Led (table shut rows : List ℕ) (k d a b : ℕ) : Type 0 where
-  pub starts : cell_of rows k 0 ≡ a
-  pub walks : Walks table shut rows k d
-  pub ends : cell_of rows k d ≡ b
+-- It is one that ends on the cell b.
+pub record Led (floor : Floor) (a b : ℕ) (w : List ℕ) : Type 0 where
+  pub walks : Walks floor a w
+  pub ends : (t : ℕ) → length w ≡ suc t → get_or w t 0 ≡ b
 
--- Each of the first n paths goes from its cart's start to its call's target cell.
-abbrev pub AllLed : List ℕ → List ℕ → List ℕ → List ℕ → List ℕ → List ℕ → List ℕ → List ℕ → ℕ → Type 0
-AllLed table shut rows lasts carts starts calls targets n =
-    (k : ℕ) → k < n → Led table shut rows k (get_or lasts k 0) (get_or starts (get_or carts k 0) 0) (get_or targets (get_or calls k 0) 0)
+-- Each path goes from its cart's start to its call's cell.
+abbrev pub AllLed : Floor → List ℕ → List Call → List Ride → Type 0
+AllLed floor carts calls paths =
+    (k : ℕ) → k < length paths → Led floor (get_or carts (ride_at paths k).cart 0) (call_at calls (ride_at paths k)).cell (walk_at paths k)
 
--- Each cart of the lines from `paths` to `lines` walks from its start, up to its last step.
-abbrev pub AllStay : List ℕ → List ℕ → List ℕ → List ℕ → List ℕ → List ℕ → ℕ → ℕ → Type 0
-AllStay table shut rows lasts carts starts paths lines =
-    (k : ℕ) → paths ≤ k → k < lines → (cell_of rows k 0 ≡ get_or starts (get_or carts k 0) 0) × Walks table shut rows k (get_or lasts k 0)
+-- Each spare cart walks from its start.
+abbrev pub AllStay : Floor → List ℕ → List Ride → Type 0
+AllStay floor carts spares = (k : ℕ) → k < length spares → Walks floor (get_or carts (ride_at spares k).cart 0) (walk_at spares k)
 
--- No two carts of the first n lines share a cell at the step t.
-abbrev pub Unshared : List ℕ → List ℕ → ℕ → ℕ → Type 0
-Unshared lasts rows n t = (k m : ℕ) → k < n → m < n → t ≤ get_or lasts k 0 → t ≤ get_or lasts m 0 → cell_of rows k t ≡ cell_of rows m t → k ≡ m
+-- No two carts share a cell at the step t.
+abbrev pub Unshared : List Ride → ℕ → Type 0
+Unshared rides t = (k m : ℕ) → k < length rides → m < length rides → Share (walk_at rides k) (walk_at rides m) t → k ≡ m
 
--- Another cart of the first n lines goes the other way than line k's from the step t to the next.
-abbrev pub Trades : List ℕ → List ℕ → ℕ → ℕ → ℕ → Type 0
-Trades lasts rows n t k =
-    (m : ℕ) × (m < n) × (m ≡ k → ⊥) × (t < get_or lasts m 0) × (cell_of rows m t ≡ cell_of rows k (t + 1)) × (cell_of rows m (t + 1) ≡ cell_of rows k t)
+-- Another cart trades places with ride k's from the step t to the next.
+abbrev pub Trades : List Ride → ℕ → ℕ → Type 0
+Trades rides t k = (m : ℕ) × (m < length rides) × (m ≡ k → ⊥) × Trade (walk_at rides k) (walk_at rides m) t
 
--- No cart of the first n lines trades places from the step t to the next.
-abbrev pub Untraded : List ℕ → List ℕ → ℕ → ℕ → Type 0
-Untraded lasts rows n t = (k : ℕ) → k < n → t < get_or lasts k 0 → Trades lasts rows n t k → ⊥
+-- No cart trades places from the step t to the next.
+abbrev pub Untraded : List Ride → ℕ → Type 0
+Untraded rides t = (k : ℕ) → k < length rides → Trades rides t k → ⊥
 
--- At the step t the carts of the first n lines are in nobody's way.
-abbrev pub Clear : List ℕ → List ℕ → ℕ → ℕ → Type 0
-Clear lasts rows n t = Unshared lasts rows n t × Untraded lasts rows n t
+-- At the step t the carts are in nobody's way.
+abbrev pub Clear : List Ride → ℕ → Type 0
+Clear rides t = Unshared rides t × Untraded rides t
 
--- `on` has for each cell the number of the line whose cart is on it at the step t, of the first n; max_carts or more for none.
-pub record Standing (lasts rows : List ℕ) (n t : ℕ) (on : List ℕ) : Type 0 where
-  pub there : (k : ℕ) → k < n → t ≤ get_or lasts k 0 → get_or on (cell_of rows k t) 0 ≡ k
-  pub back : (c : ℕ) → c < max_cells → get_or on c 0 < max_carts → (get_or on c 0 < n) × (t ≤ get_or lasts (get_or on c 0) 0) × (cell_of rows (get_or on c 0) t ≡ c)
+-- `on` has for each cell the number of the ride whose cart is on it at the step t, of the first n.
+pub record Standing (rides : List Ride) (n t : ℕ) (on : List (Option ℕ)) : Type 0 where
+  pub there : (k c : ℕ) → k < n → At (walk_at rides k) t c → get_or on c None ≡ Some k
+  pub back : (k c : ℕ) → get_or on c None ≡ Some k → (k < n) × At (walk_at rides k) t c
