@@ -95,7 +95,8 @@ module _ (points : List Point) where
     later up i h out k l g =
         ⊎_elim (λ e. absurd (out (sym e))) (λ m. omega (arith, up i k l g)) (eq-or-lt_of_le {n = t} {m = (get_or points i no_point).step} (c.after i h (omega arith)))
 
-    pub cursor_end : (i : ℕ) → i ≤ length points → ((k : ℕ) → a ≤ k → k < i → (get_or points k no_point).step ≡ t) → ((k : ℕ) → i ≤ k → k < length points → t < (get_or points k no_point).step) → Cursor points (t + 1) i
+    pub cursor_end : (i : ℕ) → i ≤ length points → ((k : ℕ) → a ≤ k → k < i → (get_or points k no_point).step ≡ t)
+        → ((k : ℕ) → i ≤ k → k < length points → t < (get_or points k no_point).step) → Cursor points (t + 1) i
     cursor_end i h same later = record { few = h; before = before; after = λ k l g. omega (arith, later k l g) }
       where
         before : (k : ℕ) → k < i → (get_or points k no_point).step < t + 1

@@ -11,7 +11,6 @@ use lib.ListN.{length, get_or}
 use Rattle.std.proofs.Math.Seq.{drop-append_seam}
 use Rattle.model.specs.Limits.{max_cells, max_steps}
 use Rattle.model.specs.Lists.{In}
-use Rattle.model.specs.Job as model
 use Rattle.job.specs.Held.{Some}
 use Rattle.job.specs.Lists.{cells_of as call_cells}
 use Rattle.job.specs.declared.state.Call.{Call}
@@ -20,7 +19,7 @@ use Rattle.floor.specs.Tables.{OpenAt, Near}
 use Rattle.floor.proofs.JobTables.{near_even}
 use Rattle.chokejudge.specs.declared.layer.Point.{Point}
 use Rattle.chokejudge.specs.declared.layer.Layer.{Layer}
-use Rattle.chokejudge.specs.ChokeLayers.{Choked, Side, BayAt, Closing, MetBy, Reached, SomeMet}
+use Rattle.chokejudge.specs.ChokeLayers.{Choked, Side, OnFloor, BayAt, Closing, MetBy, Reached, SomeMet}
 use Rattle.chokejudge.specs.Grown.{last_cells, last_points, Older, Again, Onward, Grown, Gone}
 use Rattle.chokejudge.specs.Points.{cells_of, Cursor}
 use Rattle.chokejudge.proofs.GrownLaws.{grown_as}
@@ -42,31 +41,31 @@ Unmet Met L t = (s v : ℕ) → s < t → L s v → Met s v → ⊥
 added_last : (a : Layer) (old added : List ℕ) → a.queue.items ≡ old ++ added → a.head ≡ length old → (v : ℕ) → In v added → In v (last_cells a)
 added_last a old added e f v m = rw (f, e, drop-append_seam old added) m
 
-stays : {rows : Neighbours} {j : model.Job} → Near j rows.near rows.begin → (c : ℕ) → c < j.cells → Side rows c c
-stays f c h = f.all c c h (inl refl)
+module _ {rows : Neighbours} {carts : List ℕ} {points : List Point} (f : OnFloor rows carts points) where
+  stays : (c : ℕ) → c < f.job.cells → Side rows c c
+  stays c h = f.near.all c c h (inl refl)
 
-module _ (rows : Neighbours) (shut carts : List ℕ) (points : List Point) {j : model.Job} (f : Near j rows.near rows.begin) (small : j.cells ≤ max_cells) (carts_known : (v : ℕ) → In v carts → v < j.cells) where
-  pub known : (t v : ℕ) → Reached rows shut carts points t v → v < j.cells
-  known = layer_known (λ v. In v carts) (Side rows) shut (Choked points) j.cells carts_known (stays f) (near_even f)
+  known : (shut : List ℕ) (t v : ℕ) → Reached rows shut carts points t v → v < f.job.cells
+  known shut = layer_known (λ v. In v carts) (Side rows) shut (Choked points) f.job.cells f.carts_known stays (near_even f.near)
 
-  pub holding_first : {calls : List Call} → Closing calls shut → {a b c : Layer} → ((v : ℕ) → get_or a.since v 0 ≡ 0) → a.queue.items ≡ [] → a.head ≡ 0 → a.closed ≡ 0
+  pub holding_first : {shut : List ℕ} {calls : List Call} → Closing calls shut → {a b c : Layer} → ((v : ℕ) → get_or a.since v 0 ≡ 0) → a.queue.items ≡ [] → a.head ≡ 0 → a.closed ≡ 0
       → Grown shut 0 (λ v. In v carts) a b → b.head ≡ a.head → Gone points 0 b c → Holding rows shut carts points 0 c
-  holding_first r {a} {b} {c} none empty head closed g same k = record {
-    stands = layered_first (λ v. In v carts) (Side rows) shut (Choked points) a b c (λ v m. r.first v (omega (arith, carts_known v m))) none g k.cells
+  holding_first {shut} r {a} {b} {c} none empty head closed g same k = record {
+    stands = layered_first (λ v. In v carts) (Side rows) shut (Choked points) a b c (λ v m. r.first v (omega (arith, f.carts_known v m, f.few))) none g k.cells
         (added_last c [] g.added (k.queue ∙ g.queue ∙ ap (λ q. q ++ g.added) empty) (k.head ∙ same ∙ head));
     from = rw (k.opens ∙ g.closed ∙ closed) (cursor_first points);
     to = k.next;
   }
 
-  module _ {t : ℕ} {a : Layer} (h : Holding rows shut carts points t a) where
-    pub older_known : (v : ℕ) → Older a (t + 1) v → v < j.cells
-    older_known v o = known t v ((h.stands.layer v).0 o.0)
+  module _ {shut : List ℕ} {t : ℕ} {a : Layer} (h : Holding rows shut carts points t a) where
+    pub older_known : (v : ℕ) → Older a (t + 1) v → v < f.job.cells
+    older_known v o = known shut t v ((h.stands.layer v).0 o.0)
 
-    pub holding_next : (points_known : (t v : ℕ) → Choked points t v → v < j.cells) → ((v : ℕ) → 0 < get_or a.since v 0 → OpenAt shut (t + 1) v) → {b c : Layer}
+    pub holding_next : ((v : ℕ) → 0 < get_or a.since v 0 → OpenAt shut (t + 1) v) → {b c : Layer}
         → Grown shut (t + 1) (λ v. Onward rows a (t + 1) v ⊎ Again rows (last_points points a) a (t + 1) v) a b → b.head ≡ length a.queue.items → Gone points (t + 1) b c
         → Holding rows shut carts points (t + 1) c
-    holding_next points_known lasts {b} {c} g head k = record {
-      stands = layered_next (λ v. In v carts) (Side rows) shut (Choked points) j.cells carts_known (stays f) (near_even f) t (points_known t) a b c h.stands lasts
+    holding_next lasts {b} {c} g head k = record {
+      stands = layered_next (λ v. In v carts) (Side rows) shut (Choked points) f.job.cells f.carts_known stays (near_even f.near) t (f.points_known t) a b c h.stands lasts
           grown k.cells (added_last c a.queue.items grown.added (k.queue ∙ grown.queue) (k.head ∙ head));
       from = rw (k.opens ∙ g.closed) h.to;
       to = k.next;
@@ -99,7 +98,7 @@ module _ (rows : Neighbours) (shut carts : List ℕ) (points : List Point) {j : 
         -- no cell of the layer closes behind the step
         pub still_open : Closing calls shut → t < max_steps → (v : ℕ) → 0 < get_or a.since v 0 → OpenAt shut (t + 1) v
         still_open r few v p = ⊎_elim
-            (λ e. let (k, b, (d, q)) = r.bay t v (omega (arith, known t v ((h.stands.layer v).0 p))) few (sym e) in absurd (out (k, b, (q, rw d p))))
+            (λ e. let (k, b, (d, q)) = r.bay t v (omega (arith, known shut t v ((h.stands.layer v).0 p), f.few)) few (sym e) in absurd (out (k, b, (q, rw d p))))
             (λ l. l)
             (eq-or-lt_of_le {n = t + 1} {m = get_or shut v 0} (omega (arith, h.stands.opened v p)))
 

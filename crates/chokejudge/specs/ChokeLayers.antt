@@ -3,12 +3,12 @@
 use Rattle.std.specs.Prelude.{ℕ, zero, suc, ◌+◌, ◌≤◌, ◌<◌, ◌≡◌, List, ◌⊎◌, length, get_or}
 use Rattle.model.specs.Limits.{max_cells, max_steps}
 use Rattle.model.specs.Lists.{In}
-use Rattle.model.specs.Job.{lift, bay}
+use Rattle.model.specs.Job.{Job, lift, bay}
 use Rattle.job.specs.Held.{Some}
 use Rattle.job.specs.Lists.{kinds_of, cells_of, deadlines_of}
 use Rattle.job.specs.declared.state.Call.{Call}
 use Rattle.floor.specs.declared.tables.Neighbours.{Neighbours}
-use Rattle.floor.specs.Tables.{row_of, OpenAt}
+use Rattle.floor.specs.Tables.{row_of, Near, OpenAt}
 use Rattle.chokejudge.specs.declared.layer.Point.{Point}
 
 -- x is in row c.
@@ -18,6 +18,14 @@ Side rows c x = In x (row_of rows.near rows.begin c)
 -- One of the points is v at the step t.
 abbrev pub Choked : List Point → ℕ → ℕ → Type 0
 Choked points t v = In (record { step = t; cell = v }) points
+
+-- The rows are those of a job's floor, and the carts and points stand on its cells.
+pub record OnFloor (rows : Neighbours) (carts : List ℕ) (points : List Point) : Type 0 where
+  pub job : Job
+  pub near : Near job rows.near rows.begin
+  pub few : job.cells ≤ max_cells
+  pub carts_known : (v : ℕ) → In v carts → v < job.cells
+  pub points_known : (t v : ℕ) → Choked points t v → v < job.cells
 
 -- Call k is a bay whose step is t.
 abbrev pub BayAt : List Call → ℕ → ℕ → Type 0
@@ -43,7 +51,7 @@ LayerOf First Side Open Choke (suc t) v = ((u : ℕ) × LayerOf First Side Open 
 
 -- The layers of the floor with these rows and closed cells, the carts on these cells, and these points.
 abbrev pub Reached : Neighbours → List ℕ → List ℕ → List Point → ℕ → ℕ → Type 0
-Reached near shut carts points = LayerOf (λ v. In v carts) (Side near) (OpenAt shut) (Choked points)
+Reached rows shut carts points = LayerOf (λ v. In v carts) (Side rows) (OpenAt shut) (Choked points)
 
 -- A cell of a layer up to the step `last` meets a call.
 abbrev pub SomeMet : (ℕ → ℕ → Type 0) → ℕ → (ℕ → ℕ → Type 0) → Type 0

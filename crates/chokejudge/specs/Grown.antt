@@ -22,11 +22,11 @@ Older a t v = (0 < get_or a.since v 0) × (get_or a.since v 0 ≤ t)
 
 -- v is the cell of one of these points, and an older cell leads to it.
 abbrev pub Again : Neighbours → List Point → Layer → ℕ → ℕ → Type 0
-Again near points a t v = In v (cells_of points) × ((x : ℕ) × Side near v x × Older a t x)
+Again rows points a t v = In v (cells_of points) × ((x : ℕ) × Side rows v x × Older a t x)
 
 -- An older one of the cells of the last step leads to v.
 abbrev pub Onward : Neighbours → Layer → ℕ → ℕ → Type 0
-Onward near a t v = (u : ℕ) × In u (last_cells a) × (Older a t u × Side near u v)
+Onward rows a t v = (u : ℕ) × In u (last_cells a) × (Older a t u × Side rows u v)
 
 -- The cells of P that were not in the layer, and are open at the step t, were added: to the table as those of that step, and to the end of the queue.
 pub record Grown (shut : List ℕ) (t : ℕ) (P : ℕ → Type 0) (a b : Layer) : Type 0 where

@@ -87,11 +87,13 @@ fn pass_over(calls: &[Call], chokes: &[Choke], due: &mut [u16; Limits::CELLS])
     }
 }
 
+// The tables of the calls, without the whole calls of a choke list.
 #[derive(Drop)]
 pub struct Meetings {
     // The first step at which a cell is closed.
     pub shut: [u16; Limits::CELLS],
-    // One more than the last step at which the lift on a cell takes a cart, 0 without a lift, and at a whole call: a walk may cross its cell still.
+    // One more than the last step at which the lift on a cell takes a cart, 0 without a lift, and at a whole call: a walk may cross its cell still. A number, so that a step is in
+    // time while it is below it: one comparison for each cell looked at.
     due: [u16; Limits::CELLS],
     pub bays: Chains,
 }

@@ -1,16 +1,14 @@
 // Whether choke points are a true choke list in the order of the sheet: no walk ends at a call without standing on one of them.
 ghost use Rattle.std.specs.Prelude.{◌≡◌, ℕ, ◌<◌, ◌≤◌, length};
 ghost use Rattle.model.specs.Lists.{In};
-ghost use Rattle.model.specs.Limits.{max_cells, max_calls, max_steps};
-ghost use Rattle.model.specs.Job as model;
+ghost use Rattle.model.specs.Limits.{max_calls, max_steps};
 ghost use Rattle.model.specs.Choke as choke;
 ghost use Rattle.model.specs.Choke.{KnownChoke, ChokesInOrder};
 ghost use Rattle.model.specs.Ready.{Ready};
 ghost use Rattle.model.specs.Promises.{RightChokes};
 ghost use Rattle.job.specs.Lists.{job_of};
 ghost use Rattle.job.specs.Held.{as_chokes, Decides};
-ghost use Rattle.floor.specs.Tables.{Near};
-ghost use Rattle.chokejudge.specs.ChokeLayers.{Choked, Closing, MetBy, Reached, SomeMet};
+ghost use Rattle.chokejudge.specs.ChokeLayers.{OnFloor, Closing, MetBy, Reached, SomeMet};
 ghost use Rattle.chokejudge.specs.Points.{points_in, Climbs};
 ghost use Rattle.chokejudge.specs.Chains.{Chained};
 
@@ -58,7 +56,7 @@ fn reaches(
     points: &[Point],
     last: u16,
 ) -> bool
-    requires { (last < max_steps) × (length calls.now ≤ max_calls) × (length points.now ≤ max_calls) × Climbs points.now × ((j : model.Job) × Near j neighbours.now.near neighbours.now.begin × ((v : ℕ) → In v carts.now → v < j.cells) × ((t v : ℕ) → Choked points.now t v → v < j.cells) × (j.cells ≤ max_cells)) × Closing calls.now meetings.now.shut × Chained calls.now (length calls.now) meetings.now.bays }
+    requires { (last < max_steps) × (length calls.now ≤ max_calls) × (length points.now ≤ max_calls) × Climbs points.now × OnFloor neighbours.now carts.now points.now × Closing calls.now meetings.now.shut × Chained calls.now (length calls.now) meetings.now.bays }
     ensures { Decides result (SomeMet (MetBy meetings.now.due calls.now) last (Reached neighbours.now meetings.now.shut carts.now points.now)) }
 {
     let mut layer = Layer::new();

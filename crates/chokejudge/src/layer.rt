@@ -24,7 +24,7 @@ pub struct Point {
 
 #[derive(Drop)]
 pub struct Layer {
-    // One more than the step at which a cell was added, 0 where it is not in the layer.
+    // One more than the step at which a cell was added, 0 where it is not in the layer. A number, not an Option: each cell of a row is asked, and two comparisons of one entry answer.
     since: [u16; Limits::CELLS],
     // The cells in the order in which they were added, those of the last step from `head` on.
     queue: ArrayVec<u8, QUEUE>,

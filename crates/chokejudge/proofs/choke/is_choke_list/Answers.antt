@@ -34,13 +34,13 @@ reaches-requires c =
       rw calls (omega (arith, calls_count s, ready.fit.few_calls)),
       rw points (omega (arith, few_points list, calls_count s, ready.fit.few_calls, c.requires.1)),
       rw points (climbs list order),
-      (
-        job_of s,
-        near_of s (rw c.as_slice.ensures.value at c.of-neighbours.ensures),
-        rw c.as_slice-2.ensures.value ready.fit.known_carts,
-        rw points (points_known s ready list c.requires.2),
-        ready.fit.few_cells,
-      ),
+      record {
+        job = job_of s;
+        near = near_of s (rw c.as_slice.ensures.value at c.of-neighbours.ensures);
+        few = ready.fit.few_cells;
+        carts_known = rw c.as_slice-2.ensures.value ready.fit.known_carts;
+        points_known = rw points (points_known s ready list c.requires.2);
+      },
       closing_of c.as_slice-calls.result.now met.0,
       met.2,
     )

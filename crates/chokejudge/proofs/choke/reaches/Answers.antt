@@ -17,9 +17,9 @@ use Rattle.chokejudge.proofs.choke.reaches.Goals.{then-has_lift-via-then-has_lif
 pub loop-t-init : goal.loop-t-init
 loop-t-init c =
     let a = c.args in
-    let (few, calls_few, points_few, climbs, (j, near, carts_known, points_known, small), closing, chained) = c.requires in
+    let (few, calls_few, points_few, climbs, floor, closing, chained) = c.requires in
     let n = c.new-layer.ensures in (
-      holding_first a.neighbours.now a.meetings.now.shut a.carts.now a.points.now near small carts_known closing
+      holding_first floor closing
           (λ v. ap (λ l. get_or l v 0) n.0 ∙ zeros max_cells v) n.1 n.2 n.3 c.spread.ensures.0 c.spread.ensures.1 c.close.ensures,
       λ s v l. absurd (not-suc-le-zero l),
     )
@@ -27,26 +27,26 @@ loop-t-init c =
 pub returns-then-has_lift : goal.returns-then-has_lift
 returns-then-has_lift c =
     let a = c.args in
-    let (few, calls_few, points_few, climbs, (j, near, carts_known, points_known, small), closing, chained) = c.requires in
+    let (few, calls_few, points_few, climbs, floor, closing, chained) = c.requires in
     let h = c.loop-t.invariant.0 in
     elim c.then-has_lift.branch [
-      | then-has_lift-via-then-has_lift w ↦ told (lift_met a.neighbours.now a.meetings.now.shut a.carts.now a.points.now near small carts_known h a.meetings.now.due a.calls.now
+      | then-has_lift-via-then-has_lift w ↦ told (lift_met floor h a.meetings.now.due a.calls.now
           c.loop-t-test.true (c.has_lift.ensures.0 w.if-has_lift.true))
-      | then-has_lift-via-else-has_lift+then-has_bay w ↦ told (bay_met a.neighbours.now a.meetings.now.shut a.carts.now a.points.now near small carts_known h a.meetings.now.due
+      | then-has_lift-via-else-has_lift+then-has_bay w ↦ told (bay_met floor h a.meetings.now.due
           a.calls.now c.loop-t-test.true (w.has_bay.ensures.0 w.if-has_bay.true))
     ]
 
 pub grow-requires : goal.grow-requires
 grow-requires c =
     let a = c.args in
-    let (few, calls_few, points_few, climbs, (j, near, carts_known, points_known, small), closing, chained) = c.requires in
+    let (few, calls_few, points_few, climbs, floor, closing, chained) = c.requires in
     let h = c.loop-t.invariant.0 in (
       h.to.few,
       (
-        j.cells,
-        near.rows,
-        λ v m. let (p, i, e) = in_unmap (λ (p : Point). p.cell) v a.points.now m in rw e at (points_known p.step p.cell i),
-        older_known a.neighbours.now a.meetings.now.shut a.carts.now a.points.now near small carts_known h,
+        floor.job.cells,
+        floor.near.rows,
+        λ v m. let (p, i, e) = in_unmap (λ (p : Point). p.cell) v a.points.now m in rw e at (floor.points_known p.step p.cell i),
+        older_known floor h,
       ),
     )
 
@@ -55,18 +55,18 @@ unmet : (c : Else-has_bay) → let a = c.args in
     Unmet (MetBy a.meetings.now.due a.calls.now) (Reached a.neighbours.now a.meetings.now.shut a.carts.now a.points.now) (c.loop-t.t + 1)
 unmet c =
     let a = c.args in
-    let (few, calls_few, points_few, climbs, (j, near, carts_known, points_known, small), closing, chained) = c.requires in
-    unmet_more a.neighbours.now a.meetings.now.shut a.carts.now a.points.now near small carts_known c.loop-t.invariant.0 a.meetings.now.due a.calls.now
+    let (few, calls_few, points_few, climbs, floor, closing, chained) = c.requires in
+    unmet_more floor c.loop-t.invariant.0 a.meetings.now.due a.calls.now
     (c.has_bay.ensures.1 c.if-has_bay.false) (c.has_lift.ensures.1 c.if-has_lift.false) c.loop-t.invariant.1
 
 pub loop-t-preserved : goal.loop-t-preserved
 loop-t-preserved c =
     let a = c.args in
-    let (few, calls_few, points_few, climbs, (j, near, carts_known, points_known, small), closing, chained) = c.requires in
+    let (few, calls_few, points_few, climbs, floor, closing, chained) = c.requires in
     let h = c.loop-t.invariant.0 in
     let soon : c.loop-t.t < max_steps = omega (arith, few, c.loop-t-test.true) in
-    let lasts = still_open a.neighbours.now a.meetings.now.shut a.carts.now a.points.now near small carts_known h a.meetings.now.due a.calls.now (c.has_bay.ensures.1 c.if-has_bay.false) closing soon in (
-      holding_next a.neighbours.now a.meetings.now.shut a.carts.now a.points.now near small carts_known h points_known lasts c.grow.ensures.0 c.grow.ensures.1
+    let lasts = still_open floor h a.meetings.now.due a.calls.now (c.has_bay.ensures.1 c.if-has_bay.false) closing soon in (
+      holding_next floor h lasts c.grow.ensures.0 c.grow.ensures.1
           c.close-in-loop-t.ensures,
       unmet (goal.at.loop-t-preserved c).Else-has_bay,
     )
