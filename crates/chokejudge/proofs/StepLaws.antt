@@ -9,13 +9,13 @@ use native.Mathlib.Omega.{arith}
 use native.Mathlib.Nat.{eq-or-lt_of_le}
 use lib.ListN.{length, get_or}
 use Rattle.std.proofs.Math.Seq.{drop-append_seam}
-use Rattle.model.specs.Limits.{max_cells, max_steps}
+use Rattle.model.specs.Limits.{max_steps}
 use Rattle.model.specs.Lists.{In}
 use Rattle.job.specs.Held.{Some}
 use Rattle.job.specs.Lists.{cells_of as call_cells}
 use Rattle.job.specs.declared.state.Call.{Call}
 use Rattle.floor.specs.declared.tables.Neighbours.{Neighbours}
-use Rattle.floor.specs.Tables.{OpenAt, Near}
+use Rattle.floor.specs.Tables.{OpenAt}
 use Rattle.floor.proofs.JobTables.{near_even}
 use Rattle.chokejudge.specs.declared.layer.Point.{Point}
 use Rattle.chokejudge.specs.declared.layer.Layer.{Layer}

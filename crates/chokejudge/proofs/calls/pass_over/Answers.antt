@@ -1,20 +1,12 @@
 -- `pass_over` takes the cell of one whole call after the other out of the table. Invariant: those of the choke points before the one at the index are out. Assumes nothing.
-use mathlib.Core.Path.{◌≡◌, subst, ap, ◌∙◌}
-use mathlib.Core.List.{List}
+use mathlib.Core.Path.{subst, ◌∙◌}
 use native.Mathlib.Omega.{arith}
-use lib.ListN.{length, take}
-use lib.Seq.{take-length}
 use Rattle.model.specs.Lists.{In}
 use Rattle.model.proofs.Lists.{in_get_or}
 use Rattle.job.specs.declared.held.Choke.{Choke}
-use Rattle.chokejudge.specs.Grown.{Cleared}
-use Rattle.chokejudge.specs.Lifts.{WholeOn}
-use Rattle.chokejudge.proofs.LiftLaws.{passed_none, passed_cell, passed_call}
+use Rattle.chokejudge.proofs.LiftLaws.{passed_cell, passed_call}
 use Rattle.chokejudge.proofs.calls.pass_over.Goals as goal
 use Rattle.chokejudge.proofs.calls.pass_over.Goals.{in-Call, in_default}
-
-pub loop-choke-init : goal.loop-choke-init
-loop-choke-init c = passed_none c.args.calls.now c.args.chokes.now c.args.due.now
 
 pub cell_of-requires : goal.cell_of-requires
 cell_of-requires c =
@@ -33,9 +25,3 @@ loop-choke-preserved c =
           rw (w.due-is, e) (passed_call calls chokes i _ c.loop-choke-test.true l.invariant w.in-Call.is (omega (arith, e, l.invariant.size)))
       | in_default w ↦ rw w.due-is (passed_cell calls chokes i _ c.loop-choke-test.true l.invariant w.in_default.is)
     ]
-
-pub returns : goal.returns
-returns c =
-    let chokes = c.args.chokes.now in
-    let e : c.loop-choke.choke-index ≡ length chokes = omega arith in
-    subst (λ (l : List Choke). Cleared (WholeOn c.args.calls.now l) c.args.due.now c.loop-choke.due) (ap (λ k. take k chokes) e ∙ take-length chokes) c.loop-choke.invariant

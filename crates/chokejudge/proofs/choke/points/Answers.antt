@@ -1,9 +1,8 @@
 -- `points` goes over the choke points. Invariant: the list has those cells that stand before the index. Assumes nothing.
-use mathlib.Core.Path.{◌≡◌, sym, ◌∙◌, ap}
+use mathlib.Core.Path.{sym, ◌∙◌, ap}
 use mathlib.Core.List.{[], ◌∷◌, ◌++◌}
 use native.Mathlib.Omega.{arith}
 use lib.ListN.{length, take}
-use lib.Seq.{take-length}
 use Rattle.std.proofs.lemmas.List.{append-nil}
 use Rattle.job.specs.declared.held.Choke.{Choke}
 use Rattle.chokejudge.specs.declared.layer.Point.{Point}
@@ -29,9 +28,3 @@ loop-choke-preserved c =
           let g = ap (λ (x : Choke). points_in before ++ points_in (x ∷ [])) w.in_default.is in
           (f ∙ l.invariant.0 ∙ sym (e ∙ g ∙ append-nil (points_in before)), omega (arith, ap length f, l.invariant.1))
     ]
-
-pub returns : goal.returns
-returns c =
-    let chokes = c.args.chokes.now in
-    let e : c.loop-choke.choke-index ≡ length chokes = omega arith in
-    c.loop-choke.invariant.0 ∙ ap points_in (ap (λ k. take k chokes) e ∙ take-length chokes)

@@ -41,8 +41,3 @@ loop-k-preserved c =
           let b : as_kind q.kind ≡ lift = search rules in
           rw w.chains-is (record { steps = l.invariant.steps; places = l.invariant.places; chained = chained_past calls l.k l.invariant.chained (kind ∙ b) })
     ]
-
-pub returns : goal.returns
-returns c =
-    let e : c.loop-k.k ≡ length c.args.calls.now = omega arith in
-    rw e at c.loop-k.invariant.chained

@@ -7,7 +7,7 @@ use lib.ListN.{length, get_or, length-drop, get_or-append}
 use Rattle.std.proofs.lemmas.List.{get_or-drop}
 use Rattle.floor.specs.Tables.{row_of}
 use Rattle.chokejudge.specs.Grown.{last_cells}
-use Rattle.chokejudge.proofs.GrownLaws.{grown_none, grown_as, older_same, each_none, each_more, each_all}
+use Rattle.chokejudge.proofs.GrownLaws.{grown_none, grown_as, older_same, each_none, each_more}
 use Rattle.chokejudge.proofs.layer.Layer.advance.Invariants.{Spreads}
 use Rattle.chokejudge.proofs.layer.Layer.advance.Goals as goal
 use Rattle.chokejudge.proofs.layer.Layer.advance.Goals.{then-is_older, else-is_older}
@@ -17,11 +17,6 @@ loop-i-init c =
     let a = c.args in
     let e : a.self.now.head - a.self.now.head ≡ 0 = omega arith in
     rw e (each_none (last_cells a.self.now) (Spreads a.neighbours.now a.self.now a.t) a.self.now)
-
-pub row-requires : goal.row-requires
-row-requires c =
-    let p = c.requires in
-    (p.0, p.1, rw c.from.ensures (p.2 _ ((older_same c.loop-i.invariant _).0 (c.is_older.ensures.0 c.if-is_older.true))), omega arith)
 
 pub loop-i-preserved : goal.loop-i-preserved
 loop-i-preserved c =
@@ -47,9 +42,3 @@ loop-i-preserved c =
           rw (w.self-is, next) (each_more (last_cells s) S k below g (grown_as (λ v. (λ q. (same.0 (o.0 w.if-is_older.true), rw r at q), λ q. rw r q.1)) w.spread.ensures.0))
       | else-is_older w ↦ rw (w.self-is, next) (each_more (last_cells s) S k below g (grown_none a.t l.self (λ v q. absurd (o.1 w.if-is_older.false (same.1 q.0)))))
     ]
-
-pub returns : goal.returns
-returns c =
-    let a = c.args in
-    let s = a.self.now in
-    each_all (last_cells s) (Spreads a.neighbours.now s a.t) (c.loop-i.i - s.head) (omega (arith, length-drop s.head s.queue.items, c.len-i-end.ensures.value)) c.loop-i.invariant

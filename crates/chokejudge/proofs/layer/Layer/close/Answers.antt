@@ -2,18 +2,13 @@
 -- taken out. Each takes at most one cell out of the table, so that the queue keeps its room. Assumes nothing.
 use Prim.Native.Nat.{ℕ, ◌+◌, ◌<◌, ◌≤◌}
 use native.Mathlib.Omega.{arith}
-use mathlib.Core.Path.{◌≡◌, refl, sym, ◌∙◌, ap, subst}
+use mathlib.Core.Path.{◌≡◌, sym, ◌∙◌, ap, subst}
 use lib.ListN.{length, get_or, set}
 use Rattle.chokejudge.specs.declared.layer.Point.{Point}
 use Rattle.chokejudge.specs.Points.{no_point}
 use Rattle.chokejudge.proofs.MemberLaws.{members_clear}
-use Rattle.chokejudge.proofs.PointLaws.{Taken, slice_at, taken_none, taken_more, taken_next, taken_all, later}
+use Rattle.chokejudge.proofs.PointLaws.{Taken, slice_at, taken_more, taken_next, taken_all, later}
 use Rattle.chokejudge.proofs.layer.Layer.close.Goals as goal
-
-pub loop-point-init : goal.loop-point-init
-loop-point-init c =
-    let s = c.args.self.now in
-    record { opens = refl; closed = omega arith; taken = taken_none c.args.points.now c.args.t s.closed s.since; queue = refl; head = refl }
 
 pub invariant_of-self-in-loop-point-clause-few : goal.invariant_of-self-in-loop-point-clause-few
 invariant_of-self-in-loop-point-clause-few c =

@@ -5,11 +5,6 @@ use Rattle.chokejudge.proofs.GrownLaws.{grown_as, grown_then, older_some}
 use Rattle.chokejudge.proofs.PointLaws.{cell_part}
 use Rattle.chokejudge.proofs.layer.Layer.grow.Goals as goal
 
-pub advance-requires : goal.advance-requires
-advance-requires c =
-    let p = c.requires.1 in
-    (p.0, p.1, p.3)
-
 pub rejoin-requires : goal.rejoin-requires
 rejoin-requires c =
     let p = c.requires.1 in

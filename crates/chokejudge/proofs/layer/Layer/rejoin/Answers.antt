@@ -8,16 +8,11 @@ use Rattle.std.proofs.lemmas.List.{length-map}
 use Rattle.chokejudge.specs.declared.layer.Point.{Point}
 use Rattle.chokejudge.specs.ChokeLayers.{Side}
 use Rattle.chokejudge.specs.Points.{cells_of}
-use Rattle.chokejudge.proofs.GrownLaws.{grown_none, grown_as, older_some, each_none, each_more, each_all, themselves}
+use Rattle.chokejudge.proofs.GrownLaws.{grown_none, grown_as, older_some, each_more, each_all, themselves}
 use Rattle.chokejudge.proofs.PointLaws.{cell_at, cell_in}
 use Rattle.chokejudge.proofs.layer.Layer.rejoin.Invariants.{Back}
 use Rattle.chokejudge.proofs.layer.Layer.rejoin.Goals as goal
 use Rattle.chokejudge.proofs.layer.Layer.rejoin.Goals.{then-borders, else-borders}
-
-pub loop-point-init : goal.loop-point-init
-loop-point-init c =
-    let a = c.args in
-    each_none (cells_of a.points.now) (Back a.neighbours.now a.self.now a.t) a.self.now
 
 pub row-requires : goal.row-requires
 row-requires c =
