@@ -27,7 +27,10 @@ begun c j k i =
     kept_first k c.args.cell i c.requires.1 (c.set_used.ensures.bytes ∙ ap (λ v. with_used c.args.store.now.grid c.args.store.now.bytes.now v 1) c.place.ensures)
 
 pub stand-at-requires : goal.stand-at-requires
-stand-at-requires c = let (j, k, i) = c.requires.0 in rw c.loop-t.invariant.0.grid ((j, (c.loop-t.invariant.1 j (begun (goal.at.stand-at-requires c).At-loop-t j k i).loose).loose), omega (arith, c.loop-t-test.true))
+stand-at-requires c =
+    let (j, k, i) = c.requires.0 in
+    let b = begun (goal.at.stand-at-requires c).At-loop-t j k i in
+    rw c.loop-t.invariant.0.grid ((j, (c.loop-t.invariant.1 j b.loose).loose), omega (arith, c.loop-t-test.true))
 
 pub loop-t-preserved : goal.loop-t-preserved
 loop-t-preserved c =
@@ -42,5 +45,7 @@ pub returns : goal.returns
 returns c =
     let l = c.loop-t in (
       l.invariant.0,
-      λ j k i. let b = begun (goal.at.returns c).At-loop-t j k i in let w = l.invariant.1 j b.loose in kept_last (kept_more b (w.loose, w.starts)) (omega (arith, top_few k, l.auto.t-end)) (omega (arith, c.loop-t-test.false)),
+      λ j k i. let b = begun (goal.at.returns c).At-loop-t j k i in
+          let w = l.invariant.1 j b.loose in
+          kept_last (kept_more b (w.loose, w.starts)) (omega (arith, top_few k, l.auto.t-end)) (omega (arith, c.loop-t-test.false)),
     )

@@ -43,22 +43,25 @@ came c = (rw c.loop-grid.invariant.1.grid at c.prev-came.ensures.0) ∙ ap (prev
 
 pub place-v-requires-in-loop-grid : goal.place-v-requires-in-loop-grid
 place-v-requires-in-loop-grid c =
-    rw (add-one c.args.step) (next_within (turn_loose (chain (goal.at.place-v-requires-in-loop-grid c).At-loop-grid).loose (early
-    (goal.at.place-v-requires-in-loop-grid c).Start) (taken (goal.at.place-v-requires-in-loop-grid c).After-link) (came
-    (goal.at.place-v-requires-in-loop-grid c).After-link)) (early (goal.at.place-v-requires-in-loop-grid c).Start)).1
+    let at = goal.at.place-v-requires-in-loop-grid c in
+    let e = early at.Start in
+    rw (add-one c.args.step) (next_within (turn_loose (chain at.At-loop-grid).loose e (taken at.After-link) (came at.After-link)) e).1
 
 pub loop-grid-smaller : goal.loop-grid-smaller
-loop-grid-smaller c = rw (rw c.loop-grid.invariant.1.grid at c.link.ensures.bytes) (turn_fewer (chain (goal.at.loop-grid-smaller c).At-loop-grid).loose (early (goal.at.loop-grid-smaller c).Start) (taken
-    (goal.at.loop-grid-smaller c).After-link) (came (goal.at.loop-grid-smaller c).After-link))
+loop-grid-smaller c =
+    let at = goal.at.loop-grid-smaller c in
+    rw (rw c.loop-grid.invariant.1.grid at c.link.ensures.bytes) (turn_fewer (chain at.At-loop-grid).loose (early at.Start) (taken at.After-link) (came at.After-link))
 
 pub loop-grid-preserved : goal.loop-grid-preserved
 loop-grid-preserved c =
-    let i = c.loop-grid.invariant in (
+    let i = c.loop-grid.invariant in
+    let at = goal.at.loop-grid-preserved c in
+    let e = early at.Start in
+    let t = taken at.After-link in
+    let m = came at.After-link in (
       c.place-v-in-loop-grid.ensures ∙ ap (place_in c.args.store.now.grid c.prev-came.result) (add-one c.args.step),
       same_more i.1 c.link.ensures.same,
-      λ j h. let w = i.2 j h in rw (rw i.1.grid at c.link.ensures.bytes) (chain_more w (turn_loose w.loose (early (goal.at.loop-grid-preserved c).Start) (taken
-          (goal.at.loop-grid-preserved c).After-link) (came (goal.at.loop-grid-preserved c).After-link)) (turn_starts w.loose (early
-          (goal.at.loop-grid-preserved c).Start) (taken (goal.at.loop-grid-preserved c).After-link) (came (goal.at.loop-grid-preserved c).After-link))),
+      λ j h. let w = i.2 j h in rw (rw i.1.grid at c.link.ensures.bytes) (chain_more w (turn_loose w.loose e t m) (turn_starts w.loose e t m)),
     )
 
 pub link-requires-2 : goal.link-requires-2
