@@ -6,7 +6,7 @@ use borrow.Author.Tests.{eqb-true, eqb-false, not-true}
 use lib.Dec.{eqb}
 use Rattle.model.proofs.Basics.{nope}
 use Rattle.network.specs.declared.planes.Store.{Store}
-use Rattle.network.specs.Store.{SameStore, meets}
+use Rattle.network.specs.Store.{SameStore}
 
 pub same_none : (s : Store) → SameStore s s
 same_none s = record { grid = refl; lent = refl; long = refl }
@@ -24,9 +24,3 @@ module _ {b : Bool} {n : ℕ} where
 
   pub is_in_use : b ≡ not (eqb n 0) → b ≡ true → n ≡ 0 → ⊥
   is_in_use e f = eqb-false n 0 (not-true (eqb n 0) (rw e at f))
-
-  pub is_met : b ≡ eqb n meets → b ≡ true → n ≡ meets
-  is_met e f = eqb-true n meets (rw e at f)
-
-  pub is_not_met : b ≡ eqb n meets → b ≡ false → n ≡ meets → ⊥
-  is_not_met e f = eqb-false n meets (rw e at f)

@@ -1,6 +1,6 @@
 // The store as the planner cuts it, in the one place that knows: planes of one byte a node, one after the other, and behind them those of the search's stack.
 ghost use Rattle.std.specs.Prelude.{◌≡◌, ◌+◌, ◌*◌, ◌<◌, ◌≤◌, length, set};
-ghost use Rattle.network.specs.Store.{place_in, as_point, at, spot, Within, Blank, Spacious, SameStore, Wrote, byte_of, used_test, meets_test, mark_at, next_at, prev_at, cell_at, step_at, via_at, with_used, with_mark, with_next, with_prev, with_position, with_via, with_entry};
+ghost use Rattle.network.specs.Store.{place_in, as_point, at, spot, Within, Blank, Spacious, SameStore, Wrote, byte_of, used_test, meets_test, mark_at, next_at, prev_at, cell_at, step_at, via_at, with_used, with_mark, with_next, with_prev, with_entry};
 
 // The planes. The bytes of a node: what its use is, the stamp of a search, the cells before and behind it; of the stack: cell, step by two bytes, and by way of which
 // cell at which step.
@@ -183,29 +183,15 @@ impl<'a> Store<'a> {
     }
 
     // Its step takes two bytes, since the layer of the calls can be the 256th.
-    fn put_position(&mut self, i: usize, node: Node)
-        requires { Within self.old.grid self.old.bytes.now i × (node.cell < 256) × (node.step < 65536) }
-        ensures { Wrote self.old self.new (with_position self.old.grid self.old.bytes.now i (as_point node)) }
-    {
-        self.set_byte::<CELL>(i, node.cell as u8);
-        self.set_byte::<STEP>(i, (node.step % 256) as u8);
-        self.set_byte::<OVER>(i, (node.step / 256) as u8);
-    }
-
-    fn put_via(&mut self, i: usize, via: Node)
-        requires { Within self.old.grid self.old.bytes.now i × (via.cell < 256) × (via.step < 256) }
-        ensures { Wrote self.old self.new (with_via self.old.grid self.old.bytes.now i (as_point via)) }
-    {
-        self.set_byte::<VIA>(i, via.cell as u8);
-        self.set_byte::<VIA_STEP>(i, via.step as u8);
-    }
-
     pub fn set_position(&mut self, i: usize, node: Node, via: Node)
         requires { Within self.old.grid self.old.bytes.now i × (node.cell < 256) × (node.step < 65536) × (via.cell < 256) × (via.step < 256) }
         ensures { Wrote self.old self.new (with_entry self.old.grid self.old.bytes.now i (as_point node) (as_point via)) }
     {
-        self.put_position(i, node);
-        self.put_via(i, via);
+        self.set_byte::<CELL>(i, node.cell as u8);
+        self.set_byte::<STEP>(i, (node.step % 256) as u8);
+        self.set_byte::<OVER>(i, (node.step / 256) as u8);
+        self.set_byte::<VIA>(i, via.cell as u8);
+        self.set_byte::<VIA_STEP>(i, via.step as u8);
     }
 
     // No node is used or marked then: the first two planes are cleared.

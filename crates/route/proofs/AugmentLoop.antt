@@ -6,8 +6,7 @@ use mathlib.Core.List.{List}
 use native.Mathlib.Omega.{arith}
 use Rattle.model.specs.Job.{Job}
 use Rattle.model.specs.Choke.{Point}
-use lib.ListN.{length}
-use Rattle.network.specs.Store.{grid_of, place_at, cell_at, step_at, with_used, with_mark, Within}
+use Rattle.network.specs.Store.{grid_of, place_at, cell_at, step_at, with_used, with_mark}
 use Rattle.network.proofs.Points.{point_eq}
 use Rattle.network.specs.declared.planes.Grid.{Grid}
 use Rattle.network.proofs.StoreBytes.{idx_below}
@@ -52,17 +51,7 @@ module _ {j : Job} {s : List ℕ} {g : Grid} {depth : ℕ} (a : Laying j s g dep
     pub more_laid : {s'' : List ℕ} → s'' ≡ laid g s' (i - 1) → Laid g s s'' (i - 1) (depth - 1)
     more_laid e = rw (e, a.holds.grid) (laid_more stacked s' (i - 1) (omega arith) done')
 
-  pub first_below : place_at g (pos_at g s 0) < g.nodes
-  first_below = rw a.holds.grid (idx_below j (stacked.known 0 (omega arith)))
-
-  -- The node v was read off the stack's first entry: it has its place in the store that is lent on.
-  pub first_in : {h : Grid} {v : ℕ} {x : Point} (b : List ℕ) → h ≡ g → length b ≡ length s → x.cell ≡ cell_at g s 0 → x.step ≡ step_at g s 0 → v ≡ place_at g x
-      → Within h b v
-  first_in {x = x} b ge le ec et ev =
-      let first : x ≡ pos_at g s 0 = point_eq ec et in
-      rw ge (omega (arith, a.holds.room, le), rw (ev, first) first_below)
-
-  -- Its bytes are written last.
+  -- The node v was read off the stack's first entry, and its bytes are written last.
   pub is_laid : {s' s₁ s₂ : List ℕ} {i v : ℕ} {x : Point} → i ≤ 0 → Laid g s s' i (depth - 1) → x.cell ≡ cell_at g s 0 → x.step ≡ step_at g s 0 → v ≡ place_at g x
       → s₁ ≡ with_used g s' v 1 → s₂ ≡ with_mark g s₁ v 0 → Augmented j s s₂ (pos_at (grid_of j) s 0)
   is_laid {s'} {s₁} {s₂} {i} {v} {x} h done ec et ev e₁ e₂ =

@@ -1,7 +1,7 @@
 -- The store after the hops from i on are laid, plane by plane: each hop's byte stands at its node, and every other byte is as it was.
 -- As no two hops write one byte of a plane, a hop more adds its own bytes and keeps the others'. Assumes nothing.
 use Prim.Native.Nat.{ℕ, suc, ◌<◌, ◌≤◌}
-use mathlib.Core.Path.{◌≡◌, refl, sym, ◌∙◌}
+use mathlib.Core.Path.{◌≡◌, sym, ◌∙◌}
 use mathlib.Core.List.{List}
 use mathlib.Core.Logic.{◌⊎◌, inl, inr, ⊎_elim}
 use native.Mathlib.Omega.{arith}
@@ -22,9 +22,6 @@ use Rattle.route.proofs.Stack.{pos_in, via_in, Stacked, vias_apart, places_apart
 pub record Over (k : ℕ) (a b : ℕ → ℕ) (i e : ℕ) (f f' : ℕ → ℕ) : Type 0 where
   pub new : (m : ℕ) → i ≤ m → m < e → f' (a m) ≡ b m
   pub old : (v : ℕ) → v < k → ((m : ℕ) → i ≤ m → m < e → v ≡ a m → ⊥) → f' v ≡ f v
-
-over_none : (k : ℕ) (a b : ℕ → ℕ) (e : ℕ) (f : ℕ → ℕ) → Over k a b e e f f
-over_none k a b e f = record { new = λ m h l. absurd (omega arith); old = λ v l h. refl }
 
 over_more : {k : ℕ} {a b : ℕ → ℕ} {i e : ℕ} {f f' f'' : ℕ → ℕ} → i < e → ((m : ℕ) → m < e → a m < k) → ((m : ℕ) → i < m → m < e → a m ≡ a i → ⊥)
     → Over k a b (suc i) e f f' → SetAt k (a i) (b i) f' f'' → Over k a b i e f f''
@@ -50,16 +47,6 @@ pub record Laid (g : Grid) (s s' : List ℕ) (i e : ℕ) : Type 0 where
   pub used : Over g.nodes (λ m. place_at g (via_of g s m)) (use_at g s) i e (used_at g s) (used_at g s')
   pub next : Over g.nodes (λ m. place_at g (via_of g s m)) (λ m. (pos_at g s m).cell) i e (next_at g s) (next_at g s')
   pub prev : Over g.nodes (λ m. place_at g (pos_at g s m)) (from_at g s) i e (prev_at g s) (prev_at g s')
-
-pub laid_none : (g : Grid) (s : List ℕ) (e : ℕ) → Laid g s s e e
-laid_none g s e = record {
-  long = refl;
-  marks = λ v l. inl refl;
-  stack = record { cell = λ v l. refl; step = λ v l. refl; via = λ v l. refl };
-  used = over_none g.nodes _ _ e (used_at g s);
-  next = over_none g.nodes _ _ e (next_at g s);
-  prev = over_none g.nodes _ _ e (prev_at g s);
-}
 
 -- Marks that are as they were or 0, after a write of one that is 0.
 pub marks_more : (g : Grid) (s s' s'' : List ℕ) (w : ℕ) → MarksOr g s s' 0 → SetAt g.nodes w 0 (mark_at g s') (mark_at g s'') → MarksOr g s s'' 0

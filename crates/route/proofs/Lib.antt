@@ -9,4 +9,3 @@ pub mod SearchHops
 pub mod SearchRuns
 pub mod SearchTurn
 pub mod ServeLaws
-pub mod LayHop

@@ -1,13 +1,13 @@
 -- How what is found one way is what is found another way, where that allows more or the rest is marked. Assumes nothing.
 use Prim.Native.Nat.{ℕ, suc, ◌+◌, ◌-◌, ◌<◌, ◌≤◌}
-use mathlib.Core.Path.{◌≡◌, refl, sym, ◌∙◌, ap, subst}
+use mathlib.Core.Path.{◌≡◌, sym, ◌∙◌, ap, subst}
 use mathlib.Core.List.{List}
-use mathlib.Core.Bool.{Bool, true, false}
+use mathlib.Core.Bool.{Bool, true}
 use mathlib.Core.Logic.{◌⊎◌, inl, inr, ⊎_elim}
 use native.Mathlib.Omega.{arith}
 use native.Mathlib.Decide.{dec_lt}
 use lib.ListN.{length, get_or}
-use borrow.Author.Tests.{eq-eqb, ne_eqb, le-leb, lt-leb}
+use borrow.Author.Tests.{le-leb, lt-leb}
 use Rattle.model.specs.Lists.{In}
 use Rattle.model.specs.Job.{Job}
 use Rattle.model.specs.Choke.{Point, point}
@@ -16,14 +16,12 @@ use Rattle.floor.specs.Tables.{Cells, Near, OpenAt, Shut, row_at}
 use Rattle.floor.proofs.JobTables.{row_known}
 use Rattle.network.specs.Graph.{top, Inside}
 use Rattle.network.specs.declared.planes.Grid.{Grid}
-use Rattle.network.specs.declared.planes.Store.{Store}
-use Rattle.network.proofs.StoreLaws.{same_more, is_unused, is_in_use, is_met, is_not_met}
+use Rattle.network.proofs.StoreLaws.{is_in_use}
 use Rattle.network.specs.declared.planes.Node.{Node}
 use Rattle.network.specs.Holds.{Holds}
-use Rattle.network.specs.Store.{as_point, place_at, used_at, mark_at, next_at, meets, used_test, meets_test, leads_to, with_mark, with_entry, Wrote}
-use Rattle.network.proofs.Points.{point_eq, point_step}
+use Rattle.network.specs.Store.{as_point, place_at, used_at, used_test, leads_to}
+use Rattle.network.proofs.Points.{point_step}
 use Rattle.network.proofs.HoldsLaws.{leads_on, place_below}
-use Rattle.route.specs.Lay.{pushed}
 use Rattle.std.specs.Prelude.{Option, None, Some}
 use Rattle.route.specs.declared.search.Hop.{Hop}
 use Rattle.route.specs.Finds.{Stands, Down, By, ByRow, BySteps, first_of, Stamped, Finds, Guesses, Tries, Aims}
@@ -97,72 +95,24 @@ module _ (due shut : List ℕ) (c : ℕ) where
   pub first_lift : get_or due c 0 < get_or shut c 0 → first_of due shut c ≡ 0
   first_lift l = rw (lt-leb (get_or shut c 0) (get_or due c 0) l)
 
--- What the code reads of a plane at v, where w stands.
-module _ (f : ℕ → ℕ) {v w a b : ℕ} (ev : v ≡ w) (ea : a ≡ f v) where
-  pub told : a ≡ b → f w ≡ b
-  told e = sym (ap f ev) ∙ sym ea ∙ e
-
-  pub untold : (a ≡ b → ⊥) → f w ≡ b → ⊥
-  untold ne e = ne (ea ∙ ap f ev ∙ e)
-
--- The tests of a node's use, read at v, where it stands.
-module _ (g : Grid) (s : List ℕ) (x : Point) {v : ℕ} {u : Bool} (ev : v ≡ place_at g x) where
-  pub free_at : u ≡ used_test g s v → u ≡ false → used_at g s (place_at g x) ≡ 0
-  free_at eu e = told (used_at g s) ev refl (is_unused eu e)
-
-  pub taken_at : u ≡ used_test g s v → u ≡ true → used_at g s (place_at g x) ≡ 0 → ⊥
-  taken_at eu e = untold (used_at g s) ev refl (is_in_use eu e)
-
-  -- What the code reads as what the used node leads on to.
-  pub leads_call : u ≡ meets_test g s v → u ≡ true → point x.cell g.top ≡ leads_to g s x
-  leads_call eu e = rw (eq-eqb (used_at g s (place_at g x)) meets (told (used_at g s) ev refl (is_met eu e)))
-
-  pub leads_next : u ≡ meets_test g s v → u ≡ false → {y : ℕ} → y ≡ next_at g s v → point y (x.step + 1) ≡ leads_to g s x
-  leads_next eu e ey = rw (ne_eqb (used_at g s (place_at g x)) meets (untold (used_at g s) ev refl (is_not_met eu e))) (point_eq (ey ∙ ap (next_at g s) ev) refl)
-
-pub pushed_by : {s t u : Store} (d : ℕ) {v : ℕ} (stamp : ℕ) (x via : Point) → v ≡ place_at s.grid x → Wrote s t (with_mark s.grid s.bytes.now v stamp)
-    → Wrote t u (with_entry t.grid t.bytes.now d x via) → Wrote s u (pushed s.grid s.bytes.now d x via stamp)
-pushed_by d stamp x via ev a b = record { same = same_more a.same b.same; bytes = rw (b.bytes, a.same.grid, a.bytes, ev) }
-
 -- A node that is no call's.
 pub no_call : {j : Job} {g : Grid} {s : List ℕ} {x : Point} → Holds j g s → Inside j x → (x.step ≡ g.top → ⊥) → Stands j g s x
 no_call {j} {x = x} h k ne = let ne' : x.step ≡ top j → ⊥ = rw h.grid at ne in (h, (k.0, omega (arith, k.1)))
 
-pub before_top : {j : Job} {g : Grid} {s : List ℕ} → Holds j g s → {c t : ℕ} → c < j.cells → t < g.top → Stands j g s (point c t)
-before_top {j} h {t = t} k l = let l' : t < top j = rw h.grid at l in (h, (k, omega arith))
-
--- At a node.
-module _ {j : Job} {g : Grid} {s : List ℕ} {n : Node} (h : Stands j g s (as_point n)) where
-  stands_in : Inside j (as_point n)
-  stands_in = (h.1.0, omega (arith, h.1.1))
-
-  pub stands_place : place_at g (as_point n) < g.nodes
-  stands_place = place_below h.0 stands_in
+-- At a node, whose use is read at v, where it stands.
+module _ {j : Job} {g : Grid} {s : List ℕ} {n : Node} (h : Stands j g s (as_point n)) {v : ℕ} {u : Bool} (ev : v ≡ place_at g (as_point n)) (eu : u ≡ used_test g s v) (used : u ≡ true) where
+  taken : used_at g s (place_at g (as_point n)) ≡ 0 → ⊥
+  taken e = is_in_use eu used (ap (used_at g s) ev ∙ e)
 
   low : n.step ≡ g.top → ⊥
   low e = let f : n.step ≡ top j = rw h.0.grid at e in omega (arith, h.1.1)
 
-  module _ {v : ℕ} {u : Bool} (ev : v ≡ place_at g (as_point n)) (eu : u ≡ used_test g s v) where
-    -- It is used, and the code reads y as what it leads on to.
-    module _ (used : u ≡ true) {y : Node} (ey : as_point y ≡ leads_to g s (as_point n)) where
-      pub after_place : place_at g (as_point y) < g.nodes
-      after_place = subst (λ (z : Point). place_at g z < g.nodes) (sym ey) (place_below h.0 (leads_on h.0 stands_in low (taken_at g s (as_point n) ev eu used)).1)
+  -- Where it leads on has its place too.
+  pub after_place : {y : Node} → as_point y ≡ leads_to g s (as_point n) → place_at g (as_point y) < g.nodes
+  after_place ey = subst (λ (z : Point). place_at g z < g.nodes) (sym ey) (place_below h.0 (leads_on h.0 (h.1.0, omega (arith, h.1.1)) low taken).1)
 
-      module _ {stamp w m : ℕ} (ew : w ≡ place_at g (as_point y)) (em : m ≡ mark_at g s w) where
-        pub down_none : m ≡ stamp → Finds (Down g s (as_point n)) (Stamped g s stamp) None
-        down_none e z via b = rw (b.2 ∙ sym ey) (told (mark_at g s) ew em e)
-
-        pub down_push : (m ≡ stamp → ⊥) → Finds (Down g s (as_point n)) (Stamped g s stamp) (Some (record { node = y; via = n }))
-        down_push f = ((refl, taken_at g s (as_point n) ev eu used, ey), untold (mark_at g s) ew em f)
-
-    module _ (stamp : ℕ) where
-      -- It is not.
-      pub by_none : u ≡ false → mark_at g s (place_at g (as_point n)) ≡ stamp → Finds (By g s (as_point n)) (Stamped g s stamp) None
-      by_none e m y via (inl b) = rw b.2 m
-      by_none e m y via (inr b) = absurd (b.1 (free_at g s (as_point n) ev eu e))
-
-      pub by_down : u ≡ true → (r : Option Hop) → Finds (Down g s (as_point n)) (Stamped g s stamp) r → Finds (By g s (as_point n)) (Stamped g s stamp) r
-      by_down used = found_rest (Down g s (as_point n)) (By g s (as_point n)) (Stamped g s stamp) (λ y via b. inr b) (λ y via q. ⊎_elim (λ b. absurd (taken_at g s (as_point n) ev eu used b.1)) inl q)
+  pub by_down : (r : Option Hop) (M : Point → Type 0) → Finds (Down g s (as_point n)) M r → Finds (By g s (as_point n)) M r
+  by_down r M = found_rest (Down g s (as_point n)) (By g s (as_point n)) M (λ y via b. inr b) (λ y via q. ⊎_elim (λ b. absurd (taken b.1)) inl q) r
 
 -- What is found by way of one step of a cell.
 pub aims_found : (g : Grid) (s : List ℕ) (c first past ahead stamp : ℕ) (h : Hop) → Finds (By g s (point c ahead)) (Stamped g s stamp) (Some h)

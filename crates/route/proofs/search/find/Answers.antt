@@ -5,12 +5,6 @@ use Rattle.route.proofs.SearchFinds.{found_rest}
 use Rattle.route.proofs.search.find.Goals as goal
 use Rattle.route.proofs.search.find.Goals.{else-node-gt0, then-node-gt0+in_default}
 
-pub scan-requires : goal.scan-requires
-scan-requires c = let (j, h, k) = c.requires in (j, h.0, k, omega (arith, h.1.1))
-
-pub returns-in-Some : goal.returns-in-Some
-returns-in-Some c = let k = c.in-Some.ensures in (inl (c.if-node-gt0.true, k.0), k.1)
-
 pub returns : goal.returns
 returns c =
     found_rest _ _ _ (λ y via b. inr b)

@@ -5,7 +5,6 @@ use mathlib.Core.Path.{◌≡◌, sym, ◌∙◌, ap, subst₂}
 use mathlib.Core.Logic.{inl, inr}
 use native.Mathlib.Omega.{arith}
 use lib.ListN.{get_or}
-use Rattle.network.specs.declared.planes.Grid.{Grid}
 use Rattle.std.specs.Prelude.{Some}
 use Rattle.route.specs.Finds.{Stamped, Tries, Aims, first_of}
 use Rattle.route.proofs.SearchFinds.{first_bay, first_lift, aims_found}
@@ -32,20 +31,12 @@ overflow_sub-first c =
     let (j, h, o, k, l) = c.requires in
     omega (arith, c.if-tables-cell.true, (o.opens c.args.cell 0 (omega (arith, h.ready.fit.few_cells)) (omega arith)).1 (λ q m b e. omega arith))
 
-pub look-requires : goal.look-requires
-look-requires c =
-    let (j, h, o, k, l) = c.requires in
-    (j, (h, (k, omega (arith, past_is (goal.at.look-requires c).Joined-below-past, ap (λ (g : Grid). g.top) h.grid))))
-
 pub returns-in-Some : goal.returns-in-Some
 returns-in-Some c =
     let a = c.args in
     inr (subst₂ (λ first past. Aims a.store.now.grid a.store.now.bytes.now a.cell first past a.ahead (Stamped a.store.now.grid a.store.now.bytes.now a.stamp) (Some c.in-Some.hop))
     (first_is (goal.at.returns-in-Some c).Joined-tables-cell) (past_is (goal.at.returns-in-Some c).Joined-below-past)
     (aims_found a.store.now.grid a.store.now.bytes.now a.cell _ _ a.ahead a.stamp c.in-Some.hop c.in-Some.ensures c.if-first-ahead.true c.if-ahead-past.true))
-
-pub from_steps-requires : goal.from_steps-requires
-from_steps-requires c = let (j, h, o, k, l) = c.requires in (j, h, k, omega (arith, past_is (goal.at.from_steps-requires c).Joined-below-past))
 
 pub returns : goal.returns
 returns c =

@@ -1,15 +1,9 @@
 -- `from_node` answers what `find` does for the row of the node's cell at its step, or a guess that is a position. No loop. Assumes nothing.
 use mathlib.Core.Path.{◌≡◌}
-use native.Mathlib.Omega.{arith}
 use Rattle.floor.specs.Tables.{row_at}
 use Rattle.route.proofs.SearchFinds.{row-cells}
 use Rattle.route.proofs.search.from_node.Goals as goal
 use Rattle.route.proofs.search.from_node.Goals.{After-row_at-row}
-
-pub row_at-row-requires : goal.row_at-row-requires
-row_at-row-requires c =
-    let (j, h, n, o) = c.requires in
-    (j.cells, n.rows, h.1.0, omega (arith, h.1.0, h.0.ready.fit.few_cells))
 
 row_is : (c : After-row_at-row) →
     (let a = c.args in c.row_at-row.result.now ≡ row_at a.tables.now.near.near a.tables.now.near.begin a.tables.now.shut a.node.cell a.node.step)
@@ -21,14 +15,8 @@ guess-requires c =
     let (j, h, n, o) = c.requires in
     (j, h, row-cells n o v.cell v.step h.1.0 (row_is (goal.at.guess-requires c).After-row_at-row))
 
-pub returns-in-Some : goal.returns-in-Some
-returns-in-Some c = rw (row_is (goal.at.returns-in-Some c).After-row_at-row) at c.in-Some.ensures
-
 pub find-requires : goal.find-requires
 find-requires c =
     let v = c.args.node in
     let (j, h, n, o) = c.requires in
     (j, h, row-cells n o v.cell v.step h.1.0 (row_is (goal.at.find-requires c).After-row_at-row))
-
-pub returns : goal.returns
-returns c = rw (row_is (goal.at.returns c).After-row_at-row) at c.find.ensures

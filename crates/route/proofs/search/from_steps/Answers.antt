@@ -1,14 +1,8 @@
 -- `from_steps` looks by way of the steps of a cell, from the latest down. Invariant: by way of the steps passed all is marked. Assumes nothing.
 use Prim.Native.Nat.{◌-◌}
 use native.Mathlib.Omega.{arith}
-use Rattle.route.proofs.SearchFinds.{before_top, steps_more, steps_all, steps_push}
+use Rattle.route.proofs.SearchFinds.{steps_more, steps_all, steps_push}
 use Rattle.route.proofs.search.from_steps.Goals as goal
-
-pub loop-step-init : goal.loop-step-init
-loop-step-init c = λ y w (k, l, m, b). absurd (omega arith)
-
-pub look-requires : goal.look-requires
-look-requires c = let (j, h, k, l) = c.requires in (j, before_top h k (omega arith))
 
 pub returns-in-Some : goal.returns-in-Some
 returns-in-Some c =

@@ -1,7 +1,6 @@
 -- `scan` looks by way of the cells of a row, one by one, past those that are closed at the next step. Invariant: by way of the cells passed all is marked. Assumes nothing.
 use native.Mathlib.Omega.{arith}
 use Rattle.model.specs.Lists.{In}
-use Rattle.model.proofs.Written.{few_steps}
 use Rattle.route.proofs.SearchFinds.{in_at, row_more, row_all}
 use Rattle.route.proofs.search.scan.Goals as goal
 use Rattle.route.proofs.search.scan.Goals.{After-from-cell, else-step-from, then-step-from+in_default}
@@ -9,9 +8,6 @@ use Rattle.route.proofs.search.scan.Goals.{After-from-cell, else-step-from, then
 -- The cell at hand is one of the row.
 in_row : (c : After-from-cell) → In c.from-cell.result c.args.row.now
 in_row c = in_at c.args.row.now c.loop-b.b-index c.from-cell.ensures c.loop-b-test.true
-
-pub overflow_add-step : goal.overflow_add-step
-overflow_add-step c = let (j, h, k, l) = c.requires in omega (arith, few_steps j h.ready.fit)
 
 pub look-requires : goal.look-requires
 look-requires c = let (j, h, k, l) = c.requires in (j, (h, (k _ (in_row (goal.at.look-requires c).After-from-cell), l)))

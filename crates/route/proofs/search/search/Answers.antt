@@ -68,9 +68,6 @@ bounds-tables-c c =
     let (j, h) = one (goal.at.bounds-tables-c c).After-push in
     omega (arith, (top_inside (turn (goal.at.bounds-tables-c c).In-loop-depth j h)).0, h.tables.carts.size, h.holds.ready.fit.few_cells)
 
-pub returns-then-tables-c-ne0-clause-same : goal.returns-then-tables-c-ne0-clause-same
-returns-then-tables-c-ne0-clause-same c = c.loop-depth.invariant.0
-
 pub returns-then-tables-c-ne0-clause-searched : goal.returns-then-tables-c-ne0-clause-searched
 returns-then-tables-c-ne0-clause-searched c = λ j h.
     let l = c.loop-depth in
@@ -132,9 +129,6 @@ loop-depth-preserved c = (
   same_more c.loop-depth.invariant.0 c.push-in-loop-depth.ensures.same,
   λ j h. turn_push (looked (goal.at.loop-depth-preserved c).After-leads-found j h) c.in-Some.hop c.in-Some.is c.push-in-loop-depth.new.store.bytes.now (rw c.loop-depth.invariant.0.grid at c.push-in-loop-depth.ensures.bytes),
 )
-
-pub returns-clause-same : goal.returns-clause-same
-returns-clause-same c = c.loop-depth.invariant.0
 
 pub returns-clause-searched : goal.returns-clause-searched
 returns-clause-searched c = λ j h. let p = c.push.ensures.bytes in ends_none _ p h (c.loop-depth.invariant.1 j (begun _ p h)).run (omega (arith, c.loop-depth-test.false))

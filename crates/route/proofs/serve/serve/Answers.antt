@@ -1,49 +1,21 @@
 -- `serve` seeks with the caller's stamp, then with a new one. A search that fails is final if no mark had its stamp at the start: so the caller says, or the stamp
 -- is one above all marks that there are. One that finds nothing leaves the flow as it was, so the second starts where the first did. No loop. Assumes nothing.
 use native.Mathlib.Omega.{arith}
-use Rattle.network.proofs.StoreLaws.{same_more}
 use Rattle.route.proofs.ServeLaws.{fresh_next, serves_from, marks_both}
 use Rattle.route.proofs.SearchTurn.{may_search}
 use Rattle.route.proofs.serve.serve.Goals as goal
 
-pub seek-requires : goal.seek-requires
-seek-requires c = let p = c.requires in (p.0, p.1.search)
+pub returns-then-seek-2-clause-served : goal.returns-then-seek-2-clause-served
+returns-then-seek-2-clause-served c = λ j h.
+    let g = c.seek.ensures.same.grid in
+    let k = c.seek.ensures.sought j h.search in
+    let none = c.if-seek.false in
+    let k' = rw g at (c.seek-2.ensures.sought j (rw g (may_search (k.same none) h.search))) in
+    (k'.holds, (omega arith, omega arith, marks_both k k' (omega arith) h.marks, λ v. serves_from k none v (k'.serves c.if-seek-2.true v)))
 
-pub returns-then-seek : goal.returns-then-seek
-returns-then-seek c = record {
-  same = c.seek.ensures.same;
-  served = λ j h. let k = c.seek.ensures.sought j h.search in (k.holds, (omega arith, omega arith, k.marks _ (omega arith) h.marks, k.serves c.if-seek.true));
-}
-
-pub returns-then-fresh : goal.returns-then-fresh
-returns-then-fresh c = record {
-  same = c.seek.ensures.same;
-  served = λ j h. let k = c.seek.ensures.sought j h.search in (k.holds, (omega arith, k.stuck c.if-seek.false (h.clean c.if-fresh.true)));
-}
-
-pub seek-requires-2 : goal.seek-requires-2
-seek-requires-2 c =
-    let (j, h) = c.requires in
-    let k = c.seek.ensures in
-    (j, rw k.same.grid (may_search ((k.sought j h.search).same c.if-seek.false) h.search))
-
-pub returns-then-seek-2 : goal.returns-then-seek-2
-returns-then-seek-2 c = record {
-  same = same_more c.seek.ensures.same c.seek-2.ensures.same;
-  served = λ j h.
-      let g = c.seek.ensures.same.grid in
-      let k = c.seek.ensures.sought j h.search in
-      let none = c.if-seek.false in
-      let k' = rw g at (c.seek-2.ensures.sought j (rw g (may_search (k.same none) h.search))) in
-      (k'.holds, (omega arith, omega arith, marks_both k k' (omega arith) h.marks, λ v. serves_from k none v (k'.serves c.if-seek-2.true v)));
-}
-
-pub returns : goal.returns
-returns c = record {
-  same = same_more c.seek.ensures.same c.seek-2.ensures.same;
-  served = λ j h.
-      let g = c.seek.ensures.same.grid in
-      let k = c.seek.ensures.sought j h.search in
-      let k' = rw g at (c.seek-2.ensures.sought j (rw g (may_search (k.same c.if-seek.false) h.search))) in
-      (k'.holds, (omega arith, k'.stuck c.if-seek-2.false (fresh_next k _ (omega arith) h.marks)));
-}
+pub returns-clause-served : goal.returns-clause-served
+returns-clause-served c = λ j h.
+    let g = c.seek.ensures.same.grid in
+    let k = c.seek.ensures.sought j h.search in
+    let k' = rw g at (c.seek-2.ensures.sought j (rw g (may_search (k.same c.if-seek.false) h.search))) in
+    (k'.holds, (omega arith, k'.stuck c.if-seek-2.false (fresh_next k _ (omega arith) h.marks)))
