@@ -64,6 +64,7 @@ via_at g s i = point (at g s 7 i) (at g s 8 i)
 abbrev pub meets : ℕ
 meets = 2
 
+-- the byte of each use, and the tests of it
 abbrev pub byte_of : Use → ℕ
 byte_of Free = 0
 byte_of Leads = 1
@@ -117,7 +118,7 @@ pub record SameStore (s t : Store) : Type 0 where
   pub lent : t.bytes.ghost_name ≡ s.bytes.ghost_name
   pub long : length t.bytes.now ≡ length s.bytes.now
 
--- It has these bytes now.
+-- It is, and has these bytes now.
 pub record Wrote (s t : Store) (b : List ℕ) : Type 0 where
   pub same : SameStore s t
   pub bytes : t.bytes.now ≡ b

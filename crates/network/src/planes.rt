@@ -2,7 +2,7 @@
 ghost use Rattle.std.specs.Prelude.{◌≡◌, ◌+◌, ◌*◌, ◌<◌, ◌≤◌, length, set};
 ghost use Rattle.network.specs.Store.{place_in, as_point, at, spot, Within, Blank, Spacious, SameStore, Wrote, byte_of, used_test, meets_test, mark_at, next_at, prev_at, cell_at, step_at, via_at, with_used, with_mark, with_next, with_prev, with_entry};
 
-// The planes. The bytes of a node: what its use is, the stamp of a search, the cells before and behind it; of the stack: cell, step by two bytes, and by way of which
+// The planes, by numbers, since a plane begins at its number times the nodes. The bytes of a node: what its use is, the stamp of a search, the cells before and behind it; of the stack: cell, step by two bytes, and by way of which
 // cell at which step.
 const USED: usize = 0;
 

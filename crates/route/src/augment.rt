@@ -13,12 +13,12 @@ fn use_of(grid: Grid, from: Node, by: Node) -> Use
     ensures { byte_of result ≡ use_of grid (as_point from) (as_point by) }
 {
     if from == by {
-        return Use::Free;
+        Use::Free
+    } else if from.step == grid.top {
+        Use::Meets
+    } else {
+        Use::Leads
     }
-    if from.step == grid.top {
-        return Use::Meets;
-    }
-    Use::Leads
 }
 
 // What is kept of where `from` comes from: of a call the step, of a node the cell.
@@ -26,9 +26,10 @@ fn from_of(grid: Grid, from: Node, by: Node) -> usize
     ensures { result ≡ from_of grid (as_point from) (as_point by) }
 {
     if from.step == grid.top {
-        return by.step;
+        by.step
+    } else {
+        by.cell
     }
-    by.cell
 }
 
 // The i-th hop.

@@ -27,14 +27,17 @@ fn successor(store: &Store<'_>, node: Node) -> Node
     ensures { as_point result ≡ leads_to store.now.grid store.now.bytes.now (as_point node) }
 {
     let v = store.grid.place(node);
-    let cell = node.cell;
     if store.meets(v) {
-        let step = store.grid.top;
-        return Node { cell, step };
+        Node {
+            cell: node.cell,
+            step: store.grid.top,
+        }
+    } else {
+        Node {
+            cell: store.next(v),
+            step: node.step + 1,
+        }
     }
-    let cell = store.next(v);
-    let step = node.step + 1;
-    Node { cell, step }
 }
 
 // To the successor of a used node, which then falls out of the flow, or whose place in it is taken over.
@@ -62,13 +65,13 @@ fn look(store: &Store<'_>, node: Node, stamp: u8) -> Option<Hop>
     ensures { Finds (By store.now.grid store.now.bytes.now (as_point node)) (Stamped store.now.grid store.now.bytes.now stamp) result }
 {
     let v = store.grid.place(node);
-    if !store.used(v) {
-        if store.mark(v) == stamp {
-            return None;
-        }
-        return Some(Hop { node, via: node });
+    if store.used(v) {
+        return drop_out(store, node, stamp);
     }
-    drop_out(store, node, stamp)
+    if store.mark(v) == stamp {
+        return None;
+    }
+    Some(Hop { node, via: node })
 }
 
 // By way of the first cell of the row that leads on. From a cell that is closed at the next step nothing comes.
@@ -174,14 +177,13 @@ fn from_call(
     requires { (j : model.Job) × Holds j store.now.grid store.now.bytes.now × Shut j tables.now.shut × (cell < j.cells) × (get_or tables.now.due cell 0 ≤ store.now.grid.top) }
     ensures { CallTries store.now.grid store.now.bytes.now tables.now.due tables.now.shut cell below ahead (Stamped store.now.grid store.now.bytes.now stamp) result }
 {
-    let mut past = usize::from(tables.due[cell]);
-    let mut first = 0;
-    if tables.shut[cell] <= tables.due[cell] {
-        first = past - 1;
-    }
-    if below < past {
-        past = below;
-    }
+    let due = usize::from(tables.due[cell]);
+    let first = if tables.shut[cell] <= tables.due[cell] {
+        due - 1
+    } else {
+        0
+    };
+    let past = due.min(below);
     if first <= ahead && ahead < past {
         if let Some(hop) = look(store, Node { cell, step: ahead }, stamp) {
             return Some(hop);
