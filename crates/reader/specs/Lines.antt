@@ -1,5 +1,5 @@
 -- What the reader's kinds, lines and faults mean.
-use Rattle.std.specs.Prelude.{ℕ, ◌<◌, ◌≤◌, List, cond, eqb, length, get_or, Option, Some, None, Result, Ok, Err}
+use Rattle.std.specs.Prelude.{ℕ, ◌<◌, ◌≤◌, List, cond, eqb, length, drop, get_or, Option, Some, None, Result, Ok, Err}
 use Rattle.std.proofs.Math.Option as math
 use Rattle.std.proofs.Math.Option.{none, some}
 use Rattle.model.specs.declared.answer.Answer.{Answer}
@@ -17,7 +17,6 @@ use Rattle.reader.specs.declared.line.Line.{Line}
 use Rattle.reader.specs.declared.line.Line.TheVariants as line
 use Rattle.reader.specs.declared.line.Fault.{Fault}
 use Rattle.reader.specs.declared.line.Fault.TheVariants.{Form, Number, Range, Room, Doubled}
-use Rattle.reader.specs.declared.line.Word.{Word}
 
 abbrev pub kind_of : Kind → read.Kind
 kind_of Floor = floor_line
@@ -54,17 +53,17 @@ of_line f (line.Track t) = f track_line t.from t.to
 of_line f (line.Cart v) = f cart_line v 0
 of_line f (line.Call q) = f (call_line (as_kind q.kind)) q.cell q.deadline
 
--- the word that opens a line, as a kind, and its size with the tab
-abbrev pub some_word : Kind → ℕ → Option Word
-some_word k n = Some (record { kind = k; size = n })
+-- the word that opens a line, as a kind, and what follows it and its tab
+abbrev pub opened : Kind → ℕ → List ℕ → Option (Kind × List ℕ)
+opened k n l = Some (k, drop n l)
 
-abbrev pub word_of : List ℕ → Option Word
+abbrev pub word_of : List ℕ → Option (Kind × List ℕ)
 word_of l =
-    cond (opens floor_word l) (some_word Floor 6)
-    (cond (opens track_word l) (some_word Track 6)
-    (cond (opens cart_word l) (some_word Cart 5)
-    (cond (opens call_word l) (some_word (Call Lift) 5)
-    (cond (opens bay_word l) (some_word (Call Bay) 4)
+    cond (opens floor_word l) (opened Floor 6 l)
+    (cond (opens track_word l) (opened Track 6 l)
+    (cond (opens cart_word l) (opened Cart 5 l)
+    (cond (opens call_word l) (opened (Call Lift) 5 l)
+    (cond (opens bay_word l) (opened (Call Bay) 4 l)
     None))))
 
 -- n fields, and each a number

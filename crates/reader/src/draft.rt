@@ -10,7 +10,7 @@ ghost use Rattle.reader.specs.Lines.{kind_of, of_line, said};
 ghost use Rattle.reader.specs.Table.{Noted};
 
 use crate::line;
-use crate::line::{Fault, Kind, Line, Word};
+use crate::line::{Fault, Kind, Line};
 use arrayvec::ArrayVec;
 use job::bits::{Bits, pair};
 use job::state::Job;
@@ -158,9 +158,9 @@ impl Draft {
     pub fn take(&mut self, line: &[u8]) -> Result<(), Fault>
         ensures { said result (job_of self.new.job) ≡ line_says scaled_of (job_of self.old.job) line.now }
     {
-        let Some(Word { kind, size }) = line::word_of(line) else {
+        let Some((kind, fields)) = line::word_of(line) else {
             return Err(Fault::Form);
         };
-        self.take_fields(kind, &line[size..])
+        self.take_fields(kind, fields)
     }
 }

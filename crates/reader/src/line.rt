@@ -1,6 +1,6 @@
 // One line by itself: the word that opens it, its numbers, and what a line in range adds to a job.
-ghost use Rattle.std.specs.Prelude.{◌≡◌, ◌⊎◌};
-ghost use Rattle.model.specs.Text.{fields_of};
+ghost use Rattle.std.specs.Prelude.{◌≡◌, ◌⊎◌, true, false, length, drop, MatchOption};
+ghost use Rattle.model.specs.Text.{starts_with, fields_of};
 ghost use Rattle.model.specs.ReadJob.{field_count};
 ghost use Rattle.reader.specs.Lines.{kind_of, answer_to, Small, line_of, word_of, first_fault, numbers_given};
 
@@ -34,13 +34,6 @@ pub enum Fault {
     Range,
     Room,
     Doubled,
-}
-
-// The word that opens a line, as a kind, and its size with the tab behind it.
-#[derive(Clone, Copy, Debug, PartialEq, Eq)]
-pub struct Word {
-    pub kind: Kind,
-    pub size: usize,
 }
 
 impl From<Fault> for Answer {
@@ -125,39 +118,32 @@ pub fn numbers_of(fields: &[u8], count: usize) -> Result<(usize, usize), Fault>
     Ok((a, b))
 }
 
-// The word that opens the line, if it is one of the five.
-pub fn word_of(line: &[u8]) -> Option<Word>
-    ensures { result ≡ word_of line.now }
+// What stands behind the word, if the line starts with it.
+#[tactic(auto, using(crate::proofs::Words::strips_as))]
+fn behind<'a>(line: &'a [u8], word: &[u8]) -> Option<&'a [u8]>
+    ensures { MatchOption result (starts_with word.now line.now ≡ false) (λ rest. (starts_with word.now line.now ≡ true) × (rest.now ≡ drop (length word.now) line.now)) }
 {
-    if text::scan::opens_with(line, b"FLOOR\t") {
-        return Some(Word {
-            kind: Kind::Floor,
-            size: 6,
-        });
+    line.strip_prefix(word)
+}
+
+// The word that opens the line, as a kind, if it is one of the five; what follows it and its tab are the fields.
+pub fn word_of(line: &[u8]) -> Option<(Kind, &[u8])>
+    ensures { MatchOption result (word_of line.now ≡ None) (λ w. word_of line.now ≡ Some (w.0, w.1.now)) }
+{
+    if let Some(fields) = behind(line, b"FLOOR\t") {
+        return Some((Kind::Floor, fields));
     }
-    if text::scan::opens_with(line, b"TRACK\t") {
-        return Some(Word {
-            kind: Kind::Track,
-            size: 6,
-        });
+    if let Some(fields) = behind(line, b"TRACK\t") {
+        return Some((Kind::Track, fields));
     }
-    if text::scan::opens_with(line, b"CART\t") {
-        return Some(Word {
-            kind: Kind::Cart,
-            size: 5,
-        });
+    if let Some(fields) = behind(line, b"CART\t") {
+        return Some((Kind::Cart, fields));
     }
-    if text::scan::opens_with(line, b"CALL\t") {
-        return Some(Word {
-            kind: Kind::Call(CallKind::Lift),
-            size: 5,
-        });
+    if let Some(fields) = behind(line, b"CALL\t") {
+        return Some((Kind::Call(CallKind::Lift), fields));
     }
-    if text::scan::opens_with(line, b"BAY\t") {
-        return Some(Word {
-            kind: Kind::Call(CallKind::Bay),
-            size: 4,
-        });
+    if let Some(fields) = behind(line, b"BAY\t") {
+        return Some((Kind::Call(CallKind::Bay), fields));
     }
     None
 }
