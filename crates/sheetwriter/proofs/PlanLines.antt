@@ -1,70 +1,70 @@
--- The lines of a plan as they are written one after the other: those of the first k carts, the first n of which have calls and so PATH lines. One more
--- line is that of cart k, by whether k is below n. Assumes nothing.
-use Prim.Native.Nat.{ℕ, suc, ◌+◌, ◌-◌, ◌≤◌, ◌<◌, min}
-use mathlib.Core.Path.{◌≡◌, refl}
+-- The lines of a plan as they are written one after the other: those of the first n rides are PATH lines. Assumes nothing.
+use Prim.Native.Nat.{ℕ, zero, suc, ◌+◌, ◌-◌, ◌≤◌, ◌<◌}
+use mathlib.Core.Path.{◌≡◌, refl, sym, ap, ◌∙◌}
 use mathlib.Core.List.{List, [], ◌∷◌, ◌++◌, append_assoc, append-nil}
 use mathlib.Core.Bool.{Bool, true, false}
 use native.Mathlib.Omega.{arith}
-use native.Mathlib.Numerals.{add-one}
 use lib.Dec.{ltb}
-use lib.ListN.{length, get_or}
-use borrow.Author.Tests.{ltb-true, ltb-false, lt-ltb, le-ltb}
-use Rattle.model.specs.Text.{line, path_word, spare_word}
-use Rattle.model.specs.SheetText.{lines_text, path_numbers, spare_numbers}
-use Rattle.text.specs.Wrote.{Wrote}
-use Rattle.text.proofs.Wrote.{lines_append, wrote_lines, wrote_more, wrote_none}
-use Rattle.job.specs.Held.{path_at, paths_to, ride_at, spares_from}
+use lib.ListN.{length, get_or, take, drop}
+use lib.Seq.{length-take-le}
+use borrow.Author.Tests.{ltb-true, ltb-false}
+use Rattle.std.specs.Prelude.{map}
+use Rattle.std.proofs.lemmas.List.{length-map}
+use Rattle.model.specs.Text.{line, plan_word, path_word, spare_word}
+use Rattle.model.specs.SheetText.{lines_text, path_numbers, spare_numbers, plan_text}
+use Rattle.job.specs.declared.held.Ride.{Ride}
+use Rattle.job.specs.Held.{as_path, as_ride, paths_to, spares_from}
 use Rattle.sheetwriter.specs.Lines.{ride_line}
 
-module _ (carts calls lasts rows : List ℕ) (n : ℕ) where
-  abbrev pub lines_to : ℕ → List ℕ
-  lines_to k =
-      lines_text (λ p. path_word) path_numbers (paths_to carts calls lasts rows (min k n)) ++ lines_text (λ s. spare_word) spare_numbers (spares_from carts lasts rows n (k - n))
+-- what stands behind the end of a list
+abbrev pub no_ride : Ride
+no_ride = record { cart = 0; call = 0; last = 0; cells = [] }
 
-  pub lines_all : (m : ℕ) → n ≤ m
-      → lines_to m ≡ lines_text (λ p. path_word) path_numbers (paths_to carts calls lasts rows n) ++ lines_text (λ s. spare_word) spare_numbers (spares_from carts lasts rows n (m - n))
-  lines_all m h = let e : min m n ≡ n = omega arith in rw e
+-- the lines of rides, the first of which has the number k
+abbrev pub lines_from : ℕ → ℕ → List Ride → List ℕ
+lines_from n k [] = []
+lines_from n k (r ∷ rs) = ride_line (ltb k n) r ++ lines_from n (suc k) rs
 
-  module _ {s : List ℕ} {at : ℕ} where
-    pub lines_none : at ≤ length s → Wrote s at (lines_to 0) s at
-    lines_none h =
-        let e : min 0 n ≡ 0 = omega arith in
-        let f : 0 - n ≡ 0 = omega arith in
-        rw (e, f) (wrote_none h)
+pub lines_more : (n : ℕ) (rs : List Ride) (k : ℕ) (d : Ride) (m : ℕ) → k < length rs
+    → lines_from n m (take (k + 1) rs) ≡ lines_from n m (take k rs) ++ ride_line (ltb (m + k) n) (get_or rs k d)
+lines_more n [] k d m h = absurd (omega arith)
+lines_more n (r ∷ rs) zero d m h = let e : m + 0 ≡ m = omega arith in rw (e, append-nil (ride_line (ltb m n) r))
+lines_more n (r ∷ rs) (suc k) d m h =
+    let e : suc m + k ≡ m + suc k = omega arith in
+    let f : k + 1 ≡ suc k = omega arith in
+    let ih : lines_from n (suc m) (take (suc k) rs) ≡ lines_from n (suc m) (take k rs) ++ ride_line (ltb (m + suc k) n) (get_or rs k d) = rw (f, e) at (lines_more n rs k d (suc m) (omega arith)) in
+    let g : suc k + 1 ≡ suc (suc k) = omega arith in
+    rw g (ap (λ l. ride_line (ltb m n) r ++ l) ih ∙ sym (append_assoc (ride_line (ltb m n) r) (lines_from n (suc m) (take k rs)) (ride_line (ltb (m + suc k) n) (get_or rs k d))))
 
-    module _ (k : ℕ) {t : List ℕ} {p : ℕ} {u : List ℕ} {r : ℕ} (before : Wrote s at (lines_to k) t p)
-        (next : Wrote t p (ride_line (ltb k n) (get_or carts k 0) (get_or calls k 0) (ride_at carts lasts rows k).cells) u r) where
-      one_path : k < n → Wrote s at (lines_to (k + 1)) u r
-      one_path h =
-          let e : min (k + 1) n ≡ k + 1 = omega arith in
-          let f : k + 1 - n ≡ 0 = omega arith in
-          let e' : min k n ≡ k = omega arith in
-          let f' : k - n ≡ 0 = omega arith in
-          let paths = lines_text (λ p. path_word) path_numbers in
-          rw (e, f, append-nil (paths (paths_to carts calls lasts rows (k + 1))), add-one)
-          (wrote_lines (λ p. path_word) path_numbers (paths_to carts calls lasts rows k) (path_at carts calls lasts rows k)
-          (rw (e', f', append-nil (paths (paths_to carts calls lasts rows k))) at before) (rw (lt-ltb k n h) at next))
+abbrev pub paths_text : List Ride → List ℕ
+paths_text rs = lines_text (λ p. path_word) path_numbers (map as_path rs)
 
-      one_spare : n ≤ k → Wrote s at (lines_to (k + 1)) u r
-      one_spare h =
-          let e : min (k + 1) n ≡ min k n = omega arith in
-          let f : k + 1 - n ≡ suc (k - n) = omega arith in
-          let g : n + (k - n) ≡ k = omega arith in
-          let spares = lines_text (λ s. spare_word) spare_numbers in
-          let one = line spare_word (spare_numbers (ride_at carts lasts rows k)) in
-          rw (
-            e,
-            f,
-            g,
-            lines_append (λ s. spare_word) spare_numbers (spares_from carts lasts rows n (k - n)) (ride_at carts lasts rows k ∷ []),
-            append-nil one,
-            ← append_assoc (lines_text (λ p. path_word) path_numbers (paths_to carts calls lasts rows (min k n))) (spares (spares_from carts lasts rows n (k - n))) one,
-          )
-          (wrote_more before (rw (le-ltb k n h) at next))
+abbrev pub spares_text : List Ride → List ℕ
+spares_text rs = lines_text (λ s. spare_word) spare_numbers (map as_ride rs)
 
-      pub lines_next : Wrote s at (lines_to (k + 1)) u r
-      lines_next = go (ltb k n) refl
-        where
-          go : (b : Bool) → ltb k n ≡ b → Wrote s at (lines_to (k + 1)) u r
-          go true q = one_path (ltb-true _ _ q)
-          go false q = one_spare (ltb-false _ _ q)
+pub lines_all : (n : ℕ) (rs : List Ride) (k : ℕ) → lines_from n k rs ≡ paths_text (take (n - k) rs) ++ spares_text (drop (n - k) rs)
+lines_all n [] k = go (n - k)
+  where
+    go : (m : ℕ) → [] ≡ paths_text (take m []) ++ spares_text (drop m [])
+    go zero = refl
+    go (suc m) = refl
+lines_all n (r ∷ rs) k = go (ltb k n) refl (lines_all n rs (suc k))
+  where
+    go : (t : Bool) → ltb k n ≡ t → lines_from n (suc k) rs ≡ paths_text (take (n - suc k) rs) ++ spares_text (drop (n - suc k) rs)
+        → ride_line (ltb k n) r ++ lines_from n (suc k) rs ≡ paths_text (take (n - k) (r ∷ rs)) ++ spares_text (drop (n - k) (r ∷ rs))
+    go true q ih =
+        let h : k < n = ltb-true _ _ q in
+        let e : n - k ≡ suc (n - suc k) = omega arith in
+        rw (q, e, ih) (sym (append_assoc (ride_line true r) (paths_text (take (n - suc k) rs)) (spares_text (drop (n - suc k) rs))))
+    go false q ih =
+        let h : n ≤ k = ltb-false _ _ q in
+        let e : n - k ≡ 0 = omega arith in
+        let f : n - suc k ≡ 0 = omega arith in
+        rw (q, e, ih, f)
+
+-- behind their head
+pub plan_lines : (n : ℕ) (rs : List Ride) → n ≤ length rs → line plan_word (n ∷ []) ++ lines_from n 0 rs ≡ plan_text (paths_to rs n) (spares_from rs n)
+plan_lines n rs h =
+    let e : length (paths_to rs n) ≡ n = length-map (take n rs) as_path ∙ length-take-le n rs h in
+    let f : n - 0 ≡ n = omega arith in
+    rw (e, lines_all n rs 0, f)

@@ -1,16 +1,12 @@
--- `put_cannot` meets its contract. The loop's invariant: the lines of the first k choke points stand behind the head, and 15 bytes are left for
--- each of the others. The measure is the number of choke points that are left. Assumes nothing.
-use Rattle.text.specs.Wrote.{Wrote}
+-- `put_cannot` meets its contract. The loop's invariant: the lines of the first choke points stand behind the head, and 15 bytes are left for each of the
+-- others. Assumes nothing.
 use Prim.Native.Nat.{◌*◌, ◌+◌, ◌-◌, ◌≤◌}
-use mathlib.Core.Path.{◌≡◌}
+use lib.ListN.{length, take}
 use Rattle.model.specs.SheetText.{choke_opens, choke_numbers, lines_text}
-use lib.ListN.{length}
-use Rattle.job.specs.Held.{chokes_to}
+use Rattle.text.specs.Wrote.{Wrote}
+use Rattle.job.specs.Held.{as_chokes}
 use Rattle.sheetwriter.proofs.put_cannot.Given as goal
 
-abbrev pub invariant-loop-k : goal.invariant-loop-k
-invariant-loop-k l = (l.k ≤ l.n) × (l.p + 15 * (l.n - l.k) ≤ length l.out) × (length l.out ≡ length l.initial.out) × Wrote l.initial.out l.initial.p
-    (lines_text choke_opens choke_numbers (chokes_to l.first l.second l.kinds l.k)) l.out l.p
-
-abbrev pub decreases-loop-k : goal.decreases-loop-k
-decreases-loop-k l = l.n - l.k
+abbrev pub invariant-loop-choke : goal.invariant-loop-choke
+invariant-loop-choke l = (l.p + 15 * (length l.chokes - l.choke-index) ≤ length l.out)
+    × Wrote l.initial.out l.initial.p (lines_text choke_opens choke_numbers (as_chokes (take l.choke-index l.chokes))) l.out l.p
