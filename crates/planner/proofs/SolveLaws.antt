@@ -1,6 +1,6 @@
 -- Serving the calls in their order, one after the other: the flow serves just the calls so far, so the next one's node is free; and when all are served, so is every call,
 -- since the order has each number below the number of calls once. Assumes nothing.
-use Prim.Native.Nat.{ℕ, suc, ◌+◌, ◌<◌, ◌≤◌}
+use Prim.Native.Nat.{ℕ, ◌+◌, ◌<◌, ◌≤◌}
 use mathlib.Core.Path.{◌≡◌, refl, sym, ◌∙◌, ap, subst}
 use mathlib.Core.List.{List, map}
 use mathlib.Core.Bool.{Bool, true, false}
@@ -18,8 +18,13 @@ use Rattle.model.proofs.Decide.{dec-lt}
 use Rattle.model.proofs.Lists.{in_get_or, in_place, place_of, rising_of}
 use Rattle.model.proofs.Lex.{lex_on}
 use Rattle.model.proofs.Sharing.{every}
-use Rattle.job.specs.Arrays.{up_to}
-use Rattle.job.proofs.UpTo.{up_count, up_at, in_up}
+use Rattle.std.specs.Prelude.{Ok, Err}
+use Rattle.std.proofs.Math.ListN.{get_or-map}
+use Rattle.job.specs.declared.state.Job as lists
+use Rattle.job.specs.declared.state.Call as held
+use Rattle.job.specs.Lists.{as_call, job_of}
+use Rattle.job.proofs.Lists.{no_call}
+use Rattle.floor.specs.declared.tables.Tables.{Tables}
 use Rattle.floor.specs.Tables.{Rows}
 use Rattle.flow.specs.Flow.{Link, off, end}
 use Rattle.flow.proofs.Flow.{empty_flow, flow_same}
@@ -34,7 +39,6 @@ use Rattle.network.proofs.Points.{point_cell, point_eq}
 use Rattle.network.proofs.StoreBytes.{idx_below}
 use Rattle.answer.proofs.Rising.{Precedes, precedes_apart, rising_once}
 use Rattle.route.specs.declared.serve.Unserved.{Unserved}
-use Rattle.std.specs.Prelude.{Ok, Err}
 use Rattle.route.specs.Search.{Fresh}
 use Rattle.route.specs.Serve.{MarksUpTo, Serving, ServedBy}
 use Rattle.planner.specs.Solved.{Begun, ServedAll}
@@ -58,8 +62,7 @@ pub record SoFar (j : Job) (order s : List ℕ) (g : Grid) (i stamp : ℕ) : Typ
 not_end : (l : Link Point) → l ≡ off → l ≡ end → ⊥
 not_end l e f = nope (cc)
 
-module _ {j : Job} {targets : List ℕ} {calls : ℕ} {near begin due shut cart_on order s₀ : List ℕ} {g : Grid}
-    (b : Begun j targets calls near begin due shut cart_on order s₀ g) where
+module _ {j : Job} {t : Tables} {order s₀ : List ℕ} {g : Grid} (b : Begun j t order s₀ g) where
   abbrev n : ℕ
   n = length j.calls
 
@@ -87,46 +90,37 @@ module _ {j : Job} {targets : List ℕ} {calls : ℕ} {near begin due shut cart_
   }
 
   -- The order has each number once.
-  abbrev number : ℕ → ℕ
-  number k = get_or order k 0
-
-  once : NoDup (map (λ q. q) (up_to number n))
+  once : NoDup (map (λ q. q) order)
   once =
-      rising_once (λ q. q) (Precedes j) (λ p q r. lex_on) (precedes_apart j) (up_to number n)
-      (rising_of 0 (Precedes j) (up_to number n) (λ k l.
-      let h : suc k < n = omega (arith, up_count number n) in
-      rw (up_at number n k 0 (omega arith), up_at number n (suc k) 0 h) (b.ordered.rises k h)))
+      rising_once (λ q. q) (Precedes j) (λ p q r. lex_on) (precedes_apart j) order
+      (rising_of 0 (Precedes j) order (λ k l. b.ordered.rises k (omega (arith, b.ordered.size))))
 
-  different : (a c : ℕ) → a < n → c < n → number a ≡ number c → a ≡ c
-  different a c h l e =
-      place_of (λ q. q) (up_to number n) once a c 0 (omega (arith, up_count number n)) (omega (arith, up_count number n)) (up_at number n a 0 h ∙ e ∙ sym (up_at number n c 0 l))
+  different : (a c : ℕ) → a < n → c < n → get_or order a 0 ≡ get_or order c 0 → a ≡ c
+  different a c h l e = place_of (λ q. q) order once a c 0 (omega (arith, b.ordered.size)) (omega (arith, b.ordered.size)) e
 
-  each : (k : ℕ) → k < n → (m : ℕ) × (m < n) × (number m ≡ k)
+  each : (k : ℕ) → k < n → (m : ℕ) × (m < n) × (get_or order m 0 ≡ k)
   each k h =
-      let (q, i, e) = every (λ q. q) n (up_to number n) (up_count number n) once (λ q i. known q ((in_up number n q).0 i)) k h in
-      let (m, l, f) = (in_up number n q).0 i in
-      (m, l, sym f ∙ e)
+      let (q, i, e) = every (λ q. q) n order b.ordered.size once (λ q i. known q (in_place q order 0 i)) k h in
+      let (m, l, f) = in_place q order 0 i in
+      (m, omega (arith, b.ordered.size), sym f ∙ e)
     where
-      known : (q : ℕ) → (m : ℕ) × (m < n) × (q ≡ number m) → q < n
-      known q (m, l, f) = rw f (b.ordered.known m l)
+      known : (q : ℕ) → (m : ℕ) × (m < length order) × (q ≡ get_or order m 0) → q < n
+      known q (m, l, f) = rw f (b.ordered.known m (omega (arith, b.ordered.size)))
 
-  pub few : calls ≤ max_calls
-  few = omega (arith, b.listed.counted, b.ready.fit.few_calls)
+  pub few : n ≤ max_calls
+  few = b.ready.fit.few_calls
 
   -- What the guess is made from.
-  pub aims : Rows g.cells near begin × (g.cells ≤ max_cells) × (g.cells ≤ g.nodes)
+  pub aims : Rows g.cells t.near.near t.near.begin × (g.cells ≤ max_cells) × (g.cells ≤ g.nodes)
   aims = rw b.grid (b.tables.sides.rows, b.ready.fit.few_cells, omega arith)
 
   -- The i-th call.
-  module _ {i : ℕ} (more : i < calls) where
+  module _ {i : ℕ} (more : i < n) where
     abbrev q : ℕ
     q = get_or order i 0
 
-    is_call : q < n
-    is_call = b.ordered.known i (omega (arith, b.listed.counted))
-
-    pub call_known : get_or order i 0 < calls
-    call_known = omega (arith, is_call, b.listed.counted)
+    pub is_call : q < n
+    is_call = b.ordered.known i more
 
     listed : In (call_of j q) j.calls
     listed = in_get_or j.calls q (call lift 0 0) is_call
@@ -134,17 +128,17 @@ module _ {j : Job} {targets : List ℕ} {calls : ℕ} {near begin due shut cart_
     -- It is none of those before it: they have other numbers, so other cells.
     later : Among j order i (order_node j order i) → ⊥
     later (m, l, e) =
-        let h : m < n = omega (arith, b.listed.counted) in
+        let h : m < n = omega arith in
         let f : get_or order m 0 ≡ q = place_of (λ (c : Call). c.cell) j.calls b.ready.fit.own_targets (get_or order m 0) q (call lift 0 0) (b.ordered.known m h) is_call (sym (point_cell e)) in
-        omega (arith, different m i h (omega (arith, b.listed.counted)) f)
+        omega (arith, different m i h more f)
 
-    -- The code has its number and cell in locals.
-    module _ {u p : ℕ} (number : u ≡ get_or order i 0) (target : p ≡ get_or targets u 0) where
+    -- The code has its cell in a local.
+    module _ {p : ℕ} (target : p ≡ (call_of j q).cell) where
       abbrev x : Point
       x = point p g.top
 
       here : x ≡ order_node j order i
-      here = point_eq (target ∙ ap (λ k. get_or targets k 0) number ∙ sym (b.listed.cells q call_known)) (ap (λ (h : Grid). h.top) b.grid)
+      here = point_eq target (ap (λ (h : Grid). h.top) b.grid)
 
       known : Inside j x
       known = subst (Inside j) (sym here) ((b.ready.fit.known_calls (call_of j q) listed).0, omega arith)
@@ -167,9 +161,9 @@ module _ {j : Job} {targets : List ℕ} {calls : ℕ} {near begin due shut cart_
                 absurd (later (rw here at a))
 
         -- Its search may start.
-        pub call_serving : {hint : List ℕ} → length hint ≡ max_cells → Serving j near begin due shut cart_on hint s g (point p g.top) stamp (eqb i 0)
-        call_serving h = record {
-          search = record { tables = b.tables; holds = v.holds; hints = h; known = known; target = is-target; idle = free };
+        pub call_serving : Serving j t s g (point p g.top) stamp (eqb i 0)
+        call_serving = record {
+          search = record { tables = b.tables; holds = v.holds; known = known; target = is-target; idle = free };
           small = omega (arith, v.high, few);
           marks = v.marks;
           clean = λ e. v.fresh (eqb-true i 0 e);
@@ -196,11 +190,15 @@ module _ {j : Job} {targets : List ℕ} {calls : ℕ} {near begin due shut cart_
                 go (no h) = let z : m ≡ i = omega arith in inr (f ∙ ap (order_node j order) z ∙ sym here)
 
         -- It cannot be served, which ends it.
-        pub call_failed : {s' : List ℕ} {n : Unserved} → Holds j g s' × ServedBy j s s' stamp (point p g.top) (Err n) → Holds j g s' × ServedAll j s' (Err n)
-        call_failed {s'} {n} (holds, r) = (holds, (x, r.1))
+        pub call_failed : {s' : List ℕ} {e : Unserved} → Holds j g s' × ServedBy j s s' stamp (point p g.top) (Err e) → Holds j g s' × ServedAll j s' (Err e)
+        call_failed {s'} {e} (holds, r) = (holds, (x, r.1))
 
-  pub all_served : {s : List ℕ} {stamp i : ℕ} → i ≡ calls → SoFar j order s g i stamp → {u : Unit {0}} → ServedAll j s (Ok u)
+  pub all_served : {s : List ℕ} {stamp i : ℕ} → i ≡ n → SoFar j order s g i stamp → {u : Unit} → ServedAll j s (Ok u)
   all_served e v c h =
       let (k, l, f) = in_place c j.calls (call lift 0 0) h in
       let (m, d, a) = each k l in
-      (v.served (node_of j c)).1 (m, omega (arith, b.listed.counted), ap (node_of j) (f ∙ ap (call_of j) (sym a)))
+      (v.served (node_of j c)).1 (m, omega arith, ap (node_of j) (f ∙ ap (call_of j) (sym a)))
+
+-- The cell of the call at a place of the order, as the code reads it.
+pub target_is : (a : lists.Job) {calls : List held.Call} {u k p : ℕ} → calls ≡ a.calls.items → u ≡ k → p ≡ (get_or calls u no_call).cell → p ≡ (call_of (job_of a) k).cell
+target_is a {k = k} e f g = g ∙ rw (e, f) (ap (λ (c : Call). c.cell) (sym (get_or-map as_call a.calls.items k no_call)))

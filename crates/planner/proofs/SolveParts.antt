@@ -1,28 +1,26 @@
 -- What each part of the planner hands to the next: the store that a job is lent has room for its grid, and what serving the calls leaves is what the paths and the choke list ask for.
 -- Assumes nothing.
-use Prim.Native.Nat.{ℕ, ◌+◌, ◌*◌, ◌-◌, ◌≤◌}
-use mathlib.Core.Path.{◌≡◌, ◌∙◌, ap}
+use Prim.Native.Nat.{ℕ, ◌+◌, ◌*◌, ◌≤◌}
+use mathlib.Core.Path.{◌≡◌, refl, ap, ◌∙◌}
 use mathlib.Core.List.{List}
 use native.Mathlib.Nat.{mul-le-mul_left}
 use native.Mathlib.Numerals.{add-one}
 use native.Mathlib.Omega.{arith}
 use lib.ListN.{length}
+use Rattle.std.specs.Prelude.{Err}
 use Rattle.model.specs.Job.{Job, horizon, store_least}
-use Rattle.model.specs.Promises.{RightPlan}
-use Rattle.job.specs.Arrays.{job_of}
-use Rattle.job.specs.declared.state.Job as arrays
-use Rattle.job.specs.Held.{paths_to, spares_from}
-use Rattle.job.proofs.Arrays.{carts_count, calls_count, cart_at, call-at}
-use Rattle.floor.specs.Tables.{Tables}
-use Rattle.floor.proofs.JobTables.{calls_of}
+use Rattle.job.specs.Lists.{job_of}
+use Rattle.job.specs.declared.state.Job as lists
+use Rattle.job.specs.declared.held.Ride.{Ride}
+use Rattle.job.proofs.Lists.{calls_count}
 use Rattle.network.specs.declared.planes.Grid.{Grid}
 use Rattle.network.specs.Store.{grid_of, Spacious}
+use Rattle.network.specs.Holds.{Holds}
 use Rattle.route.specs.declared.serve.Unserved.{Unserved}
-use Rattle.std.specs.Prelude.{Result, Ok, Err}
 use Rattle.answer.specs.Cut.{Failed}
 use Rattle.answer.specs.Full.{FullFlow, PathsTraced, PathsWritten}
-use Rattle.answer.specs.Spares.{Starts, Unkept, AllKept}
-use Rattle.planner.specs.Solved.{Wiped, Begun, ServedAll, Finished, AllServed, PlanHeld}
+use Rattle.answer.specs.Spares.{Unkept, AllKept}
+use Rattle.planner.specs.Solved.{ServedAll, AllServed}
 
 -- The grid that is made of the last step.
 abbrev pub grid_to : Job → ℕ → Grid
@@ -36,47 +34,19 @@ roomy j s e room =
     let less : j.cells ≤ j.cells + 2 * length j.tracks = omega arith in
     rw e (omega (arith, mul-le-mul_left ((horizon j + 1) * 32) less))
 
-module _ (a : arrays.Job) where
-  -- Serving the calls can begin.
-  pub begun : {near begin due shut cart_on order s : List ℕ} {g : Grid} → Tables (job_of a) near begin due shut cart_on → Wiped (job_of a) order s g
-      → Begun (job_of a) a.targets a.calls near begin due shut cart_on order s g
-  begun tables h =
-      record { ready = h.ready; listed = calls_of a; tables = tables; ordered = h.ordered; grid = h.grid; room = h.room; blank = h.blank }
+-- A search that failed shows why.
+pub stuck : (a : lists.Job) {g : Grid} {s : List ℕ} → Holds (job_of a) g s → {e : Unserved} → ServedAll (job_of a) s (Err e) → Failed (job_of a) a.calls.items g s e.stamp
+stuck a holds one = record { listed = refl; holds = holds; from = one.0; stuck = one.1 }
 
-  module _ {cart_on order : List ℕ} {g : Grid} {s : List ℕ} {r : Result (Unit {0}) Unserved} (f : Finished (job_of a) cart_on order g s r) where
-    -- All calls are served.
-    pub full : {u : Unit {0}} → r ≡ Ok u → AllServed (job_of a) cart_on order g s
-    full {u} e = let all : ServedAll (job_of a) s (Ok u) = rw e at f.served in record { carts = f.carts; ordered = f.ordered; holds = f.holds; full = all }
+-- The carts that are left are given lines, then the paths are read off, then the rides.
+module _ (a : lists.Job) {cart_on order : List ℕ} {g : Grid} {s : List ℕ} (h : AllServed (job_of a) cart_on order g s) where
+  pub unkept : Unkept (job_of a) a.carts.items g s
+  unkept = record { listed = refl; holds = h.holds; full = h.full }
 
-    -- One cannot be.
-    pub stuck : {n : Unserved} → r ≡ Err n → Failed (job_of a) a.kinds a.targets a.deadlines a.calls g s n.stamp
-    stuck {n} e =
-        let all : ServedAll (job_of a) s (Err n) = rw e at f.served in
-        record {
-          listed = calls_of a;
-          kinds_are = λ k h. ap (λ q. q.kind) (call-at a k h);
-          steps_are = λ k h. ap (λ q. q.deadline) (call-at a k h);
-          holds = f.holds;
-          from = all.0;
-          stuck = all.1;
-        }
+  module _ {s' : List ℕ} (k : AllKept (job_of a) g s') where
+    pub kept_flow : FullFlow (job_of a) a.calls.items cart_on order g s'
+    kept_flow = record { listed = refl; carts = h.carts; ordered = h.ordered; kept = k }
 
-  -- The carts that are left are given lines, then the paths are read off, then the walks.
-  module _ {cart_on order : List ℕ} {g : Grid} {s : List ℕ} (h : AllServed (job_of a) cart_on order g s) where
-    starts_of : Starts (job_of a) a.starts a.carts
-    starts_of = record { counted = carts_count a; cells = cart_at a }
-
-    pub unkept : Unkept (job_of a) a.starts a.carts g s
-    unkept = record { listed = starts_of; holds = h.holds; full = h.full }
-
-    module _ {s' : List ℕ} (k : AllKept (job_of a) g s') where
-      pub kept_flow : FullFlow (job_of a) a.targets a.calls cart_on order g s'
-      kept_flow = record { listed = calls_of a; carts = h.carts; ordered = h.ordered; kept = k }
-
-      pub paths_written : {first lasts rows : List ℕ} → PathsTraced (job_of a) order s' first lasts rows a.calls
-          → PathsWritten (job_of a) a.starts a.carts a.calls order g s' first lasts rows
-      paths_written w = record { listed = starts_of; counted = calls_count a; ordered = h.ordered; kept = k; paths = w }
-
-  pub plan_held : (first second lasts rows : List ℕ) → RightPlan (job_of a) (paths_to first second lasts rows a.calls) (spares_from first lasts rows a.calls (a.carts - a.calls))
-      → PlanHeld (job_of a) first second lasts rows
-  plan_held first second lasts rows h = rw (calls_count a, carts_count a) h
+    pub paths_written : {rides : List Ride} → length rides ≡ length a.carts.items → PathsTraced (job_of a) order s' rides (length a.calls.items)
+        → PathsWritten (job_of a) a.carts.items (length a.calls.items) order g s' rides
+    paths_written room w = record { listed = refl; counted = calls_count a; room = room; ordered = h.ordered; kept = k; paths = w }

@@ -1,69 +1,62 @@
--- `serve_all` serves the calls in their order. Invariant: `SoFar` (SolveLaws) for every job that the numbers, arrays and tables are of, with the store and the hints as long
--- as they were; the contract says that there is such a job, which keeps the indices in range. The measure is how many calls are left. Assumes nothing.
-use Rattle.planner.specs.Solved.{Begun}
-use Rattle.model.specs.Job.{Job}
-use Rattle.route.specs.Serve.{Serving}
-use Rattle.network.proofs.StoreLaws.{same_none, same_more}
-use Rattle.std.proofs.lemmas.Result.{err_from_is_err_and}
-use Rattle.planner.proofs.SolveLaws.{so_far_none, aims, call_cell, call_serving, call_served, call_failed, all_served}
+-- `serve_all` serves the calls in their order. Invariant: the store is the one that was lent, and it holds what `SoFar` (SolveLaws) says of the calls before i. Assumes nothing.
+use mathlib.Core.Path.{◌≡◌}
 use native.Mathlib.Omega.{arith}
 use lib.Dec.{eqb}
-use borrow.Author.Rules.{rules}
+use lib.ListN.{length, get_or}
+use Rattle.std.proofs.Common.{◌<◌}
+use Rattle.std.proofs.lemmas.Result.{err_from_is_err_and}
+use Rattle.model.specs.Job.{call_of}
 use Rattle.model.specs.Choke.{point}
+use Rattle.job.specs.Lists.{job_of}
+use Rattle.network.proofs.StoreLaws.{same_none, same_more}
+use Rattle.route.specs.Serve.{Serving}
+use Rattle.planner.proofs.SolveLaws.{so_far_none, aims, call_cell, call_serving, call_served, call_failed, all_served, target_is}
 use Rattle.planner.proofs.solve.serve_all.Goals as goal
-use Rattle.planner.proofs.solve.serve_all.Goals.{After-aim-far}
+use Rattle.planner.proofs.solve.serve_all.Goals.{After-from-in-loop-i}
 
 pub loop-i-init : goal.loop-i-init
-loop-i-init c = (same_none c.args.store.now, search rules, omega arith, λ j b. so_far_none b)
+loop-i-init c = (same_none c.args.store.now, so_far_none c.requires)
 
-pub aim-far-requires : goal.aim-far-requires
-aim-far-requires c =
-    let b = c.requires.1 in
+-- There is a call at this place of the order, on this cell.
+more : (c : After-from-in-loop-i) → c.loop-i.i < length (job_of c.args.job.now).calls
+more c = omega (arith, c.loop-i-test.true, c.requires.ordered.size)
+
+target : (c : After-from-in-loop-i) → c.from-in-loop-i.result ≡ (call_of (job_of c.args.job.now) (get_or c.args.order.now c.loop-i.i 0)).cell
+target c = target_is c.args.job.now c.as_slice-calls.ensures.value c.from.ensures c.from-in-loop-i.ensures
+
+pub aim-requires : goal.aim-requires
+aim-requires c =
+    let b = c.requires in
+    let p = (goal.at.aim-requires c).After-from-in-loop-i in
     let (rows, few_cells, in_nodes) = aims b in
-    let v = c.loop-i.invariant.3 _ b in
-    let h = call_cell b c.loop-i-test.true c.wide-q.ensures.0 c.wide-cell.ensures.0 in
-    rw c.loop-i.invariant.0.grid (rows, few_cells, b.tables.carts.size, v.holds.room, in_nodes, h, c.loop-i.invariant.1)
+    rw c.loop-i.invariant.0.grid (rows, few_cells, c.loop-i.invariant.1.holds.room, in_nodes, call_cell b (more p) (target p))
 
-abbrev Begins : After-aim-far → Job → Type 0
-Begins c j =
-    Begun j c.args.targets.now c.args.calls c.args.near.now c.args.begin.now c.args.due.now c.args.shut.now c.args.cart_on.now
-    c.args.order.now c.args.store.now.bytes.now c.args.store.now.grid
-
--- The next call's search may start.
-serving : (c : After-aim-far) (j : Job) → Begins c j
-    → Serving j c.args.near.now c.args.begin.now c.args.due.now c.args.shut.now
-    c.args.cart_on.now
-    c.aim-far.new.hint c.loop-i.store.bytes.now
-    c.args.store.now.grid (point c.wide-cell.result c.args.store.now.grid.top) c.loop-i.stamp (eqb c.loop-i.i 0)
-serving c j b =
-    call_serving b c.loop-i-test.true c.wide-q.ensures.0 c.wide-cell.ensures.0
-    (c.loop-i.invariant.3 j b) c.aim-far.ensures.0
+-- Its search may start.
+serving : (c : After-from-in-loop-i) → let g = c.args.store.now.grid in
+    Serving (job_of c.args.job.now) c.args.tables.now c.loop-i.store.bytes.now g (point c.from-in-loop-i.result g.top) c.loop-i.stamp (eqb c.loop-i.i 0)
+serving c = call_serving c.requires (more c) (target c) c.loop-i.invariant.1
 
 pub serve-requires : goal.serve-requires
-serve-requires c = let (j, b) = c.requires in (j, rw c.loop-i.invariant.0.grid (serving (goal.at.serve-requires c).After-aim-far j b))
+serve-requires c = (job_of c.args.job.now, rw c.loop-i.invariant.0.grid (serving (goal.at.serve-requires c).After-from-in-loop-i))
 
 pub returns-in_err-stamp : goal.returns-in_err-stamp
 returns-in_err-stamp c =
+    let j = job_of c.args.job.now in
     let d = c.in_err-stamp.ensures in
     let g = c.loop-i.invariant.0.grid in
-    let p = err_from_is_err_and c.from_residual.result c.from_residual.ensures.1 in (
-      same_more c.loop-i.invariant.0 d.same,
-      λ j b. rw (p.1, p.2) (call_failed b c.loop-i-test.true c.wide-q.ensures.0 c.wide-cell.ensures.0
-          (c.loop-i.invariant.3 j b)
-          (rw g at (d.served j (rw g (serving (goal.at.returns-in_err-stamp c).After-aim-far j b))))),
-    )
+    let at = (goal.at.returns-in_err-stamp c).After-from-in-loop-i in
+    let p = err_from_is_err_and c.from_residual.result c.from_residual.ensures.1 in
+    let (holds, failed) = call_failed c.requires (more at) (target at) c.loop-i.invariant.1 (rw g at (d.served j (rw g (serving at)))) in
+    (same_more c.loop-i.invariant.0 d.same, holds, rw (p.1, p.2) failed)
 
 pub loop-i-preserved : goal.loop-i-preserved
 loop-i-preserved c =
     let d = c.in_ok-stamp.ensures in
-    let g = c.loop-i.invariant.0.grid in (
+    let g = c.loop-i.invariant.0.grid in
+    let p = (goal.at.loop-i-preserved c).After-from-in-loop-i in (
       same_more c.loop-i.invariant.0 d.same,
-      c.aim-far.ensures.0,
-      omega (arith, c.loop-i-test.true),
-      λ j b. call_served b c.loop-i-test.true c.wide-q.ensures.0 c.wide-cell.ensures.0
-          (c.loop-i.invariant.3 j b)
-          (rw g at (d.served j (rw g (serving (goal.at.loop-i-preserved c).After-aim-far j b)))),
+      call_served c.requires (more p) (target p) c.loop-i.invariant.1 (rw g at (d.served (job_of c.args.job.now) (rw g (serving p)))),
     )
 
 pub returns : goal.returns
-returns c = let l = c.loop-i in (l.invariant.0, λ j b. ((l.invariant.3 j b).holds, all_served b (omega arith) (l.invariant.3 j b)))
+returns c = let l = c.loop-i in (l.invariant.0, l.invariant.1.holds, all_served c.requires (omega (arith, c.requires.ordered.size, c.loop-i-test.false)) l.invariant.1)
