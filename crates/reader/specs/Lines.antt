@@ -32,7 +32,7 @@ answer_to Range = answer.OutOfRange
 answer_to Room = answer.TooMany
 answer_to Doubled = answer.Doubled
 
--- The numbers are small enough for the table, and for bytes.
+-- The numbers are small enough for a line.
 abbrev pub Small : read.Kind → ℕ → ℕ → Type 0
 Small floor_line a b = a ≤ max_cells
 Small track_line a b = (a < max_cells) × (b < max_cells)
@@ -40,13 +40,13 @@ Small cart_line a b = a < max_cells
 Small (call_line q) a b = (a < max_cells) × (b < max_steps)
 
 -- the line of a kind with these numbers
-abbrev pub line_of : Kind → ℕ → ℕ → Line
-line_of Floor a b = line.Floor a
-line_of Track a b = line.Track (record { from = a; to = b })
-line_of Cart a b = line.Cart a
-line_of (Call q) a b = line.Call (record { kind = q; cell = a; deadline = b })
+abbrev pub line_with : Kind → ℕ → ℕ → Line
+line_with Floor a b = line.Floor a
+line_with Track a b = line.Track (record { from = a; to = b })
+line_with Cart a b = line.Cart a
+line_with (Call q) a b = line.Call (record { kind = q; cell = a; deadline = b })
 
--- what f says of the kind and the numbers of a line; a second that it has none of is 0
+-- f at the kind and the numbers of a line, the second 0 where it has one only
 abbrev pub of_line : {A : Type 0} → (read.Kind → ℕ → ℕ → A) → Line → A
 of_line f (line.Floor n) = f floor_line n 0
 of_line f (line.Track t) = f track_line t.from t.to

@@ -2,7 +2,7 @@
 ghost use Rattle.std.specs.Prelude.{◌≡◌, ◌⊎◌, true, false, length, drop, MatchOption};
 ghost use Rattle.model.specs.Text.{starts_with, fields_of};
 ghost use Rattle.model.specs.ReadJob.{field_count};
-ghost use Rattle.reader.specs.Lines.{kind_of, answer_to, Small, line_of, word_of, first_fault, numbers_given};
+ghost use Rattle.reader.specs.Lines.{kind_of, answer_to, Small, line_with, word_of, first_fault, numbers_given};
 
 use job::state::{Call, CallKind, Track};
 use model::answer::Answer;
@@ -63,7 +63,7 @@ impl Kind {
     // The line of this kind with these numbers.
     pub fn line(self, a: usize, b: usize) -> Line
         requires { Small (kind_of self) a b }
-        ensures { result ≡ line_of self a b }
+        ensures { result ≡ line_with self a b }
     {
         match self {
             Kind::Floor => Line::Floor(a),
