@@ -7,14 +7,16 @@ pub mod input;
 
 use std::io;
 use std::io::Write;
-use text::put;
+use text::put::Pen;
 
 pub fn line<W: Write>(out: &mut W, word: &[u8], a: u64, b: u64) -> io::Result<()>
     requires { (length word.now ≤ 7) × (a < 1000) × (b < 1000) }
 {
     let mut text = [0u8; 16];
-    let n = put::pair_line(&mut text, 0, word, a as usize, b as usize);
-    out.write_all(&text[0..n])
+    let mut pen = Pen::new(&mut text);
+    pen.pair_line(word, a as usize, b as usize);
+    let n = pen.at;
+    out.write_all(&text[..n])
 }
 
 // Where a program refuses: the number and the line of the refusal.

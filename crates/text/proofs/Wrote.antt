@@ -1,5 +1,5 @@
 -- What is written piece by piece is written as one piece.
--- A writer's contract is a `Wrote`; its proof composes those of the functions that it calls by `wrote_more`. Assumes nothing.
+-- A writer's contract is a `Writes`; its proof composes those of the functions that it calls by `writes_more`. Assumes nothing.
 use mathlib.Core.Path.{◌≡◌, refl, sym, ap, ◌∙◌}
 use mathlib.Core.List.{List, [], ◌∷◌, ◌++◌, append_assoc, append-nil}
 use Prim.Native.Nat.{ℕ, suc, ◌+◌, ◌/◌, ◌%◌, ◌≤◌, ◌<◌}
@@ -12,7 +12,8 @@ use borrow.Author.Tests.{lt-ltb, le-ltb}
 use Rattle.model.proofs.Room.{fields_room}
 use Rattle.model.specs.Text.{numeral, fields, line}
 use Rattle.model.specs.SheetText.{lines_text}
-use Rattle.text.specs.Wrote.{Wrote}
+use Rattle.text.specs.declared.put.Pen.{Pen}
+use Rattle.text.specs.Wrote.{Wrote, Writes}
 
 pub wrote_long : {s : List ℕ} {at : ℕ} {bytes t : List ℕ} {r : ℕ} → Wrote s at bytes t r → length t ≡ length s
 wrote_long w = ap length w.text ∙ simp (length-append, length-take, length-drop) (omega (arith, w.fits))
@@ -43,6 +44,20 @@ wrote_more {s} {at} {xs} {t} {p} {ys} {u} {r} w v =
 pub wrote_whole : {s bytes t : List ℕ} {r : ℕ} → Wrote s 0 bytes t r → t ≡ bytes ++ drop (length bytes) s
 wrote_whole w = simp zero-add at w.text
 
+-- The same of a pen.
+pub writes_long : {p : Pen} {bytes : List ℕ} {q : Pen} → Writes p bytes q → length q.out.now ≡ length p.out.now
+writes_long w = wrote_long w.wrote
+
+pub writes_none : {p : Pen} → p.at ≤ length p.out.now → Writes p [] p
+writes_none h = record { same = refl; wrote = wrote_none h }
+
+pub writes_more : {p : Pen} {xs : List ℕ} {q : Pen} {ys : List ℕ} {r : Pen} → Writes p xs q → Writes q ys r → Writes p (xs ++ ys) r
+writes_more w v = record { same = v.same ∙ w.same; wrote = wrote_more w.wrote v.wrote }
+
+-- What a lent buffer holds in the end, where a pen over it wrote the bytes from its start on.
+pub wrote_by : {s : List ℕ} {p : Pen} {bytes : List ℕ} {q : Pen} {t : List ℕ} → p.out.now ≡ s → p.at ≡ 0 → Writes p bytes q → t ≡ q.out.now → Wrote s 0 bytes t q.at
+wrote_by e z w f = rw (f, ← e, ← z) w.wrote
+
 -- a numeral's two digits
 pub numeral_2 : (n : ℕ) → 10 ≤ n → n < 100 → numeral n ≡ (48 + n / 10) ∷ (48 + n % 10) ∷ []
 numeral_2 n l h = simp (le-ltb _ _ l, lt-ltb _ _ h) (ap (λ (d : ℕ). (48 + d) ∷ (48 + n % 10) ∷ []) (omega arith))
@@ -59,14 +74,12 @@ pub fields_suc : (ns : List ℕ) (i : ℕ) → i < length ns → fields (take (i
 fields_suc ns i h = rw (add-one, take-suc ns i 0 h) (fields_append (take i ns) (get_or ns i 0 ∷ []) ∙ rw fields_one)
 
 -- a line of its three pieces
-pub wrote_line : {s : List ℕ} {at : ℕ} {word t : List ℕ} {p : ℕ} (ns : List ℕ) {u : List ℕ} {q : ℕ} {v : List ℕ} {r : ℕ}
-    → Wrote s at word t p → Wrote t p (fields ns) u q → Wrote u q (10 ∷ []) v r → Wrote s at (line word ns) v r
-wrote_line ns a b c = wrote_more a (wrote_more b c)
+pub writes_line : {word : List ℕ} {p q r s : Pen} (ns : List ℕ) → Writes p word q → Writes q (fields ns) r → Writes r (10 ∷ []) s → Writes p (line word ns) s
+writes_line ns a b c = writes_more a (writes_more b c)
 
 -- a line that begins with a word and two fields
-pub wrote_pair : {s : List ℕ} {at : ℕ} {word t : List ℕ} {p : ℕ} (a b : ℕ) {u : List ℕ} {q : ℕ} {v : List ℕ} {r : ℕ}
-    → Wrote s at word t p → Wrote t p (9 ∷ numeral a) u q → Wrote u q (9 ∷ numeral b) v r → Wrote s at (word ++ fields (a ∷ b ∷ [])) v r
-wrote_pair a b x y z = rw (append-nil (numeral b)) (wrote_more x (wrote_more y z))
+pub writes_pair : {word : List ℕ} {p q r s : Pen} (a b : ℕ) → Writes p word q → Writes q (9 ∷ numeral a) r → Writes r (9 ∷ numeral b) s → Writes p (word ++ fields (a ∷ b ∷ [])) s
+writes_pair a b x y z = rw (append-nil (numeral b)) (writes_more x (writes_more y z))
 
 pub pair_room : (word : List ℕ) (a b : ℕ) → length (word ++ fields (a ∷ b ∷ [])) ≤ length word + 8
 pair_room word a b = rw (length-append word (fields (a ∷ b ∷ []))) (omega (arith, fields_room (a ∷ b ∷ [])))
@@ -90,6 +103,6 @@ lines_append word numbers [] m = refl
 lines_append word numbers (a ∷ l) m =
     rw (lines_append word numbers l m) (sym (append_assoc (line (word a) (numbers a)) (lines_text word numbers l) (lines_text word numbers m)))
 
-pub wrote_lines : {A : Type 0} (word numbers : A → List ℕ) (l : List A) (a : A) {s : List ℕ} {at : ℕ} {t : List ℕ} {p : ℕ} {u : List ℕ} {r : ℕ}
-    → Wrote s at (lines_text word numbers l) t p → Wrote t p (line (word a) (numbers a)) u r → Wrote s at (lines_text word numbers (l ++ (a ∷ []))) u r
-wrote_lines word numbers l a x y = rw (lines_append word numbers l (a ∷ []), append-nil (line (word a) (numbers a))) (wrote_more x y)
+pub writes_lines : {A : Type 0} (word numbers : A → List ℕ) (l : List A) (a : A) {p q r : Pen}
+    → Writes p (lines_text word numbers l) q → Writes q (line (word a) (numbers a)) r → Writes p (lines_text word numbers (l ++ (a ∷ []))) r
+writes_lines word numbers l a x y = rw (lines_append word numbers l (a ∷ []), append-nil (line (word a) (numbers a))) (writes_more x y)

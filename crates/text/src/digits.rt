@@ -22,7 +22,7 @@ pub fn digit(entry: u16, others: u16) -> u8
     requires { others < 16 }
     ensures { result ≡ 48 + entry / 2 ^ others % 16 }
 {
-    48 + (entry >> others & 15) as u8
+    b'0' + (entry >> others & 15) as u8
 }
 
 // Entry n reads in hexadecimal as n does in decimal.

@@ -1,26 +1,9 @@
-// Writing: bytes, words and numbers, one after the other. Each function returns the place after what it wrote.
-ghost use Rattle.std.specs.Prelude.{◌≡◌, ◌+◌, ◌*◌, ◌<◌, ◌≤◌, cond, ◌∷◌, [], ◌++◌, length, take};
+// Writing: bytes, words and numbers, one after the other, into a lent buffer.
+ghost use Rattle.std.specs.Prelude.{◌≡◌, ◌+◌, ◌*◌, ◌<◌, ◌≤◌, cond, ◌∷◌, [], ◌++◌, length};
 ghost use Rattle.model.specs.Text.{numeral, fields, line};
-ghost use Rattle.text.specs.Wrote.{Wrote};
+ghost use Rattle.text.specs.Wrote.{Writes};
 
 use crate::digits::{digit, entry};
-
-pub fn byte(out: &mut [u8], at: usize, b: u8) -> usize
-    requires { at + 1 ≤ length out.old }
-    ensures { Wrote out.old at (b ∷ []) out.new result }
-{
-    out[at] = b;
-    at + 1
-}
-
-pub fn word(out: &mut [u8], at: usize, bytes: &[u8]) -> usize
-    requires { at + length bytes.now ≤ length out.old }
-    ensures { Wrote out.old at bytes.now out.new result }
-{
-    let end = at + bytes.len();
-    out[at..end].copy_from_slice(bytes);
-    end
-}
 
 // How many digits a number below 1,000 has.
 pub fn digits(n: usize) -> usize
@@ -35,74 +18,105 @@ pub fn digits(n: usize) -> usize
     3
 }
 
-// A digit that is left out where it would be a leading zero.
-fn leading(out: &mut [u8], at: usize, stands: bool, b: u8) -> usize
-    requires { at + length (cond stands (b ∷ []) []) ≤ length out.old }
-    ensures { Wrote out.old at (cond stands (b ∷ []) []) out.new result }
-{
-    if stands {
-        return byte(out, at, b);
+// A buffer, and the place in it where the next byte goes.
+#[derive(Drop)]
+pub struct Pen<'a> {
+    pub out: &'a mut [u8],
+    pub at: usize,
+}
+
+impl<'a> Pen<'a> {
+    pub fn new(out: &'a mut [u8]) -> Pen<'a>
+        ensures same { result.out.ghost_name ≡ out.entry.ghost_name }
+        ensures text { result.out.now ≡ out.old }
+        ensures place { result.at ≡ 0 }
+    {
+        Pen { out, at: 0 }
     }
-    at
-}
 
-// A number below 1,000 in decimal digits, none of them a leading zero.
-pub fn number(out: &mut [u8], at: usize, n: usize) -> usize
-    requires { (n < 1000) × (at + length (numeral n) ≤ length out.old) }
-    ensures { Wrote out.old at (numeral n) out.new result }
-{
-    let e = entry(n);
-    let p = leading(out, at, 99 < n, digit(e, 8));
-    let q = leading(out, p, 9 < n, digit(e, 4));
-    byte(out, q, digit(e, 0))
-}
-
-// A field: a tab and a number.
-pub fn field(out: &mut [u8], at: usize, n: usize) -> usize
-    requires { (n < 1000) × (at + 1 + length (numeral n) ≤ length out.old) }
-    ensures { Wrote out.old at (9 ∷ numeral n) out.new result }
-{
-    let p = byte(out, at, b'\t');
-    number(out, p, n)
-}
-
-// A field for each of the given bytes.
-pub fn fields(out: &mut [u8], at: usize, cells: &[u8]) -> usize
-    requires { at + 4 * length cells.now ≤ length out.old }
-    ensures { Wrote out.old at (fields cells.now) out.new result }
-{
-    let mut p = at;
-    for cell in cells {
-        p = field(out, p, usize::from(*cell));
+    pub fn byte(&mut self, b: u8)
+        requires { self.old.at + 1 ≤ length self.old.out.now }
+        ensures { Writes self.old (b ∷ []) self.new }
+    {
+        self.out[self.at] = b;
+        self.at += 1;
     }
-    p
-}
 
-// A line of a word and one number.
-pub fn head(out: &mut [u8], at: usize, word: &[u8], n: usize) -> usize
-    requires { (n < 1000) × (at + length (line word.now (n ∷ [])) ≤ length out.old) }
-    ensures { Wrote out.old at (line word.now (n ∷ [])) out.new result }
-{
-    let p = self::word(out, at, word);
-    let q = field(out, p, n);
-    byte(out, q, b'\n')
-}
+    pub fn word(&mut self, bytes: &[u8])
+        requires { self.old.at + length bytes.now ≤ length self.old.out.now }
+        ensures { Writes self.old bytes.now self.new }
+    {
+        let end = self.at + bytes.len();
+        self.out[self.at..end].copy_from_slice(bytes);
+        self.at = end;
+    }
 
-// A word and two fields, as a line begins.
-pub fn pair(out: &mut [u8], at: usize, word: &[u8], a: usize, b: usize) -> usize
-    requires { (a < 1000) × (b < 1000) × (at + length (word.now ++ fields (a ∷ b ∷ [])) ≤ length out.old) }
-    ensures { Wrote out.old at (word.now ++ fields (a ∷ b ∷ [])) out.new result }
-{
-    let p = self::word(out, at, word);
-    let q = field(out, p, a);
-    field(out, q, b)
-}
+    // A digit that is left out where it would be a leading zero.
+    fn leading(&mut self, stands: bool, b: u8)
+        requires { self.old.at + length (cond stands (b ∷ []) []) ≤ length self.old.out.now }
+        ensures { Writes self.old (cond stands (b ∷ []) []) self.new }
+    {
+        if stands {
+            self.byte(b);
+        }
+    }
 
-// A line of a word and two numbers.
-pub fn pair_line(out: &mut [u8], at: usize, word: &[u8], a: usize, b: usize) -> usize
-    requires { (a < 1000) × (b < 1000) × (at + length (line word.now (a ∷ b ∷ [])) ≤ length out.old) }
-    ensures { Wrote out.old at (line word.now (a ∷ b ∷ [])) out.new result }
-{
-    let p = pair(out, at, word, a, b);
-    byte(out, p, b'\n')
+    // A number below 1,000 in decimal digits, none of them a leading zero.
+    pub fn number(&mut self, n: usize)
+        requires { (n < 1000) × (self.old.at + length (numeral n) ≤ length self.old.out.now) }
+        ensures { Writes self.old (numeral n) self.new }
+    {
+        let e = entry(n);
+        self.leading(99 < n, digit(e, 8));
+        self.leading(9 < n, digit(e, 4));
+        self.byte(digit(e, 0));
+    }
+
+    // A field: a tab and a number.
+    pub fn field(&mut self, n: usize)
+        requires { (n < 1000) × (self.old.at + 1 + length (numeral n) ≤ length self.old.out.now) }
+        ensures { Writes self.old (9 ∷ numeral n) self.new }
+    {
+        self.byte(b'\t');
+        self.number(n);
+    }
+
+    // A field for each of the given bytes.
+    pub fn fields(&mut self, cells: &[u8])
+        requires { self.old.at + 4 * length cells.now ≤ length self.old.out.now }
+        ensures { Writes self.old (fields cells.now) self.new }
+    {
+        for cell in cells {
+            self.field(usize::from(*cell));
+        }
+    }
+
+    // A line of a word and one number.
+    pub fn head(&mut self, word: &[u8], n: usize)
+        requires { (n < 1000) × (self.old.at + length (line word.now (n ∷ [])) ≤ length self.old.out.now) }
+        ensures { Writes self.old (line word.now (n ∷ [])) self.new }
+    {
+        self.word(word);
+        self.field(n);
+        self.byte(b'\n')
+    }
+
+    // A word and two fields, as a line begins.
+    pub fn pair(&mut self, word: &[u8], a: usize, b: usize)
+        requires { (a < 1000) × (b < 1000) × (self.old.at + length (word.now ++ fields (a ∷ b ∷ [])) ≤ length self.old.out.now) }
+        ensures { Writes self.old (word.now ++ fields (a ∷ b ∷ [])) self.new }
+    {
+        self.word(word);
+        self.field(a);
+        self.field(b);
+    }
+
+    // A line of a word and two numbers.
+    pub fn pair_line(&mut self, word: &[u8], a: usize, b: usize)
+        requires { (a < 1000) × (b < 1000) × (self.old.at + length (line word.now (a ∷ b ∷ [])) ≤ length self.old.out.now) }
+        ensures { Writes self.old (line word.now (a ∷ b ∷ [])) self.new }
+    {
+        self.pair(word, a, b);
+        self.byte(b'\n');
+    }
 }
