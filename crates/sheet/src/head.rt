@@ -9,6 +9,7 @@ ghost use Rattle.sheet.specs.Parts.{as_read, only_of, if_below};
 use crate::numbers::only_number;
 use job::state::Job;
 
+// Whether the lines after this one are those of a plan.
 pub fn is_plan(job: &Job, line: &[u8]) -> bool
     ensures { IsTrue result ↔ (only_of (numbers_after plan_word line.now) ≡ some (length (job_of job.now).calls)) }
 {

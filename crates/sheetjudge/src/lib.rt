@@ -4,38 +4,40 @@
 ghost use Rattle.model.specs.Ready.{Ready};
 ghost use Rattle.model.specs.ReadSheet.{read_sheet};
 ghost use Rattle.model.specs.Promises.{Judged};
-ghost use Rattle.job.specs.Arrays.{job_of, Sized};
+ghost use Rattle.job.specs.Lists.{job_of};
 
+use job::held::Ride;
 use job::state::Job;
 use model::Limits;
 use model::answer::{Answer, packed};
-use sheet::Form;
+use sheet::Sheet;
 
 // The answer to a sheet in the form, or its first bad line.
-pub fn judge_sheet(job: Job, sheet: &[u8]) -> u64
-    requires { Ready (job_of job) × Sized job }
-    ensures { Judged (job_of job) (read_sheet (job_of job) sheet.now) result }
+pub fn judge_sheet(job: &Job, sheet: &[u8]) -> u64
+    requires { Ready (job_of job.now) }
+    ensures { Judged (job_of job.now) (read_sheet (job_of job.now) sheet.now) result }
 {
-    let mut first = [0u8; Limits::CARTS];
-    let mut second = [0u8; Limits::CARTS];
-    let mut lasts = [0u8; Limits::CARTS];
-    let mut rows = [0u8; Limits::CARTS * Limits::STEPS];
-    let form = sheet::read_sheet(job, sheet, &mut first, &mut second, &mut lasts, &mut rows);
-    match form {
-        Form::Bad { line } => {
-            return packed(Answer::BadSheet, line as u64);
-        }
-        Form::Plan => {
-            if planjudge::plan::is_plan(job, &first, &second, &lasts, &rows) {
+    let blank = Ride {
+        cart: 0,
+        call: 0,
+        last: 0,
+        cells: [0; Limits::STEPS],
+    };
+    let mut held = [blank; Limits::CARTS];
+    let rides = &mut held[..job.carts.len()];
+    match sheet::read_sheet(job, sheet, rides) {
+        Err(bad) => packed(Answer::BadSheet, bad.line as u64),
+        Ok(Sheet::Plan) => {
+            if planjudge::plan::is_plan(job, rides) {
                 return packed(Answer::Plan, 0);
             }
-            return packed(Answer::WrongSheet, 0);
+            packed(Answer::WrongSheet, 0)
         }
-        Form::Cannot { points } => {
-            if chokejudge::choke::is_choke_list(job, &first, &second, &lasts, points) {
+        Ok(Sheet::Cannot(chokes)) => {
+            if chokejudge::choke::is_choke_list(job, chokes.as_slice()) {
                 return packed(Answer::Cannot, 0);
             }
-            return packed(Answer::WrongSheet, 0);
+            packed(Answer::WrongSheet, 0)
         }
     }
 }

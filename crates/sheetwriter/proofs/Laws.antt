@@ -4,17 +4,16 @@ use mathlib.Core.Path.{◌≡◌, refl, sym, ap, ◌∙◌}
 use mathlib.Core.List.{List, [], ◌∷◌, ◌++◌}
 use mathlib.Core.Bool.{Bool, true, false, ◌&&◌}
 use native.Mathlib.Omega.{arith}
-use native.Mathlib.Nat.{add-mul, one-mul, mul-le-mul}
+use native.Mathlib.Nat.{add-mul, one-mul}
 use lib.Dec.{ltb, eqb}
 use lib.ListN.{length, get_or, take, drop, length-append, length-take, length-drop}
 use borrow.Author.Tests.{ltb-true, ltb-false, eqb-true}
 use Rattle.std.proofs.lemmas.List.{get_or-take, get_or-drop}
 use Rattle.model.specs.Lists.{In}
 use Rattle.model.specs.Text.{fields, line, path_word, spare_word, choke_word, whole_word}
-use Rattle.model.specs.Job.{Job, Call, lift, call, call_of, latest, horizon, sheet_least}
+use Rattle.model.specs.Job.{Job, Call, lift, call, call_of, latest, horizon}
 use Rattle.model.specs.Plan as plan
 use Rattle.model.specs.Plan.{Path}
-use Rattle.model.specs.Ready.{Ready}
 use Rattle.model.specs.Choke.{Choke, cell_step, whole_call}
 use Rattle.model.specs.SheetText.{choke_opens, choke_numbers}
 use Rattle.model.specs.ReadSheet.{size_fits, known_path, known_spare, all_below}
@@ -49,18 +48,6 @@ latest_most (q ∷ l) (suc k) = omega (arith, latest_most l k)
 -- The least length of a sheet, by what is written: a share a cart.
 abbrev pub share : Job → ℕ
 share j = 4 * (horizon j + 1) + 16
-
-pub lines_room : (j : Job) (n : ℕ) → n ≡ length j.carts → (p l : ℕ) → p ≤ 64 → sheet_least j ≤ l → p + (n - 0) * share j ≤ l
-lines_room j n e p l h i =
-    let z : n - 0 ≡ n = omega arith in
-    let m : length j.carts * share j ≡ n * share j = rw e refl in
-    rw z (omega arith)
-
-pub chokes_room : (j : Job) → Ready j → (n : ℕ) → n < length j.calls → 15 * n + 64 ≤ sheet_least j
-chokes_room j ready n h =
-    let b : 15 ≤ share j = omega arith in
-    let l : n ≤ length j.carts = omega (arith, ready.enough) in
-    omega (arith, mul-le-mul l b)
 
 pub choke_short : (x : Choke) → length (line (choke_opens x) (choke_numbers x)) ≤ 15
 choke_short (cell_step x) = omega (arith, line_room choke_word (x.cell ∷ x.step ∷ []))

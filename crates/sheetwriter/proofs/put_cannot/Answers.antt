@@ -1,12 +1,9 @@
 -- `put_cannot` meets its contract. The loop's invariant: the lines of the first choke points stand behind the head, and 15 bytes are left for each of the
 -- others. Assumes nothing.
-use mathlib.Core.Path.{◌≡◌}
 use native.Mathlib.Omega.{arith}
 use lib.ListN.{get_or, take}
-use lib.Seq.{take_all}
-use Rattle.std.proofs.lemmas.List.{length-map}
 use Rattle.model.specs.SheetText.{choke_opens, choke_numbers}
-use Rattle.text.proofs.Wrote.{wrote_lines, wrote_more}
+use Rattle.text.proofs.Wrote.{writes_long, writes_lines}
 use Rattle.job.specs.declared.held.Choke.TheVariants.{Cell}
 use Rattle.job.specs.Held.{as_choke, as_chokes}
 use Rattle.job.proofs.Lists.{map_more}
@@ -17,15 +14,8 @@ pub loop-choke-preserved : goal.loop-choke-preserved
 loop-choke-preserved c =
     let l = c.loop-choke in
     let s = c.args.chokes.now in
-    let w = c.put_choke-p.ensures in
+    let w = c.put_choke.ensures in
     let x = as_choke (get_or s l.choke-index (Cell 0 0)) in (
-      omega (arith, w.next, choke_short x),
-      rw (map_more as_choke s l.choke-index (Cell 0 0) c.loop-choke-test.true) (wrote_lines choke_opens choke_numbers (as_chokes (take l.choke-index s)) x l.invariant.1 w),
+      omega (arith, w.wrote.next, writes_long w, choke_short x),
+      rw (map_more as_choke s l.choke-index (Cell 0 0) c.loop-choke-test.true) (writes_lines choke_opens choke_numbers (as_chokes (take l.choke-index s)) x l.invariant.1 w),
     )
-
-pub returns : goal.returns
-returns c =
-    let l = c.loop-choke in
-    let s = c.args.chokes.now in
-    let e : take l.choke-index s ≡ s = take_all l.choke-index s (omega arith) in
-    rw (length-map s as_choke) (wrote_more c.head-p.ensures (rw e at l.invariant.1))
