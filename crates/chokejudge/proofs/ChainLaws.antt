@@ -1,5 +1,5 @@
--- The chains of the bays: a bay more becomes the last of its step, and the last before it comes behind it; a lift leaves them as they are. Along a chain each bay of the step is met.
--- Assumes nothing.
+-- The chains of the bays: a bay more becomes the last of its step, and the last before it comes behind it; a lift leaves them as they are. Along a chain the bays of its step are
+-- looked at, from the last on. Assumes nothing.
 use Prim.Native.Nat.{ℕ, zero, suc, ◌+◌, ◌≤◌, ◌<◌}
 use mathlib.Core.Path.{◌≡◌, refl, sym, ◌∙◌, ap, subst}
 use mathlib.Core.List.{List}
@@ -18,7 +18,6 @@ use Rattle.job.specs.declared.state.Call.{Call}
 use Rattle.chokejudge.specs.declared.calls.Chains.{Chains}
 use Rattle.chokejudge.specs.ChokeLayers.{BayAt}
 use Rattle.chokejudge.specs.Chains.{LastOf, Chained}
-use Rattle.chokejudge.proofs.Numbers.{below_or}
 
 nones : (n k : ℕ) → ◌≡◌ {A = Option ℕ} (get_or (replicate n None) k None) None
 nones zero k = refl
@@ -67,28 +66,3 @@ pub record Walked (P Q : ℕ → Type 0) (n : ℕ) (next : Option ℕ) : Type 0 
   pub few : upto ≤ n
   pub last : LastOf P upto next
   pub none : (k : ℕ) → upto ≤ k → k < n → P k → Q k → ⊥
-
-module _ {calls : List Call} {n : ℕ} {c : Chains} (r : Chained calls n c) (Q : ℕ → Type 0) (t : ℕ) where
-  pub walked_none : t < max_steps → Walked (BayAt calls t) Q n (get_or c.latest t None)
-  walked_none b = record { upto = n; few = omega arith; last = r.last t b; none = λ k l m. absurd (omega arith) }
-
-  module _ (h : ℕ) (w : Walked (BayAt calls t) Q n (Some h)) where
-    pub met : (h < n) × BayAt calls t h
-    met = (omega (arith, w.few, w.last.0), w.last.1)
-
-    pub walked_more : (Q h → ⊥) → Walked (BayAt calls t) Q n (get_or c.before h None)
-    walked_more out = record {
-      upto = h;
-      few = omega (arith, w.few, w.last.0);
-      last = rw met.1.1 at (r.back h met.0 met.1.0);
-      none = none;
-    }
-      where
-        none : (k : ℕ) → h ≤ k → k < n → BayAt calls t k → Q k → ⊥
-        none k l m p q = ⊎_elim
-            (λ e. out (subst Q (sym e) q))
-            (λ g. ⊎_elim (λ s. w.last.2 k g s p) (λ s. w.none k s m p q) (below_or k w.upto))
-            (eq-or-lt_of_le {n = h} {m = k} l)
-
-pub walked_all : (P Q : ℕ → Type 0) (n : ℕ) → Walked P Q n None → (k : ℕ) → k < n → P k → Q k → ⊥
-walked_all P Q n w k l p q = ⊎_elim (λ s. w.last k s p) (λ s. w.none k s l p q) (below_or k w.upto)

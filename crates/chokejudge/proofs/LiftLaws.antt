@@ -13,12 +13,9 @@ use Rattle.job.specs.declared.held.Choke.{Choke}
 use Rattle.job.specs.declared.held.Choke.TheVariants as variant
 use Rattle.chokejudge.specs.Grown.{Cleared}
 use Rattle.chokejudge.specs.Lifts.{WholeOn}
-use Rattle.chokejudge.proofs.PointLaws.{cleared_none, cleared_as, cleared_more}
+use Rattle.chokejudge.proofs.PointLaws.{cleared_as, cleared_more}
 
 module _ (calls : List Call) (chokes : List Choke) where
-  pub passed_none : (l : List ℕ) → Cleared (WholeOn calls (take 0 chokes)) l l
-  passed_none l = cleared_none l (λ v p. p.1)
-
   module _ (i : ℕ) (d : Choke) (h : i < length chokes) where
     abbrev choke : Choke
     choke = get_or chokes i d

@@ -122,9 +122,6 @@ module _ (points : List Point) where
             let hi : k < b = ⊎_elim (λ m. m) (λ m. absurd (omega (arith, d.after k m h))) (below_or k b) in
             in_map (λ (p : Point). p.cell) (record { step = t; cell = v }) (slice_range points a b) ((in_slice points no_point a b _).1 (k, lo, hi, h, e))
 
-pub cleared_none : {P : ℕ → Type 0} (l : List ℕ) → ((v : ℕ) → P v → ⊥) → Cleared P l l
-cleared_none l none = record { size = refl; gone = λ v p. absurd (none v p); each = λ v. inl refl }
-
 pub cleared_as : {P Q : ℕ → Type 0} {l₀ l : List ℕ} → ((v : ℕ) → P v ↔ Q v) → Cleared P l₀ l → Cleared Q l₀ l
 cleared_as e r = record { size = r.size; gone = λ v q. r.gone v ((e v).1 q); each = λ v. ⊎_elim (λ z. inl z) (λ p. inr ((e v).0 p)) (r.each v) }
 
@@ -150,13 +147,6 @@ pub record Taken (points : List Point) (t a b : ℕ) (l₀ l : List ℕ) : Type 
   pub cells : Cleared (λ v. In v (cells_of (slice_range points a b))) l₀ l
 
 module _ (points : List Point) (t a : ℕ) where
-  pub taken_none : (l : List ℕ) → Taken points t a a l l
-  taken_none l = record {
-    alike = λ k h g. absurd (omega arith);
-    cells = cleared_none l (λ v m. let (p, i, e) = in_unmap (λ (p : Point). p.cell) v (slice_range points a a) m in
-        let (k, lo, hi, h, f) = (in_slice points no_point a a p).0 i in omega arith);
-  }
-
   module _ {b : ℕ} {l₀ l : List ℕ} (r : Taken points t a b l₀ l) where
     pub taken_more : a ≤ b → b < length points → (get_or points b no_point).step ≡ t → (get_or points b no_point).cell < length l
         → Taken points t a (b + 1) l₀ (set l (get_or points b no_point).cell 0)

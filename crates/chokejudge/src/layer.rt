@@ -128,7 +128,7 @@ impl Layer {
         }
     }
 
-    // Adds what the older cells of the last step lead to.
+    // Adds what the older cells of the last step lead to. They are gone over by their places, since the queue grows meanwhile.
     fn advance(&mut self, neighbours: &Neighbours, shut: &[u16; Limits::CELLS], t: u16)
         requires { (floor : ℕ) × Rows floor neighbours.now.near neighbours.now.begin × ((v : ℕ) → Older self.old t v → v < floor) }
         ensures { Grown shut.now t (Onward neighbours.now self.old t) self.old self.new }
