@@ -9,6 +9,7 @@ ghost use Rattle.text.specs.Wrote.{Wrote};
 use job::state::Track;
 use model::Limits;
 use text::put;
+use text::put::Pen;
 
 // The longest text: a FLOOR line of 10 bytes, and for each cell at most two TRACK lines of 14.
 pub const MOST: usize = 10 + 28 * Limits::CELLS;
@@ -36,11 +37,12 @@ pub fn put_lines(cells: usize, tracks: &[Track], out: &mut [u8]) -> usize
     requires { (cells < 1000) × (length (floor_lines cells (map as_track tracks.now)) ≤ length out.old) }
     ensures { Wrote out.old 0 (floor_lines cells (map as_track tracks.now)) out.new result }
 {
-    let mut p = put::head(out, 0, b"FLOOR", cells);
+    let mut pen = Pen::new(out);
+    pen.head(b"FLOOR", cells);
     for track in tracks {
         let a = usize::from(track.from);
         let b = usize::from(track.to);
-        p = put::pair_line(out, p, b"TRACK", a, b);
+        pen.pair_line(b"TRACK", a, b);
     }
-    p
+    pen.at
 }
