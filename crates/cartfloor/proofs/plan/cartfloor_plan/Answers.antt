@@ -1,11 +1,10 @@
 -- `plan::cartfloor_plan` plans a job that is let through, so that it is ready, and both buffers are long enough. Assumes nothing.
-use mathlib.Core.Path.{◌≡◌, ap, sym, ◌∙◌}
+use mathlib.Core.Path.{◌≡◌}
 use native.Mathlib.Omega.{arith}
 use lib.ListN.{length}
 use Rattle.model.specs.ReadJob.{accepted}
 use Rattle.model.specs.Promises.{check_verdict}
 use Rattle.job.specs.Lists.{job_of}
-use Rattle.reader.specs.Reading.{verdict_of}
 use Rattle.cartfloor.proofs.Verdicts.{ready, stored}
 use Rattle.cartfloor.proofs.plan.cartfloor_plan.Goals as goal
 
