@@ -4,7 +4,7 @@ ghost use Rattle.model.specs.Lists.{In};
 ghost use Rattle.model.specs.Limits.{max_cells, max_steps};
 ghost use Rattle.model.specs.Job as model;
 ghost use Rattle.model.specs.Choke.{point};
-ghost use Rattle.network.specs.Store.{place_in, used_at, Spacious, SameStore, Wrote};
+ghost use Rattle.network.specs.Store.{place_in, used_at, Spacious, SameStore, Stored};
 ghost use Rattle.network.specs.Keeping.{KeepsAll, LooseAt, SameStarts};
 ghost use Rattle.network.specs.Holds.{Holds};
 ghost use Rattle.answer.specs.Spares.{linked, StartsMore, Unkept, AllKept};
@@ -14,7 +14,7 @@ use network::planes::{Node, Store, Use};
 // The cart on the cell at the step stands: the bytes of the two nodes say so.
 fn link(store: &mut Store<'_>, cell: usize, step: usize)
     requires { Spacious store.old.grid store.old.bytes.now × (place_in store.old.grid cell step < store.old.grid.nodes) × (place_in store.old.grid cell (suc step) < store.old.grid.nodes) × (cell < max_cells) × (step < max_steps) }
-    ensures { Wrote store.old store.new (linked store.old.grid store.old.bytes.now cell step) }
+    ensures { Stored store.old store.new (linked store.old.grid store.old.bytes.now cell step) }
 {
     let grid = store.grid;
     let u = grid.place(Node { cell, step });

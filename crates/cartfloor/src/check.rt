@@ -2,7 +2,7 @@
 ghost use Rattle.model.specs.Promises.{Checked};
 
 use crate::refuse::admit;
-use model::answer::Answer;
+use model::answer::packed;
 use sheetjudge::judge_sheet;
 
 pub fn cartfloor_check(text: &[u8], store: &mut [u8], sheet: &[u8]) -> u64
@@ -12,9 +12,11 @@ pub fn cartfloor_check(text: &[u8], store: &mut [u8], sheet: &[u8]) -> u64
         Ok(job) => job,
         Err(refusal) => return refusal.packed(),
     };
-    let r = judge_sheet(&job, sheet);
-    if r <= u64::from(Answer::Cannot) {
-        store.fill(0);
+    match judge_sheet(&job, sheet) {
+        Ok(answer) => {
+            store.fill(0);
+            packed(answer, 0)
+        }
+        Err(wrong) => wrong.packed(),
     }
-    r
 }

@@ -61,7 +61,7 @@ module _ (calls : List Call) where
         back k b y (no q) = rw (get_or-set_other c.before n k (get_or c.latest d None) None q) (r.back k (earlier k b q) y)
 
 -- Along a chain: the calls from `upto` on were looked at, and none of P is one of Q; `next` is the last of P before.
-pub record Walked (P Q : ℕ → Type 0) (n : ℕ) (next : Option ℕ) : Type 0 where
+pub record ChainWalked (P Q : ℕ → Type 0) (n : ℕ) (next : Option ℕ) : Type 0 where
   pub upto : ℕ
   pub few : upto ≤ n
   pub last : LastOf P upto next

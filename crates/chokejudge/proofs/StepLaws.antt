@@ -19,7 +19,7 @@ use Rattle.floor.specs.Tables.{OpenAt}
 use Rattle.floor.proofs.JobTables.{near_even}
 use Rattle.chokejudge.specs.declared.layer.Point.{Point}
 use Rattle.chokejudge.specs.declared.layer.Layer.{Layer}
-use Rattle.chokejudge.specs.ChokeLayers.{Choked, Side, OnFloor, BayAt, Closing, MetBy, Reached, SomeMet}
+use Rattle.chokejudge.specs.ChokeLayers.{Choked, Side, OneFloor, BayAt, Closing, MetBy, Reached, SomeMet}
 use Rattle.chokejudge.specs.Grown.{last_cells, last_points, Older, Again, Onward, Grown, Gone}
 use Rattle.chokejudge.specs.Points.{cells_of, Cursor}
 use Rattle.chokejudge.proofs.GrownLaws.{grown_as}
@@ -41,7 +41,7 @@ Unmet Met L t = (s v : ℕ) → s < t → L s v → Met s v → ⊥
 added_last : (a : Layer) (old added : List ℕ) → a.queue.items ≡ old ++ added → a.head ≡ length old → (v : ℕ) → In v added → In v (last_cells a)
 added_last a old added e f v m = rw (f, e, drop-append_seam old added) m
 
-module _ {rows : Neighbours} {carts : List ℕ} {points : List Point} (f : OnFloor rows carts points) where
+module _ {rows : Neighbours} {carts : List ℕ} {points : List Point} (f : OneFloor rows carts points) where
   stays : (c : ℕ) → c < f.job.cells → Side rows c c
   stays c h = f.near.all c c h (inl refl)
 

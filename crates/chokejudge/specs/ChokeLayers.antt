@@ -20,7 +20,7 @@ abbrev pub Choked : List Point → ℕ → ℕ → Type 0
 Choked points t v = In (record { step = t; cell = v }) points
 
 -- The rows are those of a job's floor, and the carts and points stand on its cells.
-pub record OnFloor (rows : Neighbours) (carts : List ℕ) (points : List Point) : Type 0 where
+pub record OneFloor (rows : Neighbours) (carts : List ℕ) (points : List Point) : Type 0 where
   pub job : Job
   pub near : Near job rows.near rows.begin
   pub few : job.cells ≤ max_cells

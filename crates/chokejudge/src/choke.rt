@@ -8,7 +8,7 @@ ghost use Rattle.model.specs.Ready.{Ready};
 ghost use Rattle.model.specs.Promises.{RightChokes};
 ghost use Rattle.job.specs.Lists.{job_of};
 ghost use Rattle.job.specs.Held.{as_chokes, Decides};
-ghost use Rattle.chokejudge.specs.ChokeLayers.{OnFloor, Closing, MetBy, Reached, SomeMet};
+ghost use Rattle.chokejudge.specs.ChokeLayers.{OneFloor, Closing, MetBy, Reached, SomeMet};
 ghost use Rattle.chokejudge.specs.Points.{points_in, Climbs};
 ghost use Rattle.chokejudge.specs.Chains.{Chained};
 
@@ -56,7 +56,7 @@ fn reaches(
     points: &[Point],
     last: u16,
 ) -> bool
-    requires { (last < max_steps) × (length calls.now ≤ max_calls) × (length points.now ≤ max_calls) × Climbs points.now × OnFloor neighbours.now carts.now points.now × Closing calls.now meetings.now.shut × Chained calls.now (length calls.now) meetings.now.bays }
+    requires { (last < max_steps) × (length calls.now ≤ max_calls) × (length points.now ≤ max_calls) × Climbs points.now × OneFloor neighbours.now carts.now points.now × Closing calls.now meetings.now.shut × Chained calls.now (length calls.now) meetings.now.bays }
     ensures { Decides result (SomeMet (MetBy meetings.now.due calls.now) last (Reached neighbours.now meetings.now.shut carts.now points.now)) }
 {
     let mut layer = Layer::new();

@@ -27,7 +27,8 @@ module _ (ts : List Track) where
   pub lines_more : (n : ℕ) → n < length ts → length (track_lines ts (n + 1)) ≡ length (track_lines ts n) + length (next_line ts n)
   lines_more n h =
       let l : List ℕ = next_line ts n in
-      rw (map_more as_track ts n no_track h, lines_append (λ t. track_word) track_numbers (map as_track (take n ts)) (as_track (get_or ts n no_track) ∷ []), append-nil l) (length-append (track_lines ts n) l)
+      let one = lines_append (λ t. track_word) track_numbers (map as_track (take n ts)) (as_track (get_or ts n no_track) ∷ []) in
+      rw (map_more as_track ts n no_track h, one, append-nil l) (length-append (track_lines ts n) l)
 
   pub floor_long : (cells n : ℕ) → length (floor_lines cells (map as_track (take n ts))) ≡ 7 + length (numeral cells) + length (track_lines ts n)
   floor_long cells n = rw (length-append (line floor_word (cells ∷ [])) (track_lines ts n)) (omega (arith, head_long floor_word cells))

@@ -79,8 +79,10 @@ module _ (s : Job) where
 
   pub call-at : (k : ℕ) → call_of (job_of s) k ≡ call (get_or (kinds_of s.calls.items) k lift) (get_or (cells_of s.calls.items) k 0) (get_or (deadlines_of s.calls.items) k 0)
   call-at k =
-      get_or-map as_call s.calls.items k no_call
-      ∙ rw (get_or-map (λ (q : Call). (as_call q).kind) s.calls.items k no_call, get_or-map (λ (q : Call). q.cell) s.calls.items k no_call, get_or-map (λ (q : Call). q.deadline) s.calls.items k no_call) refl
+      let qs = s.calls.items in
+      let kinds = get_or-map (λ (q : Call). (as_call q).kind) qs k no_call in
+      let cells = get_or-map (λ (q : Call). q.cell) qs k no_call in
+      get_or-map as_call qs k no_call ∙ rw (kinds, cells, get_or-map (λ (q : Call). q.deadline) qs k no_call) refl
 
   pub deadline_at : (k : ℕ) → (call_of (job_of s) k).deadline ≡ get_or (deadlines_of s.calls.items) k 0
   deadline_at k = ap (λ (q : model.Call). q.deadline) (call-at k)

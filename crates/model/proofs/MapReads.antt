@@ -151,15 +151,15 @@ pub map_reads : (m : List (List ℕ)) → 0 < map_cells m → map_cells m ≤ ma
 map_reads m some few = same_job (map_text m) (floor_job m) (plain_reads m some few)
 
 -- The text b is that of the map in d, reads as its job, and fits.
-abbrev pub Writes : Drawn → ℕ → List ℕ → Type 0
-Writes d room b =
+abbrev pub WritesFloor : Drawn → ℕ → List ℕ → Type 0
+WritesFloor d room b =
     (m : List (List ℕ)) × (d ≡ drawn m) × (b ≡ map_text m) × (read_job b ≡ accepted (floor_job m)) × (length (tracks_of m) ≤ max_tracks) × (length b ≤ room)
 
 accepted_then : {A : Type 0} (t : Bool) (x : Verdict A) (n : Answer) (b : A) → cond t x (refused n 0) ≡ accepted b → (t ≡ true) × (x ≡ accepted b)
 accepted_then true x n b e = (refl, e)
 accepted_then false x n b e = nope (cc)
 
-written : (d : Drawn) (room : ℕ) (b : List ℕ) → floor_text room d ≡ accepted b → Writes d room b
+written : (d : Drawn) (room : ℕ) (b : List ℕ) → floor_text room d ≡ accepted b → WritesFloor d room b
 written (bad l) room b e = nope (cc)
 written (drawn m) room b e =
     let n = map_cells m in
@@ -175,7 +175,7 @@ written (drawn m) room b e =
       omega (arith, leb-true (length (map_text m)) room q, ap length same),
     )
 
-pub written_reads : (s : List ℕ) (room : ℕ) (b : List ℕ) → map_verdict s room ≡ accepted b → Writes (read_map s) room b
+pub written_reads : (s : List ℕ) (room : ℕ) (b : List ℕ) → map_verdict s room ≡ accepted b → WritesFloor (read_map s) room b
 written_reads s room b e = written (read_map s) room b e
 
 -- On the floor that the written lines say two cells of the map are joined exactly if they are next to each other.

@@ -2,9 +2,8 @@
 #![tactic(auto)]
 
 pub mod answer;
-pub mod bytes;
 
-ghost use Rattle.std.specs.Prelude.{◌≡◌};
+ghost use Rattle.std.specs.Prelude.{◌≡◌, [], ◌∷◌};
 ghost use Rattle.model.specs.Limits.{max_cells, max_tracks, max_carts, max_calls, max_steps, max_side, max_text};
 
 #[derive(Drop)]
@@ -28,45 +27,17 @@ impl Limits {
     pub const TEXT: usize = 16384;
 }
 
-// Each guard holds a number of specs/Limits.antt to the code's.
-pub fn cells_agree() -> usize
-    ensures { result ≡ max_cells }
+// Holds the numbers of specs/Limits.antt to the code's.
+pub fn limits_agree() -> [usize; 7]
+    ensures { result ≡ max_cells ∷ max_tracks ∷ max_carts ∷ max_calls ∷ max_steps ∷ max_side ∷ max_text ∷ [] }
 {
-    Limits::CELLS
-}
-
-pub fn tracks_agree() -> usize
-    ensures { result ≡ max_tracks }
-{
-    Limits::TRACKS
-}
-
-pub fn carts_agree() -> usize
-    ensures { result ≡ max_carts }
-{
-    Limits::CARTS
-}
-
-pub fn calls_agree() -> usize
-    ensures { result ≡ max_calls }
-{
-    Limits::CALLS
-}
-
-pub fn steps_agree() -> usize
-    ensures { result ≡ max_steps }
-{
-    Limits::STEPS
-}
-
-pub fn side_agree() -> usize
-    ensures { result ≡ max_side }
-{
-    Limits::SIDE
-}
-
-pub fn text_agree() -> usize
-    ensures { result ≡ max_text }
-{
-    Limits::TEXT
+    [
+        Limits::CELLS,
+        Limits::TRACKS,
+        Limits::CARTS,
+        Limits::CALLS,
+        Limits::STEPS,
+        Limits::SIDE,
+        Limits::TEXT,
+    ]
 }

@@ -119,7 +119,7 @@ pub record SameStore (s t : Store) : Type 0 where
   pub long : length t.bytes.now ≡ length s.bytes.now
 
 -- It is, and has these bytes now.
-pub record Wrote (s t : Store) (b : List ℕ) : Type 0 where
+pub record Stored (s t : Store) (b : List ℕ) : Type 0 where
   pub same : SameStore s t
   pub bytes : t.bytes.now ≡ b
 

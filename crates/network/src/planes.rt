@@ -1,6 +1,6 @@
 // The store as the planner cuts it, in the one place that knows: planes of one byte a node, one after the other, and behind them those of the search's stack.
 ghost use Rattle.std.specs.Prelude.{◌≡◌, ◌+◌, ◌*◌, ◌<◌, ◌≤◌, length, set};
-ghost use Rattle.network.specs.Store.{place_in, as_point, at, spot, Within, Blank, Spacious, SameStore, Wrote, byte_of, used_test, meets_test, mark_at, next_at, prev_at, cell_at, step_at, via_at, with_used, with_mark, with_next, with_prev, with_entry};
+ghost use Rattle.network.specs.Store.{place_in, as_point, at, spot, Within, Blank, Spacious, SameStore, Stored, byte_of, used_test, meets_test, mark_at, next_at, prev_at, cell_at, step_at, via_at, with_used, with_mark, with_next, with_prev, with_entry};
 
 // The planes, by numbers, since a plane begins at its number times the nodes. The bytes of a node: what its use is, the stamp of a search, the cells before and behind it; of the stack: cell, step by two bytes, and by way of which
 // cell at which step.
@@ -85,7 +85,7 @@ impl<'a> Store<'a> {
 
     fn set_byte<const PLANE: usize>(&mut self, v: usize, b: u8)
         requires { Within self.old.grid self.old.bytes.now v × (PLANE < 9) }
-        ensures { Wrote self.old self.new (set self.old.bytes.now (spot self.old.grid PLANE v) b) }
+        ensures { Stored self.old self.new (set self.old.bytes.now (spot self.old.grid PLANE v) b) }
     {
         self.bytes[PLANE * self.grid.nodes + v] = b;
     }
@@ -132,28 +132,28 @@ impl<'a> Store<'a> {
 
     pub fn set_used(&mut self, v: usize, u: Use)
         requires { Within self.old.grid self.old.bytes.now v }
-        ensures { Wrote self.old self.new (with_used self.old.grid self.old.bytes.now v (byte_of u)) }
+        ensures { Stored self.old self.new (with_used self.old.grid self.old.bytes.now v (byte_of u)) }
     {
         self.set_byte::<USED>(v, u.byte());
     }
 
     pub fn set_mark(&mut self, v: usize, stamp: u8)
         requires { Within self.old.grid self.old.bytes.now v }
-        ensures { Wrote self.old self.new (with_mark self.old.grid self.old.bytes.now v stamp) }
+        ensures { Stored self.old self.new (with_mark self.old.grid self.old.bytes.now v stamp) }
     {
         self.set_byte::<MARK>(v, stamp);
     }
 
     pub fn set_next(&mut self, v: usize, cell: usize)
         requires { Within self.old.grid self.old.bytes.now v × (cell < 256) }
-        ensures { Wrote self.old self.new (with_next self.old.grid self.old.bytes.now v cell) }
+        ensures { Stored self.old self.new (with_next self.old.grid self.old.bytes.now v cell) }
     {
         self.set_byte::<NEXT>(v, cell as u8);
     }
 
     pub fn set_prev(&mut self, v: usize, cell: usize)
         requires { Within self.old.grid self.old.bytes.now v × (cell < 256) }
-        ensures { Wrote self.old self.new (with_prev self.old.grid self.old.bytes.now v cell) }
+        ensures { Stored self.old self.new (with_prev self.old.grid self.old.bytes.now v cell) }
     {
         self.set_byte::<PREV>(v, cell as u8);
     }
@@ -185,7 +185,7 @@ impl<'a> Store<'a> {
     // Its step takes two bytes, since the layer of the calls can be the 256th.
     pub fn set_position(&mut self, i: usize, node: Node, via: Node)
         requires { Within self.old.grid self.old.bytes.now i × (node.cell < 256) × (node.step < 65536) × (via.cell < 256) × (via.step < 256) }
-        ensures { Wrote self.old self.new (with_entry self.old.grid self.old.bytes.now i (as_point node) (as_point via)) }
+        ensures { Stored self.old self.new (with_entry self.old.grid self.old.bytes.now i (as_point node) (as_point via)) }
     {
         self.set_byte::<CELL>(i, node.cell as u8);
         self.set_byte::<STEP>(i, (node.step % 256) as u8);

@@ -34,7 +34,7 @@ pub record Given (s : Job) (paths spares : List Ride) : Type 0 where
   pub known_spares : (r : plan.Ride) → In r (map as_ride spares) → known_spare (job_of s) r ≡ true
 
 -- what every line keeps to
-pub record Known (s : Job) (r : plan.Ride) : Type 0 where
+pub record LineKnown (s : Job) (r : plan.Ride) : Type 0 where
   pub cart : r.cart < length s.carts.items
   pub ends : length r.cells ≤ suc (horizon (job_of s))
   pub cells : (t : ℕ) → t < length r.cells → get_or r.cells t 0 < s.cells
@@ -64,7 +64,7 @@ module _ {s : Job} {paths spares : List Ride} (g : Given s paths spares) where
   pub ranged_spare : (r : plan.Ride) → In r (map as_ride spares) → RangedSpare (job_of s) r
   ranged_spare r i = spare_ranged (job_of s) r (g.known_spares r i)
 
-  pub path_known : (p : Path) → In p (map as_path paths) → Known s (ride_of p)
+  pub path_known : (p : Path) → In p (map as_path paths) → LineKnown s (ride_of p)
   path_known p i =
       let r = ranged p i in
       let q = call_of (job_of s) p.call in
@@ -72,13 +72,13 @@ module _ {s : Job} {paths spares : List Ride} (g : Given s paths spares) where
       let met = no_later q.kind q.deadline r.last r.in_time in
       record { cart = r.cart; ends = omega (arith, r.size, met, deadline_at s p.call, deadline_by s p.call c); cells = r.cells }
 
-  pub spare_known : (r : plan.Ride) → In r (map as_ride spares) → Known s r
+  pub spare_known : (r : plan.Ride) → In r (map as_ride spares) → LineKnown s r
   spare_known r i = let k = ranged_spare r i in record { cart = k.cart; ends = omega (arith, k.size); cells = k.cells }
 
-  pub ride_known : (r : plan.Ride) → In r (map as_ride (paths ++ spares)) → Known s r
+  pub ride_known : (r : plan.Ride) → In r (map as_ride (paths ++ spares)) → LineKnown s r
   ride_known r i = go (in_part r (map ride_of (map as_path paths)) (map as_ride spares) (rw (← all_rides paths spares) at i))
     where
-      go : In r (map ride_of (map as_path paths)) ⊎ In r (map as_ride spares) → Known s r
+      go : In r (map ride_of (map as_path paths)) ⊎ In r (map as_ride spares) → LineKnown s r
       go (inl m) = let (p, n, e) = in_unmap ride_of r (map as_path paths) m in rw (← e) (path_known p n)
       go (inr m) = spare_known r m
 

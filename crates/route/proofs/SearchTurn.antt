@@ -203,7 +203,7 @@ module _ {j : Job} {T : floor.Tables} {g : Grid} {s₁ s : List ℕ} {x : Point}
         go : Dec ((pos_in j s (d - 1)).step ≡ (grid_of j).top) → FromTop (as_point v) (as_point via) × (Stamped (grid_of j) s stamp (as_point v) → ⊥)
         go (yes c) = ⊎_elim (λ w. by_step w.0 w.1) (λ w. by_step w.0 w.1) (rw e at (sees'.call c))
           where
-            by_step : BySteps (grid_of j) s (pos_in j s (d - 1)).cell (first_of T.due T.shut (pos_in j s (d - 1)).cell) (min (get_or T.due (pos_in j s (d - 1)).cell 0) below) (as_point v) (as_point via)
+            by_step : let c = (pos_in j s (d - 1)).cell in BySteps (grid_of j) s c (first_of T.due T.shut c) (min (get_or T.due c 0) below) (as_point v) (as_point via)
                 → (Stamped (grid_of j) s stamp (as_point v) → ⊥) → FromTop (as_point v) (as_point via) × (Stamped (grid_of j) s stamp (as_point v) → ⊥)
             by_step (t, l, m, b) f = (inl (c, (t, l, omega arith, b)), f)
         go (no ne) = let (b, f) = rw e at (sees'.node ne) in (inr (ne, b), f)

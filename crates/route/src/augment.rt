@@ -1,7 +1,7 @@
 // Lays the way on the search's stack into the flow, hop by hop from its top down, and takes its marks away: it stays open to later searches.
 ghost use Rattle.std.specs.Prelude.{◌≡◌, ◌<◌};
 ghost use Rattle.model.specs.Job as model;
-ghost use Rattle.network.specs.Store.{as_point, byte_of, grid_of, SameStore, Wrote};
+ghost use Rattle.network.specs.Store.{as_point, byte_of, grid_of, SameStore, Stored};
 ghost use Rattle.route.specs.Stack.{pos_at};
 ghost use Rattle.route.specs.Search.{Laying, Augmented};
 ghost use Rattle.route.specs.Lay.{Layable, laid, use_of, from_of};
@@ -35,7 +35,7 @@ fn from_of(grid: Grid, from: Node, by: Node) -> usize
 // The i-th hop.
 fn lay(store: &mut Store<'_>, i: usize)
     requires { Layable store.old.grid store.old.bytes.now i }
-    ensures { Wrote store.old store.new (laid store.old.grid store.old.bytes.now i) }
+    ensures { Stored store.old store.new (laid store.old.grid store.old.bytes.now i) }
 {
     let grid = store.grid;
     let from = store.position(i);

@@ -3,7 +3,7 @@ ghost use Rattle.std.specs.Prelude.{◌≡◌, ◌<◌, ◌≤◌, length, get_o
 ghost use Rattle.model.specs.Limits.{max_cells};
 ghost use Rattle.model.specs.Job as model;
 ghost use Rattle.floor.specs.Tables.{Cells, Near, Shut, row_at};
-ghost use Rattle.network.specs.Store.{Within, place_at, as_point, leads_to, SameStore, Wrote};
+ghost use Rattle.network.specs.Store.{Within, place_at, as_point, leads_to, SameStore, Stored};
 ghost use Rattle.network.specs.Holds.{Holds};
 ghost use Rattle.network.specs.Graph.{Inside};
 ghost use Rattle.route.specs.Lay.{pushed};
@@ -215,7 +215,7 @@ fn leads(
 // Marks a node and puts it on the stack.
 fn push(store: &mut Store<'_>, depth: usize, hop: Hop, stamp: u8)
     requires { Within store.old.grid store.old.bytes.now depth × (place_at store.old.grid (as_point hop.node) < store.old.grid.nodes) × (hop.node.cell < 256) × (hop.node.step < 65536) × (hop.via.cell < 256) × (hop.via.step < 256) }
-    ensures { Wrote store.old store.new (pushed store.old.grid store.old.bytes.now depth (as_point hop.node) (as_point hop.via) stamp) }
+    ensures { Stored store.old store.new (pushed store.old.grid store.old.bytes.now depth (as_point hop.node) (as_point hop.via) stamp) }
 {
     store.set_mark(store.grid.place(hop.node), stamp);
     store.set_position(depth, hop.node, hop.via);

@@ -1,43 +1,49 @@
 // A sheet judged: read, then its paths and spare carts, or its choke points, held against the job. It works in locals.
 #![tactic(auto)]
 
+ghost use Rattle.std.specs.Prelude.{◌+◌, ◌<◌, ◌≤◌, IfOk, IfErr};
+ghost use Rattle.model.specs.declared.answer.Answer.TheVariants.{Cannot};
+ghost use Rattle.model.specs.Answers.{number};
+ghost use Rattle.model.specs.Limits.{max_text};
 ghost use Rattle.model.specs.Ready.{Ready};
 ghost use Rattle.model.specs.ReadSheet.{read_sheet};
 ghost use Rattle.model.specs.Promises.{Judged};
 ghost use Rattle.job.specs.Lists.{job_of};
+ghost use Rattle.sheetjudge.specs.Told.{told};
 
 use job::held::Ride;
 use job::state::Job;
 use model::Limits;
-use model::answer::{Answer, packed};
+use model::answer::{Answer, Refusal};
 use sheet::Sheet;
 
-// The answer to a sheet in the form, or its first bad line.
-pub fn judge_sheet(job: &Job, sheet: &[u8]) -> u64
+// PLAN or CANNOT, where the sheet is right; else its first bad line, or that it is wrong.
+pub fn judge_sheet(job: &Job, sheet: &[u8]) -> Result<Answer, Refusal>
     requires { Ready (job_of job.now) }
-    ensures { Judged (job_of job.now) (read_sheet (job_of job.now) sheet.now) result }
+    ensures judged { Judged (job_of job.now) (read_sheet (job_of job.now) sheet.now) (told result) }
+    ensures right { IfOk result (λ answer. number answer ≤ number Cannot) }
+    ensures wrong { IfErr result (λ refusal. (number Cannot < number refusal.answer) × (refusal.line ≤ max_text + 1)) }
 {
-    let blank = Ride {
-        cart: 0,
-        call: 0,
-        last: 0,
-        cells: [0; Limits::STEPS],
-    };
-    let mut held = [blank; Limits::CARTS];
+    let mut held = [Ride::BLANK; Limits::CARTS];
     let rides = &mut held[..job.carts.len()];
-    match sheet::read_sheet(job, sheet, rides) {
-        Err(bad) => packed(Answer::BadSheet, bad.line as u64),
-        Ok(Sheet::Plan) => {
-            if planjudge::plan::is_plan(job, rides) {
-                return packed(Answer::Plan, 0);
-            }
-            packed(Answer::WrongSheet, 0)
+    let (right, answer) = match sheet::read_sheet(job, sheet, rides) {
+        Err(bad) => {
+            return Err(Refusal {
+                answer: Answer::BadSheet,
+                line: bad.line,
+            });
         }
-        Ok(Sheet::Cannot(chokes)) => {
-            if chokejudge::choke::is_choke_list(job, chokes.as_slice()) {
-                return packed(Answer::Cannot, 0);
-            }
-            packed(Answer::WrongSheet, 0)
-        }
+        Ok(Sheet::Plan) => (planjudge::plan::is_plan(job, rides), Answer::Plan),
+        Ok(Sheet::Cannot(chokes)) => (
+            chokejudge::choke::is_choke_list(job, chokes.as_slice()),
+            Answer::Cannot,
+        ),
+    };
+    if !right {
+        return Err(Refusal {
+            answer: Answer::WrongSheet,
+            line: 0,
+        });
     }
+    Ok(answer)
 }

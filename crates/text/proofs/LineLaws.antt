@@ -128,37 +128,3 @@ module _ (s : List ℕ) (at : ℕ) where
       let l : take n (drop at s) ≡ line_of (drop at s) = ap (λ x. take x (drop at s)) m ∙ line_front (drop at s) in
       let k : at + suc (length (line_of (drop at s))) ≡ at + length (line_of (drop at s)) + 1 = omega arith in
       (l, rw l (line_split (drop at s) (omega arith) ∙ ap (λ x. line_of (drop at s) ++ (10 ∷ x)) (drop-drop (suc (length (line_of (drop at s)))) at s ∙ ap (λ x. drop x s) k)))
-
-  pub line_part : (e : ℕ) → e ≡ at + length (line_of (drop at s)) → take (e - at) (drop at s) ≡ line_of (drop at s)
-  line_part e end = let k : e - at ≡ length (line_of (drop at s)) = omega arith in ap (λ x. take x (drop at s)) k ∙ line_front (drop at s)
-
-  -- a line that was handed out, as the part that the laws below name
-  pub line_taken : (l : List ℕ) → l ≡ line_of (drop at s) → l ≡ take (at + length (line_of (drop at s)) - at) (drop at s)
-  line_taken l q = q ∙ sym (line_part (at + length (line_of (drop at s))) refl)
-
-  pub lines_done : length s ≤ at → lines_of (drop at s) ≡ done
-  lines_done h = ap lines_of (drop_of_length-le s h)
-
-  module _ (e : ℕ) (inside : at < length s) (end : e ≡ at + length (line_of (drop at s))) where
-    pub lines_cut : length s ≤ e → lines_of (drop at s) ≡ cut
-    lines_cut h = no_feed (drop at s) (omega (arith, length-drop at s)) (omega (arith, length-drop at s))
-
-    pub lines_more : e < length s → lines_of (drop at s) ≡ more (take (e - at) (drop at s)) (lines_of (drop (e + 1) s))
-    lines_more h =
-        let k : length (line_of (drop at s)) ≡ e - at = omega arith in
-        let n : at + suc (length (line_of (drop at s))) ≡ e + 1 = omega arith in
-        first_line (drop at s) (omega (arith, length-drop at s))
-        ∙ ap (λ l. more l (lines_of (drop (suc (length (line_of (drop at s)))) (drop at s)))) (sym (line_front (drop at s)) ∙ ap (λ x. take x (drop at s)) k)
-        ∙ ap (λ l. more (take (e - at) (drop at s)) (lines_of l)) (drop-drop (suc (length (line_of (drop at s)))) at s ∙ ap (λ x. drop x s) n)
-
-  -- The same by the line that was handed out and the place behind it.
-  module _ (l : List ℕ) (q : ℕ) (taken : (l ≡ line_of (drop at s)) × (q ≡ at + length (line_of (drop at s)) + 1)) where
-    pub next_cut : at < length s → length s < q → lines_of (drop at s) ≡ cut
-    next_cut inside h = let p = taken.1 in lines_cut (at + length (line_of (drop at s))) inside refl (omega arith)
-
-    pub next_more : q ≤ length s → lines_of (drop at s) ≡ more l (lines_of (drop q s))
-    next_more h =
-        let p = taken.1 in
-        lines_more (at + length (line_of (drop at s))) (omega arith) refl (omega arith)
-        ∙ ap (λ x. more x (lines_of (drop (at + length (line_of (drop at s)) + 1) s))) (sym (line_taken l taken.0))
-        ∙ ap (λ x. more l (lines_of (drop x s))) (sym p)

@@ -45,17 +45,3 @@ impl<'a> Lines<'a> {
         Some(line)
     }
 }
-
-// The line at a place, which moves on behind it. A line without a line feed leaves the place past the text's end.
-pub fn next<'a, 'b>(text: &'a [u8], at: &'b mut usize) -> &'a [u8]
-    requires { at.old ≤ length text.now }
-    ensures { (result.now ≡ line_of (drop at.old text.now)) × (at.new ≡ at.old + length (line_of (drop at.old text.now)) + 1) }
-{
-    let Some(line) = scan::line(text, *at) else {
-        let line = &text[*at..];
-        *at = text.len() + 1;
-        return line;
-    };
-    *at += line.len() + 1;
-    line
-}

@@ -4,5 +4,5 @@ use Rattle.job.specs.Lists.{job_of}
 use Rattle.cartfloor.proofs.Verdicts.{ready}
 use Rattle.cartfloor.proofs.check.cartfloor_check.Goals as goal
 
-pub judge_sheet-r-requires : goal.judge_sheet-r-requires
-judge_sheet-r-requires c = ready c.args.text.now (length c.args.store.now) (job_of c.in-Ok.job) (rw c.in-Ok.is at c.admit.ensures.says)
+pub judge_sheet-requires : goal.judge_sheet-requires
+judge_sheet-requires c = ready c.args.text.now (length c.args.store.now) (job_of c.in-Ok.job) (rw c.in-Ok.is at c.admit.ensures.says)

@@ -122,13 +122,16 @@ overflow_add-depth c = let (j, h) = one (goal.at.overflow_add-depth c).After-pus
 pub loop-depth-smaller : goal.loop-depth-smaller
 loop-depth-smaller c =
     let (j, h) = one (goal.at.loop-depth-smaller c).After-push in
-    omega (arith, turn_falls (looked (goal.at.loop-depth-smaller c).After-leads-found j h) c.in-Some.hop c.in-Some.is c.push-in-loop-depth.new.store.bytes.now (rw c.loop-depth.invariant.0.grid at c.push-in-loop-depth.ensures.bytes))
+    let pushed = rw c.loop-depth.invariant.0.grid at c.push-in-loop-depth.ensures.bytes in
+    omega (arith, turn_falls (looked (goal.at.loop-depth-smaller c).After-leads-found j h) c.in-Some.hop c.in-Some.is c.push-in-loop-depth.new.store.bytes.now pushed)
 
 pub loop-depth-preserved : goal.loop-depth-preserved
-loop-depth-preserved c = (
-  same_more c.loop-depth.invariant.0 c.push-in-loop-depth.ensures.same,
-  λ j h. turn_push (looked (goal.at.loop-depth-preserved c).After-leads-found j h) c.in-Some.hop c.in-Some.is c.push-in-loop-depth.new.store.bytes.now (rw c.loop-depth.invariant.0.grid at c.push-in-loop-depth.ensures.bytes),
-)
+loop-depth-preserved c =
+    let p = c.push-in-loop-depth in
+    let pushed = rw c.loop-depth.invariant.0.grid at p.ensures.bytes in (
+      same_more c.loop-depth.invariant.0 p.ensures.same,
+      λ j h. turn_push (looked (goal.at.loop-depth-preserved c).After-leads-found j h) c.in-Some.hop c.in-Some.is p.new.store.bytes.now pushed,
+    )
 
 pub returns-clause-searched : goal.returns-clause-searched
 returns-clause-searched c = λ j h. let p = c.push.ensures.bytes in ends_none _ p h (c.loop-depth.invariant.1 j (begun _ p h)).run (omega (arith, c.loop-depth-test.false))

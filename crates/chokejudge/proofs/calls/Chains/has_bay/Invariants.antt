@@ -8,14 +8,14 @@ use Rattle.job.specs.Lists.{cells_of}
 use Rattle.job.specs.declared.state.Call.{Call}
 use Rattle.chokejudge.specs.declared.layer.Layer.{Layer}
 use Rattle.chokejudge.specs.ChokeLayers.{BayAt}
-use Rattle.chokejudge.proofs.ChainLaws.{Walked}
+use Rattle.chokejudge.proofs.ChainLaws.{ChainWalked}
 use Rattle.chokejudge.proofs.calls.Chains.has_bay.Given as goal
 
 abbrev pub Hit : List Call → Layer → ℕ → Type 0
 Hit calls a k = 0 < get_or a.since (get_or (cells_of calls) k 0) 0
 
 abbrev pub invariant-loop-next : goal.invariant-loop-next
-invariant-loop-next l = Walked (BayAt l.calls l.t) (Hit l.calls l.layer) (length l.calls) l.next
+invariant-loop-next l = ChainWalked (BayAt l.calls l.t) (Hit l.calls l.layer) (length l.calls) l.next
 
 abbrev pub left : Option ℕ → ℕ
 left None = 0
