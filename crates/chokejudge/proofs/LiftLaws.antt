@@ -20,33 +20,33 @@ module _ (calls : List Call) (chokes : List Choke) where
     abbrev choke : Choke
     choke = get_or chokes i d
 
-    abbrev Earlier : ℕ → Type 0
-    Earlier = WholeOn calls (take i chokes)
+    abbrev WholeBefore : ℕ → Type 0
+    WholeBefore = WholeOn calls (take i chokes)
 
     abbrev Here : ℕ → Type 0
     Here v = (k : ℕ) × (variant.Call k ≡ choke) × (get_or (cells_of calls) k 0 ≡ v)
 
     -- with one choke point more
-    whole_more : (v : ℕ) → WholeOn calls (take (i + 1) chokes) v ↔ (Earlier v ⊎ Here v)
+    whole_more : (v : ℕ) → WholeOn calls (take (i + 1) chokes) v ↔ (WholeBefore v ⊎ Here v)
     whole_more v = (there, back)
       where
-        there : WholeOn calls (take (i + 1) chokes) v → Earlier v ⊎ Here v
+        there : WholeOn calls (take (i + 1) chokes) v → WholeBefore v ⊎ Here v
         there (k, m, e) = go (in_part (variant.Call k) (take i chokes) (choke ∷ []) (rw (take_more chokes i d h) at m))
           where
-            go : In (variant.Call k) (take i chokes) ⊎ In (variant.Call k) (choke ∷ []) → Earlier v ⊎ Here v
+            go : In (variant.Call k) (take i chokes) ⊎ In (variant.Call k) (choke ∷ []) → WholeBefore v ⊎ Here v
             go (inl n) = inl (k, n, e)
             go (inr (inl n)) = inr (k, n, e)
             go (inr (inr n)) = absurd n
 
-        back : Earlier v ⊎ Here v → WholeOn calls (take (i + 1) chokes) v
+        back : WholeBefore v ⊎ Here v → WholeOn calls (take (i + 1) chokes) v
         back (inl (k, m, e)) = (k, rw (take_more chokes i d h) (in_left (variant.Call k) (take i chokes) (choke ∷ []) m), e)
         back (inr (k, m, e)) = (k, rw (take_more chokes i d h) (in_right (variant.Call k) (take i chokes) (choke ∷ []) (inl m)), e)
 
-    module _ {l₀ l : List ℕ} (r : Cleared Earlier l₀ l) where
+    module _ {l₀ l : List ℕ} (r : Cleared WholeBefore l₀ l) where
       pub passed_cell : {t v : ℕ} → choke ≡ variant.Cell t v → Cleared (WholeOn calls (take (i + 1) chokes)) l₀ l
       passed_cell {t} {v} e = cleared_as (λ x. (λ p. (whole_more x).1 (inl p), λ p. there x ((whole_more x).0 p))) r
         where
-          there : (x : ℕ) → Earlier x ⊎ Here x → Earlier x
+          there : (x : ℕ) → WholeBefore x ⊎ Here x → WholeBefore x
           there x (inl p) = p
           there x (inr (k, f, g)) = let z : ◌≡◌ {A = Choke} (variant.Call k) (variant.Cell t v) = f ∙ e in cc
 
@@ -54,11 +54,11 @@ module _ (calls : List Call) (chokes : List Choke) where
           → Cleared (WholeOn calls (take (i + 1) chokes)) l₀ (set l (get_or (cells_of calls) k 0) 0)
       passed_call {k} e small = cleared_as (λ x. (λ p. (whole_more x).1 (back x p), λ p. there x ((whole_more x).0 p))) (cleared_more (get_or (cells_of calls) k 0) small r)
         where
-          back : (x : ℕ) → Earlier x ⊎ (x ≡ get_or (cells_of calls) k 0) → Earlier x ⊎ Here x
+          back : (x : ℕ) → WholeBefore x ⊎ (x ≡ get_or (cells_of calls) k 0) → WholeBefore x ⊎ Here x
           back x (inl p) = inl p
           back x (inr f) = inr (k, sym e, sym f)
 
-          there : (x : ℕ) → Earlier x ⊎ Here x → Earlier x ⊎ (x ≡ get_or (cells_of calls) k 0)
+          there : (x : ℕ) → WholeBefore x ⊎ Here x → WholeBefore x ⊎ (x ≡ get_or (cells_of calls) k 0)
           there x (inl p) = inl p
           there x (inr (q, f, g)) =
               let z : ◌≡◌ {A = Choke} (variant.Call q) (variant.Call k) = f ∙ e in
