@@ -6,4 +6,4 @@ use Rattle.floorplan.proofs.plan.Goals as goal
 pub refused-requires : goal.refused-requires
 refused-requires g c =
     let r = c.cartfloor_plan-r in
-    (omega arith, omega (arith, planned_line r.ensures (omega (arith, c.if-number-r.true, c.number.ensures.0))))
+    (omega arith, omega (arith, planned_line r.ensures (omega (arith, c.if-from-r.true, c.from.ensures.0))))
