@@ -1,6 +1,6 @@
 -- The definitions of reading at an index: what a turn of a loop cites. The loop of `digits` unfolds `scan_from`, which reads the bytes in
 -- order; by induction over them it is what the digits that they start with say (`scan_digits`). Assumes nothing.
-use Prim.Native.Nat.{ℕ, suc, ◌+◌, ◌-◌, ◌*◌, ◌≤◌, ◌<◌}
+use Prim.Native.Nat.{ℕ, zero, suc, ◌+◌, ◌-◌, ◌*◌, ◌≤◌, ◌<◌}
 use mathlib.Core.Path.{◌≡◌, refl, sym, ap, ◌∙◌}
 use mathlib.Core.List.{List, [], ◌∷◌}
 use mathlib.Core.Option.{Option, none}
@@ -9,28 +9,45 @@ use mathlib.Core.Bool.{Bool, true, false, cond, ◌&&◌}
 use native.Mathlib.Omega.{arith}
 use native.Mathlib.Numerals.{add-one}
 use lib.Dec.{ltb, eqb}
-use lib.Pointwise.{pointwise}
-use lib.ListN.{length, get_or, take, drop, drop_of_length-le}
+use lib.ListN.{length, get_or, drop, drop_of_length-le}
 use lib.Seq.{drop-cons}
-use borrow.Author.Tests.{ltb-true, eqb-true, eqb-false, eq-eqb, ne_eqb}
+use borrow.Author.Tests.{ltb-true, eq-eqb, ne_eqb}
 use Rattle.model.specs.Text.{is_digit, starts_with, on_field, fields_of, number_from, number_of, digits_of}
 use Rattle.model.proofs.Basics.{and_right}
 use Rattle.std.proofs.lemmas.List.Sums.{sum_by-cons}
 use Rattle.std.specs.Prelude as std
-use Rattle.std.specs.Prelude.{◌==◌, nat_eq, count_by, None, Some, unwrap_or}
+use Rattle.std.specs.Bool.{MatchBool}
+use Rattle.std.specs.List.{AllWithin, HoldsAt, zip}
+use Rattle.std.specs.Prelude.{◌==◌, count_by, None, Some, unwrap_or}
 use Rattle.text.specs.declared.Number.{Number}
 use Rattle.text.specs.Scan.{found, scanned, may_go_on, ended}
 use Rattle.text.proofs.Numbers.{fields_some, fields_tab, scanned_behind}
 
--- A word: the library compares it with as many bytes.
-pub starts_as : (w s : List ℕ) → pointwise nat_eq w (take (length w) s) ≡ starts_with w s
-starts_as [] s = refl
-starts_as (a ∷ w) [] = refl
-starts_as (a ∷ w) (b ∷ s) = go (eqb a b) refl (starts_as w s)
+-- A word: its bytes beside those of the text, one by one.
+abbrev Same : ℕ × ℕ → Type 0
+Same p = p.0 ≡ p.1
+
+pub starts_by : (w s : List ℕ) (r : Bool) → length w ≤ length s → MatchBool r (AllWithin Same (zip w s) 0 (length (zip w s))) ((k : ℕ) × (k < length (zip w s)) × HoldsAt (λ p. Same p → ⊥) (zip w s) k)
+    → r ≡ starts_with w s
+starts_by [] s true h m = refl
+starts_by [] s false h m = absurd (omega (arith, m.1))
+starts_by (a ∷ w) [] r h m = absurd (omega arith)
+starts_by (a ∷ w) (b ∷ s) true h m = simp (eq-eqb b a (sym (m 0 (a, b) (omega arith) (omega arith)))) (starts_by w s true (omega arith) (λ k d l u. m (suc k) d (omega arith) (omega arith)))
+starts_by (a ∷ w) (b ∷ s) false h (zero, l, d) = simp (ne_eqb b a (λ e. d (a, b) (sym e))) refl
+starts_by (a ∷ w) (b ∷ s) false h (suc k, l, d) = go (eqb b a) (starts_by w s false (omega arith) (k, (omega arith), d))
   where
-    go : (t : Bool) → eqb a b ≡ t → pointwise nat_eq w (take (length w) s) ≡ starts_with w s → (t && pointwise nat_eq w (take (length w) s)) ≡ cond (eqb b a) (starts_with w s) false
-    go true q h = simp (eq-eqb b a (sym (eqb-true a b q))) h
-    go false q h = simp (ne_eqb b a (λ e. eqb-false a b q (sym e)))
+    go : (t : Bool) → false ≡ starts_with w s → false ≡ cond t (starts_with w s) false
+    go true e = e
+    go false e = refl
+
+pub starts_short : (w s : List ℕ) → length s < length w → false ≡ starts_with w s
+starts_short [] s h = absurd (omega arith)
+starts_short (a ∷ w) [] h = refl
+starts_short (a ∷ w) (b ∷ s) h = go (eqb b a) (starts_short w s (omega arith))
+  where
+    go : (t : Bool) → false ≡ starts_with w s → false ≡ cond t (starts_with w s) false
+    go true e = e
+    go false e = refl
 
 -- Fields.
 count_same : (b : ℕ) (l : List ℕ) → eqb b 9 ≡ false → length (fields_of (b ∷ l)) ≡ length (fields_of l)
