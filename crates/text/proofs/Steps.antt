@@ -24,11 +24,11 @@ use Rattle.text.specs.Scan.{found, scanned, may_go_on, ended}
 use Rattle.text.proofs.Numbers.{fields_some, fields_tab, scanned_behind}
 
 -- A word: its bytes beside those of the text, one by one.
-abbrev Same : ℕ × ℕ → Type 0
-Same p = p.0 ≡ p.1
+abbrev pub Alike : ℕ × ℕ → Type 0
+Alike p = p.0 ≡ p.1
 
-pub starts_by : (w s : List ℕ) (r : Bool) → length w ≤ length s → MatchBool r (AllWithin Same (zip w s) 0 (length (zip w s))) ((k : ℕ) × (k < length (zip w s)) × HoldsAt (λ p. Same p → ⊥) (zip w s) k)
-    → r ≡ starts_with w s
+pub starts_by : (w s : List ℕ) (r : Bool) → length w ≤ length s
+    → MatchBool r (AllWithin Alike (zip w s) 0 (length (zip w s))) ((k : ℕ) × (k < length (zip w s)) × HoldsAt (λ p. Alike p → ⊥) (zip w s) k) → r ≡ starts_with w s
 starts_by [] s true h m = refl
 starts_by [] s false h m = absurd (omega (arith, m.1))
 starts_by (a ∷ w) [] r h m = absurd (omega arith)
