@@ -50,10 +50,17 @@ latest_last : (l : List model.Call) (q : model.Call) → latest (l ++ (q ∷ [])
 latest_last [] q = omega arith
 latest_last (a ∷ l) q = rw (latest_last l q) (omega arith)
 
-latest_has : (l : List model.Call) (k : ℕ) (d : model.Call) → k < length l → (get_or l k d).deadline ≤ latest l
+pub latest_has : (l : List model.Call) (k : ℕ) (d : model.Call) → k < length l → (get_or l k d).deadline ≤ latest l
 latest_has [] k d h = absurd (omega arith)
 latest_has (q ∷ l) zero d h = omega arith
 latest_has (q ∷ l) (suc k) d h = omega (arith, latest_has l k d (omega arith))
+
+-- each of the first calls is at most that far
+pub latest_le : (qs : List Call) (n k : ℕ) → k < n → (get_or qs k no_call).deadline ≤ latest (map as_call (take n qs))
+latest_le [] n k h = omega arith
+latest_le (q ∷ qs) zero k h = absurd (omega arith)
+latest_le (q ∷ qs) (suc n) zero h = omega arith
+latest_le (q ∷ qs) (suc n) (suc k) h = omega (arith, latest_le qs n k (omega arith))
 
 pub latest_more : (qs : List Call) (k : ℕ) → k < length qs → latest (map as_call (take (k + 1) qs)) ≡ max (latest (map as_call (take k qs))) (get_or qs k no_call).deadline
 latest_more qs k h = ap latest (map_more as_call qs k no_call h) ∙ latest_last (map as_call (take k qs)) (as_call (get_or qs k no_call))

@@ -1,8 +1,25 @@
 // A table of bits, eight to a byte: bit i is bit i % 8 of byte i / 8.
-ghost use Rattle.std.specs.Prelude.{◌≡◌, ◌*◌, ◌<◌, replicate};
+ghost use Rattle.std.specs.Prelude.{◌≡◌, ◌*◌, ◌<◌, length, replicate};
 ghost use Rattle.model.specs.Limits.{max_cells};
 ghost use Rattle.job.specs.Bits.{bit_at, with_bit, pair_at};
 
+// Whether bit i of the table is set.
+pub fn has(table: &[u8], i: usize) -> bool
+    requires { i < 8 * length table.now }
+    ensures { result ≡ bit_at table.now i }
+{
+    (table[i / 8] >> (i % 8)) & 1 == 1
+}
+
+// Sets bit i of the table.
+pub fn add(table: &mut [u8], i: usize)
+    requires { i < 8 * length table.old }
+    ensures { table.new ≡ with_bit table.old i }
+{
+    table[i / 8] |= 1 << (i % 8);
+}
+
+// A table that owns its bytes.
 #[derive(Clone, Copy)]
 pub struct Bits<const BYTES: usize> {
     pub bytes: [u8; BYTES],
@@ -21,7 +38,7 @@ impl<const BYTES: usize> Bits<BYTES> {
         requires { i < 8 * BYTES }
         ensures { result ≡ bit_at self.now.bytes i }
     {
-        (self.bytes[i / 8] >> (i % 8)) & 1 == 1
+        self::has(&self.bytes, i)
     }
 
     // Sets bit i.
@@ -29,7 +46,7 @@ impl<const BYTES: usize> Bits<BYTES> {
         requires { i < 8 * BYTES }
         ensures { self.new.bytes ≡ with_bit self.old.bytes i }
     {
-        self.bytes[i / 8] |= 1 << (i % 8);
+        self::add(&mut self.bytes, i)
     }
 }
 

@@ -1,6 +1,6 @@
 // The store as the planner cuts it, in the one place that knows: planes of one byte a node, one after the other, and behind them those of the search's stack.
 ghost use Rattle.std.specs.Prelude.{◌≡◌, ◌+◌, ◌*◌, ◌<◌, ◌≤◌, length, set};
-ghost use Rattle.network.specs.Store.{place_in, as_point, at, spot, Within, Blank, Spacious, SameStore, Stored, byte_of, used_test, meets_test, mark_at, next_at, prev_at, cell_at, step_at, via_at, with_used, with_mark, with_next, with_prev, with_entry};
+ghost use Rattle.network.specs.Store.{place_in, as_point, at, spot, Within, Blank, Spacious, SameStore, Stored, byte_of, used_test, meets_test, used_at, mark_at, next_at, prev_at, cell_at, step_at, via_at, with_used, with_mark, with_next, with_prev, with_entry};
 
 // The planes, by numbers, since a plane begins at its number times the nodes. The bytes of a node: what its use is, the stamp of a search, the cells before and behind it; of the stack: cell, step by two bytes, and by way of which
 // cell at which step.
@@ -90,12 +90,20 @@ impl<'a> Store<'a> {
         self.bytes[PLANE * self.grid.nodes + v] = b;
     }
 
+    // The byte that is kept of a node's use.
+    pub fn use_byte(&self, v: usize) -> usize
+        requires { Within self.now.grid self.now.bytes.now v }
+        ensures { (result ≡ used_at self.now.grid self.now.bytes.now v) × (result < 256) }
+    {
+        usize::from(self.byte::<USED>(v))
+    }
+
     // Whether the flow uses the node at v.
     pub fn used(&self, v: usize) -> bool
         requires { Within self.now.grid self.now.bytes.now v }
         ensures { result ≡ used_test self.now.grid self.now.bytes.now v }
     {
-        self.byte::<USED>(v) != 0
+        self.use_byte(v) != 0
     }
 
     // Whether the cart on it meets the call on its cell.
@@ -103,7 +111,7 @@ impl<'a> Store<'a> {
         requires { Within self.now.grid self.now.bytes.now v }
         ensures { result ≡ meets_test self.now.grid self.now.bytes.now v }
     {
-        self.byte::<USED>(v) == Use::Meets.byte()
+        self.use_byte(v) == usize::from(Use::Meets.byte())
     }
 
     // The stamp of the last search that came there.
@@ -130,11 +138,18 @@ impl<'a> Store<'a> {
         usize::from(self.byte::<PREV>(v))
     }
 
+    pub fn set_use_byte(&mut self, v: usize, b: u8)
+        requires { Within self.old.grid self.old.bytes.now v }
+        ensures { Stored self.old self.new (with_used self.old.grid self.old.bytes.now v b) }
+    {
+        self.set_byte::<USED>(v, b);
+    }
+
     pub fn set_used(&mut self, v: usize, u: Use)
         requires { Within self.old.grid self.old.bytes.now v }
         ensures { Stored self.old self.new (with_used self.old.grid self.old.bytes.now v (byte_of u)) }
     {
-        self.set_byte::<USED>(v, u.byte());
+        self.set_use_byte(v, u.byte());
     }
 
     pub fn set_mark(&mut self, v: usize, stamp: u8)

@@ -6,6 +6,7 @@ ghost use Rattle.model.specs.Text.{lines_of, whole_word};
 ghost use Rattle.model.specs.FirstBad.{rest_says};
 ghost use Rattle.model.specs.ReadSheet.{bad, cannot, numbers_after, whole_of, choke_line};
 ghost use Rattle.job.specs.Lists.{job_of};
+ghost use Rattle.text.specs.Rest.{rest_of};
 ghost use Rattle.sheet.specs.Parts.{choke_read, chokes_read};
 
 use crate::BadLine;
@@ -53,7 +54,7 @@ pub fn read_chokes(
     count: usize,
 ) -> Result<ArrayVec<Choke, { Limits::CALLS }>, BadLine>
     requires { (job.now.cells ≤ max_cells) × (count ≤ max_calls) }
-    ensures said { chokes_read result ≡ rest_says bad (choke_line (job_of job.now)) cannot [] count 2 (lines_of lines.old) }
+    ensures said { chokes_read result ≡ rest_says bad (choke_line (job_of job.now)) cannot [] count 2 (lines_of (rest_of lines.old)) }
     ensures number { IfErr result (λ bad. bad.line ≤ count + 2) }
 {
     let latest = job.last_step();

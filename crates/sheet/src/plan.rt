@@ -9,6 +9,7 @@ ghost use Rattle.model.specs.FirstBad.{lines_due, rest_says};
 ghost use Rattle.model.specs.ReadSheet.{Sheet, bad, plan, size_fits, path_line, spare_line, spares_say};
 ghost use Rattle.job.specs.Lists.{as_kind, job_of};
 ghost use Rattle.job.specs.Held.{as_path, as_ride, paths_to, spares_from};
+ghost use Rattle.text.specs.Rest.{rest_of};
 ghost use Rattle.sheet.specs.Parts.{if_read, behind, cells_fit, unless_bad};
 
 use crate::BadLine;
@@ -88,7 +89,7 @@ fn spare_line(job: &Job, latest: usize, line: &[u8], ride: &mut Ride) -> Option<
 // The PATH lines, one for each of the rides: the first has the number 2.
 fn read_paths(job: &Job, lines: &mut Lines, paths: &mut [Ride]) -> Result<(), BadLine>
     requires { Ready (job_of job.now) × (length paths.old ≤ max_carts) }
-    ensures said { (on : List Path → ℕ → TextLines → Sheet) → unless_bad result (on (map as_path paths.new) (2 + length paths.new) (lines_of lines.new)) ≡ lines_due bad (path_line (job_of job.now)) on [] (length paths.new) 2 (lines_of lines.old) }
+    ensures said { (on : List Path → ℕ → TextLines → Sheet) → unless_bad result (on (map as_path paths.new) (2 + length paths.new) (lines_of (rest_of lines.new))) ≡ lines_due bad (path_line (job_of job.now)) on [] (length paths.new) 2 (lines_of (rest_of lines.old)) }
     ensures number { IfErr result (λ bad. bad.line < 2 + length paths.new) }
 {
     for (k, ride) in paths.iter_mut().enumerate() {
@@ -107,7 +108,7 @@ fn read_spares(
     spares: &mut [Ride],
 ) -> Result<(), BadLine>
     requires { Ready (job_of job.now) × (first + length spares.old ≤ max_carts + 2) }
-    ensures said { (ps : List Path) → unless_bad result (plan ps (map as_ride spares.new)) ≡ rest_says bad (spare_line (job_of job.now)) (plan ps) [] (length spares.new) first (lines_of lines.old) }
+    ensures said { (ps : List Path) → unless_bad result (plan ps (map as_ride spares.new)) ≡ rest_says bad (spare_line (job_of job.now)) (plan ps) [] (length spares.new) first (lines_of (rest_of lines.old)) }
     ensures number { IfErr result (λ bad. bad.line ≤ first + length spares.new) }
 {
     let latest = job.last_step();
@@ -127,7 +128,7 @@ fn read_spares(
 // The lines after PLAN: a PATH line for each call, and a SPARE line for each cart that is left.
 pub fn read_plan(job: &Job, lines: &mut Lines, rides: &mut [Ride]) -> Result<(), BadLine>
     requires { Ready (job_of job.now) × (length rides.old ≡ length (job_of job.now).carts) }
-    ensures said { let n = length (job_of job.now).calls in unless_bad result (plan (paths_to rides.new n) (spares_from rides.new n)) ≡ lines_due bad (path_line (job_of job.now)) (spares_say (job_of job.now)) [] n 2 (lines_of lines.old) }
+    ensures said { let n = length (job_of job.now).calls in unless_bad result (plan (paths_to rides.new n) (spares_from rides.new n)) ≡ lines_due bad (path_line (job_of job.now)) (spares_say (job_of job.now)) [] n 2 (lines_of (rest_of lines.old)) }
     ensures number { IfErr result (λ bad. bad.line ≤ max_carts + 2) }
 {
     let calls = job.calls.len();

@@ -113,6 +113,13 @@ module _ (s : List ℕ) (at : ℕ) where
   pub to_end : take (length s - at) (drop at s) ≡ drop at s
   to_end = take_all (length s - at) (drop at s) (omega (arith, length-drop at s))
 
+  -- the line, as the part that its end cuts off, and that this end is within the text
+  pub line_part : (e : ℕ) → e ≡ at + length (line_of (drop at s)) → take (e - at) (drop at s) ≡ line_of (drop at s)
+  line_part e end = let k : e - at ≡ length (line_of (drop at s)) = omega arith in ap (λ x. take x (drop at s)) k ∙ line_front (drop at s)
+
+  pub line_bound : at ≤ length s → at + length (line_of (drop at s)) ≤ length s
+  line_bound h = omega (arith, line_short (drop at s), length-drop at s)
+
   pub past_end : leb (length s) at ≡ is_empty (drop at s)
   past_end = go (drop at s) (length-drop at s)
     where

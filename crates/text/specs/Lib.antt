@@ -1,3 +1,4 @@
 pub mod Scan
 pub mod Wrote
 pub mod DigitTable
+pub mod Rest

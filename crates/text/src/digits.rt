@@ -2,8 +2,10 @@
 ghost use Rattle.std.specs.Prelude.{◌≡◌, ◌+◌, ◌/◌, ◌%◌, ◌^◌, ◌<◌};
 ghost use Rattle.text.specs.DigitTable.{packed, DigitTable};
 
+pub type Table = [u16; 1000];
+
 // The table, with its rule.
-fn table() -> &'static [u16; 1000]
+pub fn table() -> &'static Table
     ensures { DigitTable result.now }
 {
     &DIGITS
@@ -26,7 +28,7 @@ pub fn digit(entry: u16, others: u16) -> u8
 }
 
 // Entry n reads in hexadecimal as n does in decimal.
-static DIGITS: [u16; 1000] = [
+static DIGITS: Table = [
     0x000, 0x001, 0x002, 0x003, 0x004, 0x005, 0x006, 0x007, 0x008, 0x009, 0x010, 0x011, 0x012,
     0x013, 0x014, 0x015, 0x016, 0x017, 0x018, 0x019, 0x020, 0x021, 0x022, 0x023, 0x024, 0x025,
     0x026, 0x027, 0x028, 0x029, 0x030, 0x031, 0x032, 0x033, 0x034, 0x035, 0x036, 0x037, 0x038,

@@ -23,6 +23,25 @@ pub fn line(s: &[u8], at: usize) -> Option<&[u8]>
     Some(&rest[..n])
 }
 
+// The place behind the line that starts at `at` and its line feed: past the end where it has none.
+pub fn line_past(s: &[u8], at: usize) -> usize
+    requires { at ≤ length s.now }
+    ensures { result ≡ at + length (line_of (drop at s.now)) + 1 }
+{
+    match line(s, at) {
+        Some(line) => at + line.len() + 1,
+        None => s.len() + 1,
+    }
+}
+
+// That line, without its line feed, by the place behind it.
+pub fn line_before(s: &[u8], at: usize, past: usize) -> &[u8]
+    requires { (at ≤ length s.now) × (past ≡ at + length (line_of (drop at s.now)) + 1) }
+    ensures { result.now ≡ line_of (drop at s.now) }
+{
+    &s[at..past - 1]
+}
+
 // Whether s starts with word. Byte by byte: the library's `starts_with` compares all of them at once, and a map may end in memory behind the first that differs.
 pub fn opens_with(s: &[u8], word: &[u8]) -> bool
     ensures { result ≡ starts_with word.now s.now }

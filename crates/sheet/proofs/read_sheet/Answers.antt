@@ -4,6 +4,7 @@ use mathlib.Core.List.{◌∷◌, ◌++◌}
 use Rattle.std.proofs.lemmas.Option.{MatchOption-at_none, MatchOption-at_some}
 use Rattle.job.specs.Lists.{job_of}
 use Rattle.text.specs.Scan.{line_of}
+use Rattle.text.specs.Rest.{rest_of}
 use Rattle.sheet.specs.Form.{form_of}
 use Rattle.sheet.specs.Parts.{as_read}
 use Rattle.sheet.proofs.Exits.{passed_on, stopped_at}
@@ -15,11 +16,11 @@ pub returns-in_err-line-clause-said : goal.returns-in_err-line-clause-said
 returns-in_err-line-clause-said c =
     let e = c.in_err-line.ensures in
     ap (λ r. form_of (job_of c.args.job.now) r c.args.rides.now) (stopped_at c.from_residual.result c.from_residual.ensures.1 e.value e.ok_part)
-    ∙ whole_cut (job_of c.args.job.now) c.args.sheet.now (rw c.new-lines.ensures at (MatchOption-at_none _ _ e.ok_part c.next.ensures).0)
+    ∙ whole_cut (job_of c.args.job.now) c.args.sheet.now (rw (c.new-lines.ensures.0, c.new-lines.ensures.1) at (MatchOption-at_none _ _ e.ok_part c.next.ensures.said).0)
 
 -- the first line, in front of the rest
-taken : (c : In_ok-line) → let l = c.in_ok-line.line.now in (l ≡ line_of c.args.sheet.now) × (c.args.sheet.now ≡ l ++ (10 ∷ c.next.new.self))
-taken c = rw c.new-lines.ensures at (MatchOption-at_some _ _ _ c.in_ok-line.ensures.ok_part c.next.ensures)
+taken : (c : In_ok-line) → let l = c.in_ok-line.line.now in (l ≡ line_of c.args.sheet.now) × (c.args.sheet.now ≡ l ++ (10 ∷ rest_of c.next.new.self))
+taken c = rw (c.new-lines.ensures.0, c.new-lines.ensures.1) at (MatchOption-at_some _ _ _ c.in_ok-line.ensures.ok_part c.next.ensures.said)
 
 pub returns-in_err-read_plan-clause-said : goal.returns-in_err-read_plan-clause-said
 returns-in_err-read_plan-clause-said c =

@@ -10,9 +10,11 @@ use Rattle.model.specs.FirstBad.{lines_due}
 use Rattle.model.specs.ReadSheet.{Sheet, bad, path_line}
 use Rattle.job.specs.Lists.{job_of}
 use Rattle.job.specs.Held.{as_path}
+use Rattle.text.specs.Rest.{rest_of}
 use Rattle.sheet.proofs.Turns.{Left}
 use Rattle.sheet.proofs.plan.read_paths.Given as goal
 
 abbrev pub invariant-loop-k : goal.invariant-loop-k
 invariant-loop-k l = (on : List Path → ℕ → Lines → Sheet)
-    → Left (path_line (job_of l.job)) on (length l.paths) 2 (lines_due bad (path_line (job_of l.job)) on [] (length l.paths) 2 (lines_of l.fn.lines)) (map as_path (take l.k l.paths)) l.lines l.k
+    → Left (path_line (job_of l.job)) on (length l.paths) 2 (lines_due bad (path_line (job_of l.job)) on [] (length l.paths) 2 (lines_of (rest_of l.fn.lines)))
+    (map as_path (take l.k l.paths)) (rest_of l.lines) l.k
