@@ -17,4 +17,4 @@ returns c =
     let near = c.args.neighbours.now in
     let grown = grown_as (λ v. let same = older_some g (Side near v) in
     (⊎_elim (λ p. inl p) (λ p. inr (p.0, same.0 p.1)), ⊎_elim (λ p. inl p) (λ p. inr (p.0, same.1 p.1)))) (grown_then g c.rejoin.ensures) in
-    (record { added = grown.added; queue = grown.queue; closed = grown.closed; kept = grown.kept; only = grown.only; all = grown.all }, c.len-tail.ensures.value)
+    (record { added = grown.added; queue = grown.queue; count = grown.count; closed = grown.closed; kept = grown.kept; only = grown.only; all = grown.all }, c.len-tail.ensures.value)
