@@ -2,14 +2,12 @@
 use mathlib.Core.Logic.{⊎_elim, inl, inr}
 use Rattle.chokejudge.specs.ChokeLayers.{Side}
 use Rattle.chokejudge.proofs.GrownLaws.{grown_as, grown_then, older_some}
-use Rattle.chokejudge.proofs.PointLaws.{cell_part}
 use Rattle.chokejudge.proofs.layer.Layer.grow.Goals as goal
 
 pub rejoin-requires : goal.rejoin-requires
 rejoin-requires c =
     let p = c.requires.1 in
-    let s = c.args.self.now in
-    (p.0, p.1, λ v m. p.2 v (cell_part c.args.points.now s.opens s.closed v m))
+    (p.0, p.1, p.2)
 
 pub returns : goal.returns
 returns c =
