@@ -7,7 +7,7 @@ use mathlib.Core.Logic.{⊎_elim, ◌⊎◌, ◌↔◌, inl, inr}
 use native.Mathlib.Omega.{arith}
 use lib.ListN.{length, get_or, set, take}
 use lib.Seq.{get_or-set_same, take-length}
-use Rattle.std.proofs.lemmas.List.{append-nil, append_assoc, take_more}
+use Rattle.std.proofs.lemmas.List.{append-nil, append_assoc, take_more, length-append}
 use Rattle.model.specs.Lists.{In}
 use Rattle.model.proofs.Lists.{in_left, in_right, in_part}
 use Rattle.floor.specs.Tables.{OpenAt}
@@ -15,11 +15,13 @@ use Rattle.floor.proofs.TableLaws.{AfterSet, new, old, after_set}
 use Rattle.chokejudge.specs.declared.layer.Layer.{Layer}
 use Rattle.chokejudge.specs.Grown.{Older, Grown}
 use Rattle.chokejudge.proofs.Numbers.{zero_or}
+use Rattle.chokejudge.proofs.MemberLaws.{members_add}
 
 pub grown_none : {shut : List ℕ} (t : ℕ) {P : ℕ → Type 0} (a : Layer) → ((v : ℕ) → P v → OpenAt shut t v → 0 < get_or a.since v 0) → Grown shut t P a a
 grown_none t a h = record {
   added = [];
   queue = sym (append-nil a.queue.items);
+  count = omega arith;
   closed = refl;
   kept = λ v p. refl;
   only = λ v e p. absurd (omega arith);
@@ -35,6 +37,7 @@ pub grown_new : {shut : List ℕ} (t : ℕ) (a b : Layer) (v : ℕ) → b.since 
 grown_new {shut = shut} t a b v e q c h z o = record {
   added = v ∷ [];
   queue = q;
+  count = rw e (omega (arith, members_add a.since v (t + 1) h z (omega arith)));
   closed = c;
   kept = λ x p. rw e (kept x p (after_set a.since v (t + 1) x h));
   only = λ x d p. rw e (only x d (rw e at p) (after_set a.since v (t + 1) x h));
@@ -54,6 +57,7 @@ pub grown_as : {shut : List ℕ} {t : ℕ} {P Q : ℕ → Type 0} {a b : Layer} 
 grown_as e g = record {
   added = g.added;
   queue = g.queue;
+  count = g.count;
   closed = g.closed;
   kept = g.kept;
   only = λ v z p. let (s, o, (b, d)) = g.only v z p in (s, o, ((e v).0 b, d));
@@ -70,6 +74,7 @@ module _ {shut : List ℕ} {t : ℕ} {P Q : ℕ → Type 0} {a b c : Layer} (g :
   grown_then = record {
     added = g.added ++ h.added;
     queue = h.queue ∙ ap (λ q. q ++ h.added) g.queue ∙ append_assoc a.queue.items g.added h.added;
+    count = omega (arith, g.count, h.count, length-append g.added h.added);
     closed = h.closed ∙ g.closed;
     kept = λ v p. h.kept v (omega (arith, g.kept v p)) ∙ g.kept v p;
     only = λ v z p. then_only v z p (zero_or (get_or b.since v 0));

@@ -6,6 +6,7 @@ use Rattle.floor.specs.Tables.{OpenAt}
 use Rattle.chokejudge.specs.declared.layer.Point.{Point}
 use Rattle.chokejudge.specs.declared.layer.Layer.{Layer}
 use Rattle.chokejudge.specs.ChokeLayers.{Side, Choked}
+use Rattle.chokejudge.specs.Members.{members}
 use Rattle.chokejudge.specs.Points.{cells_of, Cursor}
 
 -- the cells of the last step
@@ -28,10 +29,11 @@ Again rows points a t v = In v (cells_of points) × ((x : ℕ) × Side rows v x 
 abbrev pub Onward : Neighbours → Layer → ℕ → ℕ → Type 0
 Onward rows a t v = (u : ℕ) × In u (last_cells a) × (Older a t u × Side rows u v)
 
--- The cells of P that were not in the layer, and are open at the step t, were added: to the table as those of that step, and to the end of the queue.
+-- The cells of P that were not in the layer, and are open at the step t, were added: to the table as those of that step, and each once to the end of the queue.
 pub record Grown (shut : List ℕ) (t : ℕ) (P : ℕ → Type 0) (a b : Layer) : Type 0 where
   pub added : List ℕ
   pub queue : b.queue.items ≡ a.queue.items ++ added
+  pub count : length added + members a.since ≡ members b.since
   pub closed : b.closed ≡ a.closed
   pub kept : (v : ℕ) → 0 < get_or a.since v 0 → get_or b.since v 0 ≡ get_or a.since v 0
   pub only : (v : ℕ) → get_or a.since v 0 ≡ 0 → 0 < get_or b.since v 0 → (get_or b.since v 0 ≡ t + 1) × OpenAt shut t v × (P v × In v added)

@@ -149,7 +149,7 @@ impl Layer {
         points: &[Point],
         t: u16,
     )
-        requires { (self.old.closed ≤ length points.now) × ((floor : ℕ) × Rows floor neighbours.now.near neighbours.now.begin × ((v : ℕ) → In v (cells_of points.now) → v < floor) × ((v : ℕ) → Older self.old t v → v < floor)) }
+        requires { (self.old.closed ≤ length points.now) × ((floor : ℕ) × Rows floor neighbours.now.near neighbours.now.begin × ((v : ℕ) → In v (cells_of (last_points points.now self.old)) → v < floor) × ((v : ℕ) → Older self.old t v → v < floor)) }
         ensures { Grown shut.now t (λ v. Onward neighbours.now self.old t v ⊎ Again neighbours.now (last_points points.now self.old) self.old t v) self.old self.new × (self.new.head ≡ length self.old.queue.items) }
     {
         let tail = self.queue.len();

@@ -59,10 +59,10 @@ module _ {j : model.Job} {floor : Floor} (made : IsFloor j floor) (w : List ℕ)
 
 module _ {s : Job} {paths spares : List Ride} {floor : Floor} (g : Given s paths spares) (made : IsFloor (job_of s) floor) where
   -- a known line has no more cells than there are steps, and they are cells of the job
-  few : {r : plan.Ride} → LineKnown s r → length r.cells ≤ max_steps
+  pub few : {r : plan.Ride} → LineKnown s r → length r.cells ≤ max_steps
   few k = omega (arith, k.ends, few_steps (job_of s) g.ready.fit)
 
-  small : {r : plan.Ride} → LineKnown s r → (t : ℕ) → t < length r.cells → get_or r.cells t 0 < max_cells
+  pub small : {r : plan.Ride} → LineKnown s r → (t : ℕ) → t < length r.cells → get_or r.cells t 0 < max_cells
   small k t h = omega (arith, k.cells t h, g.ready.fit.few_cells)
 
   -- The paths.

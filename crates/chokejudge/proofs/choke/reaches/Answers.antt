@@ -10,6 +10,7 @@ use Rattle.job.proofs.Tested.{denied, told}
 use Rattle.floor.proofs.TableLaws.{zeros}
 use Rattle.chokejudge.specs.declared.layer.Point.{Point}
 use Rattle.chokejudge.specs.ChokeLayers.{MetBy, Reached}
+use Rattle.chokejudge.proofs.PointLaws.{cell_part}
 use Rattle.chokejudge.proofs.StepLaws.{Unmet, holding_first, holding_next, older_known, lift_met, bay_met, still_open, unmet_more}
 use Rattle.chokejudge.proofs.choke.reaches.Goals as goal
 use Rattle.chokejudge.proofs.choke.reaches.Goals.{then-has_lift-via-then-has_lift, then-has_lift-via-else-has_lift+then-has_bay, Else-has_bay}
@@ -45,7 +46,7 @@ grow-requires c =
       (
         floor.job.cells,
         floor.near.rows,
-        λ v m. let (p, i, e) = in_unmap (λ (p : Point). p.cell) v a.points.now m in rw e at (floor.points_known p.step p.cell i),
+        λ v m. let (p, i, e) = in_unmap (λ (p : Point). p.cell) v a.points.now (cell_part a.points.now c.loop-t.layer.opens c.loop-t.layer.closed v m) in rw e at (floor.points_known p.step p.cell i),
         older_known floor h,
       ),
     )

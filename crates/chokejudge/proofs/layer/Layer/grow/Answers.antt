@@ -2,14 +2,12 @@
 use mathlib.Core.Logic.{⊎_elim, inl, inr}
 use Rattle.chokejudge.specs.ChokeLayers.{Side}
 use Rattle.chokejudge.proofs.GrownLaws.{grown_as, grown_then, older_some}
-use Rattle.chokejudge.proofs.PointLaws.{cell_part}
 use Rattle.chokejudge.proofs.layer.Layer.grow.Goals as goal
 
 pub rejoin-requires : goal.rejoin-requires
 rejoin-requires c =
     let p = c.requires.1 in
-    let s = c.args.self.now in
-    (p.0, p.1, λ v m. p.2 v (cell_part c.args.points.now s.opens s.closed v m))
+    (p.0, p.1, p.2)
 
 pub returns : goal.returns
 returns c =
@@ -17,4 +15,4 @@ returns c =
     let near = c.args.neighbours.now in
     let grown = grown_as (λ v. let same = older_some g (Side near v) in
     (⊎_elim (λ p. inl p) (λ p. inr (p.0, same.0 p.1)), ⊎_elim (λ p. inl p) (λ p. inr (p.0, same.1 p.1)))) (grown_then g c.rejoin.ensures) in
-    (record { added = grown.added; queue = grown.queue; closed = grown.closed; kept = grown.kept; only = grown.only; all = grown.all }, c.len-tail.ensures.value)
+    (record { added = grown.added; queue = grown.queue; count = grown.count; closed = grown.closed; kept = grown.kept; only = grown.only; all = grown.all }, c.len-tail.ensures.value)
