@@ -3,7 +3,7 @@ use Rattle.std.specs.Prelude.{ℕ, ◌<◌, ◌≡◌, List, map, length, get_or
 use Rattle.model.specs.Job.{Job}
 use Rattle.job.specs.declared.state.Call.{Call}
 use Rattle.job.specs.declared.held.Ride.{Ride}
-use Rattle.job.specs.Lists.{as_call}
+use Rattle.job.specs.Lists.{cells_of}
 use Rattle.job.specs.Held.{as_path}
 use Rattle.floor.specs.Tables.{CartOn}
 use Rattle.floor.specs.Order.{Order}
@@ -12,9 +12,9 @@ use Rattle.network.specs.Traced.{Traced}
 use Rattle.answer.specs.Trail.{back_from}
 use Rattle.answer.specs.Spares.{AllKept, ride_at}
 
--- The list of calls, the table of carts and the order are the job's.
+-- The calls' cells, the table of carts and the order are the job's.
 pub record FullFlow (j : Job) (calls : List Call) (cart_on order : List ℕ) (grid : Grid) (s : List ℕ) : Type 0 where
-  pub listed : j.calls ≡ map as_call calls
+  pub listed : map (λ q. q.cell) j.calls ≡ cells_of calls
   pub carts : CartOn j cart_on
   pub ordered : Order j order
   pub kept : AllKept j grid s

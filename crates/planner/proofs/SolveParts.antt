@@ -20,6 +20,7 @@ use Rattle.route.specs.declared.serve.Unserved.{Unserved}
 use Rattle.answer.specs.Cut.{Failed}
 use Rattle.answer.specs.Full.{FullFlow, PathsTraced, PathsWritten}
 use Rattle.answer.specs.Spares.{Unkept, AllKept}
+use Rattle.answer.proofs.Calls.{cells_listed}
 use Rattle.planner.specs.Solved.{ServedAll, AllServed}
 
 -- The grid that is made of the last step.
@@ -45,7 +46,7 @@ module _ (a : lists.Job) {cart_on order : List ℕ} {g : Grid} {s : List ℕ} (h
 
   module _ {s' : List ℕ} (k : AllKept (job_of a) g s') where
     pub kept_flow : FullFlow (job_of a) a.calls.items cart_on order g s'
-    kept_flow = record { listed = refl; carts = h.carts; ordered = h.ordered; kept = k }
+    kept_flow = record { listed = cells_listed (job_of a) a.calls.items refl; carts = h.carts; ordered = h.ordered; kept = k }
 
     pub paths_written : {rides : List Ride} → length rides ≡ length a.carts.items → PathsTraced (job_of a) order s' rides (length a.calls.items)
         → PathsWritten (job_of a) a.carts.items (length a.calls.items) order g s' rides

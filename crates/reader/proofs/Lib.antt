@@ -1,4 +1,6 @@
+pub mod Tests
 pub mod Noted
+pub mod Entries
 pub mod Words
 pub mod Scans
 pub mod Turns

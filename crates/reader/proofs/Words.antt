@@ -29,6 +29,30 @@ strips_as (a ∷ w) (b ∷ s) = go (eqb b a) (strips_as w s)
     go true h = h
     go false h = refl
 
+-- The first of the five words that opens the line.
+module _ (l : List ℕ) where
+  pub word_floor : opens floor_word l ≡ true → opened Floor 6 l ≡ word_of l
+  word_floor f = simp f
+
+  module _ (f : opens floor_word l ≡ false) where
+    pub word_track : opens track_word l ≡ true → opened Track 6 l ≡ word_of l
+    word_track t = simp (f, t)
+
+    module _ (t : opens track_word l ≡ false) where
+      pub word_cart : opens cart_word l ≡ true → opened Cart 5 l ≡ word_of l
+      word_cart c = simp (f, t, c)
+
+      module _ (c : opens cart_word l ≡ false) where
+        pub word_call : opens call_word l ≡ true → opened (Call Lift) 5 l ≡ word_of l
+        word_call d = simp (f, t, c, d)
+
+        module _ (d : opens call_word l ≡ false) where
+          pub word_bay : opens bay_word l ≡ true → opened (Call Bay) 4 l ≡ word_of l
+          word_bay e = simp (f, t, c, d, e)
+
+          pub word_unknown : opens bay_word l ≡ false → None ≡ word_of l
+          word_unknown e = simp (f, t, c, d, e)
+
 -- What a line says by the word that opens it.
 unfoldable pub word_says : model.Job → Option (Kind × List ℕ) → Said
 word_says j (Some (k, fields)) = fields_say scaled_of j (kind_of k) (fields_of fields)

@@ -1,6 +1,6 @@
 // A job while its lines are read. A line goes in behind those before it, or fails the first of five tests, which are made in their order over the
 // whole line.
-ghost use Rattle.std.specs.Prelude.{◌≡◌, [], ◌∷◌, ◌≤◌, true};
+ghost use Rattle.std.specs.Prelude.{◌≡◌, [], ◌∷◌, ◌≤◌, true, OnErr};
 ghost use Rattle.std.proofs.Math.Option.{some};
 ghost use Rattle.model.specs.Limits.{max_cells};
 ghost use Rattle.model.specs.Text.{fields_of, scaled_of};
@@ -124,9 +124,10 @@ impl Draft {
         }
     }
 
-    // Takes in the line of this kind with these numbers, or the first test that they fail.
+    // Takes in the line of this kind with these numbers, or the first test that they fail: then nothing changed.
     fn take_numbers(&mut self, kind: Kind, a: usize, b: usize) -> Result<(), Fault>
-        ensures { said result (job_of self.new.job) ≡ numbers_say (job_of self.old.job) (kind_of kind) (some (a ∷ b ∷ [])) }
+        ensures says { said result (job_of self.new.job) ≡ numbers_say (job_of self.old.job) (kind_of kind) (some (a ∷ b ∷ [])) }
+        ensures kept { OnErr result (self.new ≡ self.old) }
     {
         if !self.in_range(kind, a, b) {
             return Err(Fault::Range);
@@ -142,9 +143,10 @@ impl Draft {
         Ok(())
     }
 
-    // Takes in the line of this kind with these fields.
+    // Takes in the line of this kind with these fields, or nothing.
     fn take_fields(&mut self, kind: Kind, fields: &[u8]) -> Result<(), Fault>
-        ensures { said result (job_of self.new.job) ≡ fields_say scaled_of (job_of self.old.job) (kind_of kind) (fields_of fields.now) }
+        ensures says { said result (job_of self.new.job) ≡ fields_say scaled_of (job_of self.old.job) (kind_of kind) (fields_of fields.now) }
+        ensures kept { OnErr result (self.new ≡ self.old) }
     {
         if !self.may_follow(kind) {
             return Err(Fault::Form);
@@ -153,10 +155,11 @@ impl Draft {
         self.take_numbers(kind, a, b)
     }
 
-    // Takes in a line. The word at its start decides, and what follows the word and its tab goes on as the fields. They are read at one place, so
+    // Takes in a line, or nothing where it is wrong. The word at its start decides, and what follows the word and its tab goes on as the fields. They are read at one place, so
     // that the compiler puts all of it in line.
     pub fn take(&mut self, line: &[u8]) -> Result<(), Fault>
-        ensures { said result (job_of self.new.job) ≡ line_says scaled_of (job_of self.old.job) line.now }
+        ensures says { said result (job_of self.new.job) ≡ line_says scaled_of (job_of self.old.job) line.now }
+        ensures kept { OnErr result (self.new ≡ self.old) }
     {
         let Some((kind, fields)) = line::word_of(line) else {
             return Err(Fault::Form);

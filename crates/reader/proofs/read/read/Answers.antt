@@ -32,7 +32,7 @@ fault_late Doubled = omega arith
 pub returns-in-Err : goal.returns-in-Err
 returns-in-Err c =
     let first = rw c.in-Some.is at c.next.ensures.said in
-    let wrong = rw c.in-Err.is at c.take.ensures in
+    let wrong = rw c.in-Err.is at c.take.ensures.says in
     rw c.from-answer.ensures record {
       says = ends_wrong c.loop-lines.invariant _ _ first (answer_to c.in-Err.fault) wrong;
       bounded = (fault_late c.in-Err.fault, omega arith);
@@ -41,5 +41,5 @@ returns-in-Err c =
 pub loop-lines-preserved : goal.loop-lines-preserved
 loop-lines-preserved c =
     let first = rw c.in-Some.is at c.next.ensures.said in
-    let right = rw c.in_default-take.is at c.take.ensures in
+    let right = rw c.in_default-take.is at c.take.ensures.says in
     so_far_next c.loop-lines.invariant _ _ first (job_of c.take.new.self.job) right

@@ -4,5 +4,5 @@ use Rattle.job.specs.Lists.{job_of}
 use Rattle.reader.proofs.Words.{part_says}
 use Rattle.reader.proofs.draft.Draft.take.Goals as goal
 
-pub returns : goal.returns
-returns c = c.take_fields.ensures ∙ part_says (job_of c.args.self.now.job) c.args.line.now _ _ (rw c.in-Some.is at c.word_of.ensures)
+pub returns-clause-says : goal.returns-clause-says
+returns-clause-says c = c.take_fields.ensures.says ∙ part_says (job_of c.args.self.now.job) c.args.line.now _ _ (rw c.in-Some.is at c.word_of.ensures)
