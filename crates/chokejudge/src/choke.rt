@@ -15,7 +15,7 @@ ghost use Rattle.chokejudge.specs.Chains.{Chained};
 use crate::calls::Meetings;
 use crate::layer::{Layer, Point};
 use arrayvec::ArrayVec;
-use floor::order::rises;
+use floor::order::choke_rises;
 use floor::tables::Neighbours;
 use job::held::Choke;
 use job::state::{Call, Job};
@@ -25,7 +25,7 @@ fn in_order(chokes: &[Choke]) -> bool
     ensures { Decides result (ChokesInOrder (as_chokes chokes.now)) }
 {
     for pair in chokes.windows(2) {
-        if !rises(&pair[0], &pair[1]) {
+        if !choke_rises(&pair[0], &pair[1]) {
             return false;
         }
     }

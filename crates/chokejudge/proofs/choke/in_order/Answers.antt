@@ -36,15 +36,15 @@ loop-pair-preserved c =
     let (size, few, rest, rose) = c.loop-pair.invariant in
     let (next, behind, room, first, second) = window (goal.at.loop-pair-preserved c).In-Some in
     let i = length xs - length (windows_rest c.loop-pair.pair-iterator) in
-    let here : Rises (as_choke (get_or xs i no_choke)) (as_choke (get_or xs (i + 1) no_choke)) = rw (first, second) at (c.rises.ensures.0 c.if-not-rises.false) in
+    let here : Rises (as_choke (get_or xs i no_choke)) (as_choke (get_or xs (i + 1) no_choke)) = rw (first, second) at (c.choke_rises.ensures.0 c.if-not-choke_rises.false) in
     (c.next.ensures.steps.0 ∙ size, omega arith, behind, λ k h. ⊎_elim (λ e. rw e here) (λ l. rose k l) (eq-or-lt_of_le {n = k} {m = i} (omega arith)))
 
-pub returns-then-not-rises : goal.returns-then-not-rises
-returns-then-not-rises c =
+pub returns-then-not-choke_rises : goal.returns-then-not-choke_rises
+returns-then-not-choke_rises c =
     let xs = c.args.chokes.now in
-    let (next, behind, room, first, second) = window (goal.at.returns-then-not-rises c).In-Some in
+    let (next, behind, room, first, second) = window (goal.at.returns-then-not-choke_rises c).In-Some in
     let i = length xs - length (windows_rest c.loop-pair.pair-iterator) in
-    denied (λ o. c.rises.ensures.1 c.if-not-rises.true (rw (first, second) (order_at xs o i (omega (arith, c.loop-pair.invariant.1)))))
+    denied (λ o. c.choke_rises.ensures.1 c.if-not-choke_rises.true (rw (first, second) (order_at xs o i (omega (arith, c.loop-pair.invariant.1)))))
 
 pub returns : goal.returns
 returns c =
