@@ -3,5 +3,6 @@
 
 pub mod bits;
 pub mod held;
+pub mod list;
 pub mod size;
 pub mod state;

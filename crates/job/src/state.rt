@@ -1,5 +1,5 @@
 // A job as its lines say it. The lists lie in the job itself, each with room for as many as the limit allows.
-use arrayvec::ArrayVec;
+use crate::list::List;
 use model::Limits;
 
 // The two cells that a track joins, in the order of its line.
@@ -24,10 +24,10 @@ pub struct Call {
 }
 
 // A cart is the cell that it starts on.
-#[derive(Drop)]
+#[derive(Clone, Copy)]
 pub struct Job {
     pub cells: usize,
-    pub tracks: ArrayVec<Track, { Limits::TRACKS }>,
-    pub carts: ArrayVec<u8, { Limits::CARTS }>,
-    pub calls: ArrayVec<Call, { Limits::CALLS }>,
+    pub tracks: List<Track, { Limits::TRACKS }>,
+    pub carts: List<u8, { Limits::CARTS }>,
+    pub calls: List<Call, { Limits::CALLS }>,
 }

@@ -11,8 +11,8 @@ ghost use Rattle.reader.specs.Table.{Noted};
 
 use crate::line;
 use crate::line::{Fault, Kind, Line};
-use arrayvec::ArrayVec;
 use job::bits::{Bits, pair};
+use job::list::List;
 use job::state::Job;
 use model::Limits;
 
@@ -42,9 +42,9 @@ impl Draft {
         Draft {
             job: Job {
                 cells: 0,
-                tracks: ArrayVec::new(),
-                carts: ArrayVec::new(),
-                calls: ArrayVec::new(),
+                tracks: List::new(),
+                carts: List::new(),
+                calls: List::new(),
             },
             seen: Bits::new(),
         }

@@ -11,8 +11,8 @@ ghost use Rattle.sheet.specs.Parts.{choke_read, chokes_read};
 
 use crate::BadLine;
 use crate::numbers::{first_number, only_number};
-use arrayvec::ArrayVec;
 use job::held::Choke;
+use job::list::List;
 use job::state::{CallKind, Job};
 use model::Limits;
 use text::lines::Lines;
@@ -23,7 +23,7 @@ fn whole_line(job: &Job, line: &[u8]) -> Option<Choke>
     ensures { choke_read result ≡ whole_of (job_of job.now) (numbers_after whole_word line.now) }
 {
     let call = only_number(line, b"CHOKE\tCALL\t")?;
-    match job.calls.get(call)?.kind {
+    match job.calls.as_slice().get(call)?.kind {
         CallKind::Lift => Some(Choke::Call { call: call as u8 }),
         CallKind::Bay => None,
     }
@@ -52,13 +52,13 @@ pub fn read_chokes(
     job: &Job,
     lines: &mut Lines,
     count: usize,
-) -> Result<ArrayVec<Choke, { Limits::CALLS }>, BadLine>
+) -> Result<List<Choke, { Limits::CALLS }>, BadLine>
     requires { (job.now.cells ≤ max_cells) × (count ≤ max_calls) }
     ensures said { chokes_read result ≡ rest_says bad (choke_line (job_of job.now)) cannot [] count 2 (lines_of (rest_of lines.old)) }
     ensures number { IfErr result (λ bad. bad.line ≤ count + 2) }
 {
     let latest = job.last_step();
-    let mut chokes = ArrayVec::new();
+    let mut chokes = List::new();
     for k in 0..count {
         let bad = BadLine { line: 2 + k };
         let line = lines.next().ok_or(bad)?;

@@ -13,8 +13,8 @@ ghost use Rattle.model.specs.ReadSheet.{read_sheet};
 ghost use Rattle.job.specs.Lists.{job_of};
 ghost use Rattle.sheet.specs.Form.{form_of};
 
-use arrayvec::ArrayVec;
 use job::held::{Choke, Ride};
+use job::list::List;
 use job::state::Job;
 use model::Limits;
 use text::lines::Lines;
@@ -26,10 +26,10 @@ pub struct BadLine {
 }
 
 // What a sheet in the form is: a plan, whose paths and spare carts' rides lie with the reader's caller, or choke points.
-#[derive(Drop)]
+#[derive(Clone, Copy)]
 pub enum Sheet {
     Plan,
-    Cannot(ArrayVec<Choke, { Limits::CALLS }>),
+    Cannot(List<Choke, { Limits::CALLS }>),
 }
 
 // A plan's paths and then its spare carts' rides go into `rides`, which hold anything where the sheet is no plan.

@@ -60,7 +60,7 @@ fn path_line(job: &Job, line: &[u8], ride: &mut Ride) -> Option<()>
     if job.carts.len() <= cart.value {
         return None;
     }
-    let due = job.calls.get(call.value)?;
+    let due = job.calls.as_slice().get(call.value)?;
     ride.cart = cart.value as u8;
     ride.call = call.value as u8;
     ride_cells(

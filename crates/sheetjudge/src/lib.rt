@@ -33,11 +33,13 @@ pub fn judge_sheet(job: &Job, sheet: &[u8]) -> Result<Answer, Refusal>
                 line: bad.line,
             });
         }
-        Ok(Sheet::Plan) => (planjudge::plan::is_plan(job, rides), Answer::Plan),
-        Ok(Sheet::Cannot(chokes)) => (
-            chokejudge::choke::is_choke_list(job, chokes.as_slice()),
-            Answer::Cannot,
-        ),
+        Ok(read) => match read {
+            Sheet::Plan => (planjudge::plan::is_plan(job, rides), Answer::Plan),
+            Sheet::Cannot(chokes) => (
+                chokejudge::choke::is_choke_list(job, chokes.as_slice()),
+                Answer::Cannot,
+            ),
+        },
     };
     if !right {
         return Err(Refusal {

@@ -31,15 +31,15 @@ returns-in_err-due c =
     let s = c.args.job.now in
     ap (λ r. if_read r (as_path c.args.ride.now)) c.from_residual-in_err-due.ensures
     ∙ sym (path_no_call (job_of s) c.args.line.now (sym c.first_number.ensures.number ∙ c.in_ok-cart.was) (sym c.number.ensures ∙ c.in_ok-call.was) (omega arith)
-    (call_missing s c.deref.ensures.0 c.in_ok-call.call.value c.in_err-due.ensures.lookup.3))
+    (call_missing s c.as_slice.ensures.value c.in_ok-call.call.value c.in_err-due.ensures.lookup.3))
 
 pub ride_cells-requires : goal.ride_cells-requires
 ride_cells-requires c =
     let s = c.args.job.now in
     let b = c.in_ok-call.call.value in
     let (h, q) = c.in_ok-due.ensures.lookup.3 in
-    let k = c.requires.fit.known_calls _ (in_get_or (job_of s).calls b (call lift 0 0) (call_within s c.deref.ensures.0 b h)) in
-    let d = ap (λ x. x.deadline) (call_found s c.deref.ensures.0 b (q no_call)) in
+    let k = c.requires.fit.known_calls _ (in_get_or (job_of s).calls b (call lift 0 0) (call_within s c.as_slice.ensures.value b h)) in
+    let d = ap (λ x. x.deadline) (call_found s c.as_slice.ensures.value b (q no_call)) in
     (c.requires.fit.few_cells, number_inside _ _ _ _ (sym c.number.ensures ∙ c.in_ok-call.was), omega (arith, k.1, d, c.from.ensures))
 
 pub returns : goal.returns
@@ -47,9 +47,9 @@ returns c =
     let s = c.args.job.now in
     let b = c.in_ok-call.call.value in
     let (h, q) = c.in_ok-due.ensures.lookup.3 in
-    let due = call_found s c.deref.ensures.0 b (q no_call) in
+    let due = call_found s c.as_slice.ensures.value b (q no_call) in
     let r = c.ride_cells in
     held_path r.result r.new.ride r.ensures.1 r.ensures.2
     ∙ ap (made (λ ws. record { cart = c.in_ok-cart.cart.value; call = b; cells = ws })) r.ensures.0
     ∙ sym (path_known (job_of s) c.args.line.now (sym c.first_number.ensures.number ∙ c.in_ok-cart.was) (sym c.number.ensures ∙ c.in_ok-call.was) (omega arith)
-    (call_within s c.deref.ensures.0 b h) (ap (λ x. x.kind) due) (ap (λ x. x.deadline) due ∙ sym c.from.ensures))
+    (call_within s c.as_slice.ensures.value b h) (ap (λ x. x.kind) due) (ap (λ x. x.deadline) due ∙ sym c.from.ensures))
