@@ -15,6 +15,7 @@ use crate::walks::Floor;
 use job::held;
 use job::state::Job;
 
+#[inline(never)]
 pub fn is_plan(job: &Job, rides: &[held::Ride]) -> bool
     requires ready { Ready (job_of job.now) }
     requires size { length rides.now ≡ length (job_of job.now).carts }
@@ -31,7 +32,8 @@ pub fn is_plan(job: &Job, rides: &[held::Ride]) -> bool
     if !spares_rise(spares) {
         return false;
     }
-    let floor = Floor::of(job);
+    let mut floor = Floor::new();
+    floor.fill(job);
     if !floor.all_lead(carts, calls, paths) {
         return false;
     }

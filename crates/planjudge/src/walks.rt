@@ -1,7 +1,8 @@
 // Whether a ride is a walk: by a table of the tracks, and one of the steps at which cells close.
-ghost use Rattle.std.specs.Prelude.{◌<◌, map};
-ghost use Rattle.model.specs.Limits.{max_steps};
+ghost use Rattle.std.specs.Prelude.{◌≡◌, ◌<◌, ◌/◌, map, replicate};
+ghost use Rattle.model.specs.Limits.{max_cells, max_steps};
 ghost use Rattle.model.specs.Ready.{Ready};
+ghost use Rattle.job.specs.Bits.{pairs_below};
 ghost use Rattle.job.specs.Lists.{as_track, job_of};
 ghost use Rattle.job.specs.Held.{as_ride, Decides};
 ghost use Rattle.planjudge.specs.PlanTests.{IsFloor, CallsKnown, CartsKnown, Marks, Goes, Allowed, Walks, Led, AllLed, AllStay};
@@ -24,27 +25,35 @@ pub struct Floor {
     shut: [u16; Limits::CELLS],
 }
 
-// The tracks in a table.
-fn joined(tracks: &[Track]) -> Bits<{ BYTES }>
-    ensures { Marks (map as_track tracks.now) result.bytes }
-{
-    let mut table = Bits::new();
-    for track in tracks {
-        table.add(pair(usize::from(track.from), usize::from(track.to)));
-    }
-    table
-}
-
 impl Floor {
-    // That of a job.
-    pub fn of(job: &Job) -> Floor
-        requires { Ready (job_of job.now) }
-        ensures { IsFloor (job_of job.now) result }
+    // Before anything is known: no track, and nothing open.
+    pub fn new() -> Floor
+        ensures { result.joined.bytes ≡ replicate (pairs_below max_cells / 8) 0 }
     {
         Floor {
-            joined: joined(job.tracks.as_slice()),
-            shut: bays(job.calls.as_slice()),
+            joined: Bits::new(),
+            shut: [0; Limits::CELLS],
         }
+    }
+
+    // Marks the tracks.
+    fn join(&mut self, tracks: &[Track])
+        requires { self.old.joined.bytes ≡ replicate (pairs_below max_cells / 8) 0 }
+        ensures { Marks (map as_track tracks.now) self.new.joined.bytes }
+    {
+        for track in tracks {
+            self.joined
+                .add(pair(usize::from(track.from), usize::from(track.to)));
+        }
+    }
+
+    // Makes a new one that of a job. It is filled where it stands: one that is answered is copied four times, and the copies take 17 KB of the stack.
+    pub fn fill(&mut self, job: &Job)
+        requires { Ready (job_of job.now) × (self.old.joined.bytes ≡ replicate (pairs_below max_cells / 8) 0) }
+        ensures { IsFloor (job_of job.now) self.new }
+    {
+        self.join(job.tracks.as_slice());
+        self.shut = bays(job.calls.as_slice());
     }
 
     // Whether a cart may go from u to v in a step.

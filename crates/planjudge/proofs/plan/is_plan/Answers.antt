@@ -66,7 +66,7 @@ pub returns-then-not-all_lead : goal.returns-then-not-all_lead
 returns-then-not-all_lead c =
     let s = (goal.at.returns-then-not-all_lead c).After-split_at in
     denied (λ r. c.all_lead.ensures.1 c.if-not-all_lead.true
-    (rw (c.as_slice-carts.ensures.value, c.as_slice-calls.ensures.value) (plan_led (given s) c.of-floor.ensures (parts s r).0.served.leads)))
+    (rw (c.as_slice-carts.ensures.value, c.as_slice-calls.ensures.value) (plan_led (given s) c.fill.ensures (parts s r).0.served.leads)))
 
 pub all_stay-requires : goal.all_stay-requires
 all_stay-requires c = rw c.as_slice-carts.ensures.value (spares_carts (given (goal.at.all_stay-requires c).After-split_at))
@@ -74,7 +74,7 @@ all_stay-requires c = rw c.as_slice-carts.ensures.value (spares_carts (given (go
 pub returns-then-not-all_stay : goal.returns-then-not-all_stay
 returns-then-not-all_stay c =
     let s = (goal.at.returns-then-not-all_stay c).After-split_at in
-    denied (λ r. c.all_stay.ensures.1 c.if-not-all_stay.true (rw c.as_slice-carts.ensures.value (plan_stayed (given s) c.of-floor.ensures (parts s r).0.stay)))
+    denied (λ r. c.all_stay.ensures.1 c.if-not-all_stay.true (rw c.as_slice-carts.ensures.value (plan_stayed (given s) c.fill.ensures (parts s r).0.stay)))
 
 pub returns : goal.returns
 returns c =
@@ -88,6 +88,6 @@ returns c =
     let led = rw (carts, calls) at (c.all_lead.ensures.0 c.if-not-all_lead.false) in
     let stay = rw carts at (c.all_stay.ensures.0 c.if-not-all_stay.false) in
     same_answer
-    (λ f. joined s (tests_right g c.of-floor.ensures order rise led stay (λ t l. rw whole at (f t (omega (arith, l, c.last_step.ensures.0))))))
+    (λ f. joined s (tests_right g c.fill.ensures order rise led stay (λ t l. rw whole at (f t (omega (arith, l, c.last_step.ensures.0))))))
     (λ r t l. rw whole (plan_clear g (parts s r).0 t))
     c.all_clear.ensures

@@ -1,13 +1,9 @@
 -- `read` answers what the text says, by the laws of `Turns`. A line that is wrong is refused by the answer of its test, which is neither PLAN nor CANNOT. Assumes nothing.
-use Prim.Native.Nat.{◌<◌}
 use mathlib.Core.Path.{sym, ◌∙◌}
 use native.Mathlib.Omega.{arith}
-use Rattle.model.specs.declared.answer.Answer.TheVariants.{Cannot}
-use Rattle.model.specs.Answers.{number}
 use Rattle.job.specs.Lists.{job_of}
-use Rattle.reader.specs.declared.line.Fault.{Fault}
-use Rattle.reader.specs.declared.line.Fault.TheVariants.{Form, Number, Range, Room, Doubled}
 use Rattle.reader.specs.Lines.{answer_to}
+use Rattle.reader.proofs.Tests.{fault_late}
 use Rattle.reader.proofs.Turns.{too_long, so_far_first, ends_cut, ends_wrong, so_far_next}
 use Rattle.reader.proofs.read.read.Goals as goal
 
@@ -21,13 +17,6 @@ pub returns-in_default : goal.returns-in_default
 returns-in_default c =
     let (cut, kept) = rw c.in_default.is at c.next.ensures.said in
     record { says = ends_cut c.loop-lines.invariant (sym c.is_done.ensures ∙ c.loop-lines-test.true) cut; bounded = (omega arith, omega arith) }
-
-fault_late : (f : Fault) → number Cannot < number (answer_to f)
-fault_late Form = omega arith
-fault_late Number = omega arith
-fault_late Range = omega arith
-fault_late Room = omega arith
-fault_late Doubled = omega arith
 
 pub returns-in-Err : goal.returns-in-Err
 returns-in-Err c =

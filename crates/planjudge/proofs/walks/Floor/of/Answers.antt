@@ -1,9 +1,0 @@
--- `Floor::of` makes the tables of the job. Assumes nothing.
-use Rattle.floor.proofs.JobTables.{calls_apart, shut_of}
-use Rattle.planjudge.proofs.walks.Floor.of.Goals as goal
-
-pub bays-requires : goal.bays-requires
-bays-requires c = rw c.as_slice-2.ensures.value (calls_apart c.args.job.now c.requires)
-
-pub returns : goal.returns
-returns c = record { marks = rw c.as_slice.ensures.value at c.joined.ensures; shuts = shut_of c.args.job.now (rw c.as_slice-2.ensures.value at c.bays.ensures) }
