@@ -1,4 +1,4 @@
 pub mod Bits
 pub mod Lists
 pub mod Held
-pub mod Listed
+pub mod Items

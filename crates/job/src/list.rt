@@ -14,9 +14,9 @@ pub struct List<T, const CAP: usize> {
 impl<T, const CAP: usize> Model for List<T, CAP> {
     ghost use Rattle.std.specs.Prelude.{◌≡◌, ◌≤◌, ◌++◌, length, take, drop, refl};
     ghost use Rattle.std.proofs.Common.{take-append-drop, length-take-le};
-    ghost use Rattle.job.specs.Listed.{Listed};
+    ghost use Rattle.job.specs.Items.{Items};
 
-    ghost Value = { Listed T };
+    ghost Value = { Items T };
 
     ghost view = { λ l. record { items = take l.len l.places; spare = drop l.len l.places } };
 

@@ -10,7 +10,7 @@ use Rattle.text.specs.declared.Number.{Number}
 use Rattle.text.specs.Scan.{number_at}
 use Rattle.job.specs.declared.held.Choke.{Choke}
 use Rattle.job.specs.Held.{as_choke, as_chokes}
-use Rattle.job.specs.Listed.{Listed}
+use Rattle.job.specs.Items.{Items}
 use Rattle.sheet.specs.declared.BadLine.{BadLine}
 
 -- an answer as the model has it
@@ -76,6 +76,6 @@ abbrev pub unless_bad : {A : Type 0} → Result A BadLine → Sheet → Sheet
 unless_bad (Ok x) sheet = sheet
 unless_bad (Err e) sheet = bad e.line
 
-abbrev pub chokes_read : Result (Listed Choke) BadLine → Sheet
+abbrev pub chokes_read : Result (Items Choke) BadLine → Sheet
 chokes_read (Ok xs) = cannot (as_chokes xs.items)
 chokes_read (Err e) = bad e.line
