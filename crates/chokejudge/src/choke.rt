@@ -72,6 +72,7 @@ fn reaches(
     false
 }
 
+// In a frame of its own, as the judge of plans.
 #[inline(never)]
 pub fn is_choke_list(job: &Job, chokes: &[Choke]) -> bool
     requires { Ready (job_of job.now) × (length chokes.now < length job.now.calls.items) × ((x : choke.Choke) → In x (as_chokes chokes.now) → KnownChoke (job_of job.now) x) }

@@ -15,6 +15,7 @@ use crate::walks::Floor;
 use job::held;
 use job::state::Job;
 
+// In a frame of its own: put in line, its tables and those of choke lists stand on the stack of the check together.
 #[inline(never)]
 pub fn is_plan(job: &Job, rides: &[held::Ride]) -> bool
     requires ready { Ready (job_of job.now) }
