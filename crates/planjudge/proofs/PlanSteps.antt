@@ -157,6 +157,43 @@ module _ (rides : List Ride) (t : ℕ) where
     pub standing_more : Standing rides (k + 1) t on'
     standing_more = record { there = put_there; back = put_back }
 
+  -- who stands on a cell still is one of the rides from k on
+  abbrev pub LeftFrom : ℕ → List (Option ℕ) → Type 0
+  LeftFrom k on = (m c : ℕ) → get_or on c None ≡ Some m → (k ≤ m) × (m < length rides) × At (walk_at rides m) t c
+
+  pub left_none : (on : List (Option ℕ)) → Standing rides (length rides) t on → LeftFrom 0 on
+  left_none on s m c e = let b = s.back m c e in (omega arith, b.0, b.1)
+
+  -- the cart of ride k has left the floor
+  pub left_past : (k : ℕ) (on : List (Option ℕ)) → (ride_at rides k).last < t → LeftFrom k on → LeftFrom (k + 1) on
+  left_past k on h s m c e = let b = s m c e in go b (dec_eq m k)
+    where
+      go : (k ≤ m) × (m < length rides) × At (walk_at rides m) t c → Dec (m ≡ k) → (k + 1 ≤ m) × (m < length rides) × At (walk_at rides m) t c
+      go b (yes q) = let g = b.2.0 in absurd (omega (arith, short (ride_at rides m), ap (λ x. (ride_at rides x).last) q))
+      go b (no n) = (omega (arith, b.0), b.1, b.2)
+
+  -- it is taken off its cell
+  pub left_more : (k : ℕ) (on : List (Option ℕ)) (here : ℕ) → here < length on → At (walk_at rides k) t here → LeftFrom k on → LeftFrom (k + 1) (set on here None)
+  left_more k on here known lives s m c e = go (dec_eq c here)
+    where
+      later : (c ≡ here → ⊥) → (k ≤ m) × (m < length rides) × At (walk_at rides m) t c → Dec (m ≡ k) → (k + 1 ≤ m) × (m < length rides) × At (walk_at rides m) t c
+      later n b (yes q) = let f = rw q at b.2 in absurd (n (sym f.1 ∙ lives.1))
+      later n b (no d) = (omega (arith, b.0), b.1, b.2)
+
+      go : Dec (c ≡ here) → (k + 1 ≤ m) × (m < length rides) × At (walk_at rides m) t c
+      go (yes q) =
+          let f = get_or-set_same on here None None known in
+          let g = ap (λ x. get_or (set on here None) x None) q in
+          absurd (false≢true (cc))
+      go (no n) = later n (s m c (sym (get_or-set_other on here c None None n) ∙ e)) (dec_eq m k)
+
+  pub left_all : (on : List (Option ℕ)) → LeftFrom (length rides) on → (c : ℕ) → get_or on c None ≡ None
+  left_all on s c = go (get_or on c None) (λ m e. e)
+    where
+      go : (o : Option ℕ) → ((m : ℕ) → o ≡ Some m → get_or on c None ≡ Some m) → o ≡ None
+      go None f = refl
+      go (Some m) f = let b = s m c (f m refl) in absurd (omega (arith, b.0, b.1))
+
   pub standing_unshared : (on : List (Option ℕ)) → Standing rides (length rides) t on → Unshared rides t
   standing_unshared on s k m a b (v, x, y) =
       let p = s.there k v a x in

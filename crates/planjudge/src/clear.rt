@@ -59,22 +59,41 @@ fn untraded(rides: &[Ride], t: usize, on: &[Option<u8>; Limits::CELLS]) -> bool
     true
 }
 
-// Whether the carts are in nobody's way at the step t.
-fn clear(rides: &[Ride], t: usize) -> bool
-    requires { (length rides.now ≤ max_carts) × (t < max_steps) }
-    ensures { Decides result (Clear rides.now t) }
+// Takes the carts that stand on their cells at the step t off again.
+fn leave(rides: &[Ride], t: usize, on: &mut [Option<u8>; Limits::CELLS])
+    requires { (length rides.now ≤ max_carts) × (t < max_steps) × Standing rides.now (length rides.now) t on.old }
+    ensures { (c : ℕ) → get_or on.new c None ≡ None }
 {
-    let mut on = [None; Limits::CELLS];
-    stand(rides, t, &mut on) && untraded(rides, t, &on)
+    for ride in rides {
+        if t <= usize::from(ride.last) {
+            on[usize::from(ride.cells[t])] = None;
+        }
+    }
 }
 
-// Whether they are so at every step up to h.
+// Whether the carts are in nobody's way at the step t. The table of who stands where has nobody before, and after a step that is clear.
+fn clear(rides: &[Ride], t: usize, on: &mut [Option<u8>; Limits::CELLS]) -> bool
+    requires { (length rides.now ≤ max_carts) × (t < max_steps) × ((c : ℕ) → get_or on.old c None ≡ None) }
+    ensures { Decides result (Clear rides.now t) × (result ≡ true → (c : ℕ) → get_or on.new c None ≡ None) }
+{
+    if !stand(rides, t, on) {
+        return false;
+    }
+    if !untraded(rides, t, on) {
+        return false;
+    }
+    leave(rides, t, on);
+    true
+}
+
+// Whether they are so at every step up to h. The table is made once: made at every step it takes a third of the check of a few carts.
 pub fn all_clear(rides: &[Ride], h: usize) -> bool
     requires { (length rides.now ≤ max_carts) × (h < max_steps) }
     ensures { Decides result ((t : ℕ) → t ≤ h → Clear rides.now t) }
 {
+    let mut on = [None; Limits::CELLS];
     for t in 0..=h {
-        if !clear(rides, t) {
+        if !clear(rides, t, &mut on) {
             return false;
         }
     }
