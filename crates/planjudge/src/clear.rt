@@ -65,7 +65,8 @@ fn leave(rides: &[Ride], t: usize, on: &mut [Option<u8>; Limits::CELLS])
     ensures { (c : ℕ) → get_or on.new c None ≡ None }
 {
     for ride in rides {
-        if t <= usize::from(ride.last) {
+        let last = usize::from(ride.last);
+        if t <= last {
             on[usize::from(ride.cells[t])] = None;
         }
     }
