@@ -13,7 +13,7 @@ use Rattle.model.proofs.Lists.{in_left, in_right, in_part}
 use Rattle.floor.specs.Tables.{OpenAt}
 use Rattle.floor.proofs.TableLaws.{AfterSet, new, old, after_set}
 use Rattle.chokejudge.specs.declared.layer.Layer.{Layer}
-use Rattle.chokejudge.specs.Grown.{Older, Grown}
+use Rattle.chokejudge.specs.Grown.{Roomy, Older, Grown}
 use Rattle.chokejudge.proofs.Numbers.{zero_or}
 use Rattle.chokejudge.proofs.MemberLaws.{members_add}
 
@@ -82,6 +82,9 @@ module _ {shut : List ℕ} {t : ℕ} {P Q : ℕ → Type 0} {a b c : Layer} (g :
   }
 
 module _ {shut : List ℕ} {t : ℕ} {P : ℕ → Type 0} {a b : Layer} (g : Grown shut t P a b) where
+  pub grown_roomy : Roomy a → Roomy b
+  grown_roomy r = omega (arith, g.count, ap length g.queue, length-append a.queue.items g.added, r)
+
   pub older_same : (v : ℕ) → Older b t v ↔ Older a t v
   older_same v = (λ o. there o (zero_or (get_or a.since v 0)), λ o. (omega (arith, g.kept v o.0, o.0), omega (arith, g.kept v o.0, o.1)))
     where

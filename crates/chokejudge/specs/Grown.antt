@@ -1,5 +1,6 @@
 -- A layer as the check holds it: a table with an entry above 0 for each of its cells, and a queue of the cells that were added; and what an added cell or a choke point does to them.
 use Rattle.std.specs.Prelude.{ℕ, ◌+◌, ◌≤◌, ◌<◌, ◌≡◌, List, ◌++◌, ◌⊎◌, length, get_or, drop, slice_range}
+use Rattle.model.specs.Limits.{max_calls}
 use Rattle.model.specs.Lists.{In}
 use Rattle.floor.specs.declared.tables.Neighbours.{Neighbours}
 use Rattle.floor.specs.Tables.{OpenAt}
@@ -16,6 +17,10 @@ last_cells a = drop a.head a.queue.items
 -- the points of the last step
 abbrev pub last_points : List Point → Layer → List Point
 last_points points a = slice_range points a.opens a.closed
+
+-- There is a place in the queue for each cell that is not in the table.
+abbrev pub Roomy : Layer → Type 0
+Roomy a = length a.queue.items ≤ members a.since + max_calls
 
 -- v was in the layer before the step t.
 abbrev pub Older : Layer → ℕ → ℕ → Type 0
@@ -52,3 +57,4 @@ pub record Gone (points : List Point) (t : ℕ) (a b : Layer) : Type 0 where
   pub queue : b.queue.items ≡ a.queue.items
   pub head : b.head ≡ a.head
   pub cells : Cleared (Choked points t) a.since b.since
+  pub count : members a.since + a.closed ≤ members b.since + b.closed

@@ -1,6 +1,6 @@
 // When the calls are met: up to when the lift on a cell takes a cart, and which bays have a step as theirs, so that a step looks at its own bays only.
 ghost use Rattle.std.specs.Prelude.{◌≡◌, ℕ, ◌<◌, ◌≤◌, length, get_or};
-ghost use Rattle.model.specs.Limits.{max_calls, max_steps};
+ghost use Rattle.model.specs.Limits.{max_cells, max_calls, max_steps};
 ghost use Rattle.model.specs.Job.{lift};
 ghost use Rattle.model.specs.Lists.{In};
 ghost use Rattle.job.specs.Held.{Some, Decides};
@@ -9,7 +9,7 @@ ghost use Rattle.floor.specs.Made.{Differ, Filled, never, closes_at};
 ghost use Rattle.chokejudge.specs.ChokeLayers.{BayAt};
 ghost use Rattle.chokejudge.specs.Grown.{last_cells, Cleared};
 ghost use Rattle.chokejudge.specs.Lifts.{lifted_to, WholeOn, Lifts};
-ghost use Rattle.chokejudge.specs.Chains.{Chained};
+ghost use Rattle.chokejudge.specs.Chains.{Chained, Keyed};
 
 use crate::layer::Layer;
 use job::held::Choke;
@@ -63,6 +63,49 @@ impl Chains {
         }
         false
     }
+}
+
+// The chains of the calls by any table: latest[t] is the last call whose cell has t in it, before[k] the one before call k with the same. A call with an entry past all steps is in
+// none.
+pub fn chain(
+    targets: &[u8; Limits::CALLS],
+    calls: usize,
+    shut: &[u16],
+    latest: &mut [Option<u8>],
+    before: &mut [Option<u8>],
+)
+    requires { (calls ≤ max_calls) × (length shut.now ≡ max_cells) × (length latest.old ≡ never) × (length before.old ≡ max_calls) }
+    ensures { Keyed (λ k. get_or shut.now (get_or targets.now k 0) 0) calls latest.new before.new }
+{
+    latest.fill(None);
+    for k in 0..calls {
+        let t = usize::from(shut[usize::from(targets[k])]);
+        if t <= Limits::STEPS {
+            before[k] = latest[t];
+            latest[t] = Some(k as u8);
+        }
+    }
+}
+
+// Whether a call whose key is t has its cell in the table, by the chains of any keys.
+pub fn has_bay(
+    targets: &[u8; Limits::CALLS],
+    latest: &[Option<u8>],
+    before: &[Option<u8>],
+    t: usize,
+    since: &[u16],
+) -> bool
+    requires { (t < never) × (length since.now ≡ max_cells) × ((key : ℕ → ℕ) × (calls : ℕ) × (calls ≤ max_calls) × Keyed key calls latest.now before.now) }
+    ensures { (key : ℕ → ℕ) → (calls : ℕ) → (calls ≤ max_calls) × Keyed key calls latest.now before.now → Decides result (Some calls (λ k. (key k ≡ t) × (0 < get_or since.now (get_or targets.now k 0) 0))) }
+{
+    let mut next = latest[t];
+    while let Some(k) = next {
+        if 0 < since[usize::from(targets[usize::from(k)])] {
+            return true;
+        }
+        next = before[usize::from(k)];
+    }
+    false
 }
 
 // One more than the last step at which a call's cart is lifted; a bay lifts none.

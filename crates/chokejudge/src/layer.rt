@@ -2,7 +2,7 @@
 // the next they stay but for its choke points, and only two kinds of cells can add to them: those added at the step before, and the choke points of the step before. shut[v] is
 // the first step at which v is closed, and no cell is added from then on.
 ghost use Rattle.std.specs.Prelude.{◌≡◌, ◌⊎◌, [], ℕ, ◌+◌, ◌<◌, ◌≤◌, length, get_or, replicate};
-ghost use Rattle.model.specs.Limits.{max_cells, max_calls};
+ghost use Rattle.model.specs.Limits.{max_cells};
 ghost use Rattle.model.specs.Lists.{In};
 ghost use Rattle.job.specs.Held.{Decides};
 ghost use Rattle.floor.specs.Tables.{OpenAt};
@@ -34,7 +34,6 @@ pub struct Layer {
     closed: usize,
     ghost added: { head ≤ length queue.items },
     ghost last: { opens ≤ closed },
-    ghost few: { closed ≤ max_calls },
     ghost room: { length queue.items ≤ members since + closed },
 }
 
@@ -47,7 +46,7 @@ fn is_open(shut: &[u16; Limits::CELLS], v: u8, t: u16) -> bool
 impl Layer {
     ghost use Rattle.floor.specs.Tables.{Rows};
     ghost use Rattle.chokejudge.specs.ChokeLayers.{Choked};
-    ghost use Rattle.chokejudge.specs.Grown.{last_cells, last_points, Older, Again, Onward, Grown, Gone};
+    ghost use Rattle.chokejudge.specs.Grown.{last_cells, last_points, Roomy, Older, Again, Onward, Grown, Gone};
     ghost use Rattle.chokejudge.specs.Points.{cells_of, Climbs, Cursor};
 
     // No cell is in it.
@@ -78,6 +77,7 @@ impl Layer {
 
     // Adds v where it is not in the layer, and is open at step t.
     fn add(&mut self, shut: &[u16; Limits::CELLS], v: u8, t: u16)
+        requires { Roomy self.old }
         ensures { Grown shut.now t (λ x. x ≡ v) self.old self.new × (self.new.head ≡ self.old.head) }
     {
         if !self.has(v) && is_open(shut, v, t) {
@@ -88,6 +88,7 @@ impl Layer {
 
     // Adds the cells of a row.
     pub fn spread(&mut self, row: &[u8], shut: &[u16; Limits::CELLS], t: u16)
+        requires { Roomy self.old }
         ensures { Grown shut.now t (λ x. In x row.now) self.old self.new × (self.new.head ≡ self.old.head) }
     {
         for &v in row {
@@ -118,7 +119,7 @@ impl Layer {
         points: &[Point],
         t: u16,
     )
-        requires { (floor : ℕ) × Rows floor neighbours.now.near neighbours.now.begin × ((v : ℕ) → In v (cells_of points.now) → v < floor) }
+        requires { Roomy self.old × ((floor : ℕ) × Rows floor neighbours.now.near neighbours.now.begin × ((v : ℕ) → In v (cells_of points.now) → v < floor)) }
         ensures { Grown shut.now t (Again neighbours.now points.now self.old t) self.old self.new }
     {
         for point in points {
@@ -130,7 +131,7 @@ impl Layer {
 
     // Adds what the older cells of the last step lead to. They are gone over by their places, since the queue grows meanwhile.
     fn advance(&mut self, neighbours: &Neighbours, shut: &[u16; Limits::CELLS], t: u16)
-        requires { (floor : ℕ) × Rows floor neighbours.now.near neighbours.now.begin × ((v : ℕ) → Older self.old t v → v < floor) }
+        requires { Roomy self.old × ((floor : ℕ) × Rows floor neighbours.now.near neighbours.now.begin × ((v : ℕ) → Older self.old t v → v < floor)) }
         ensures { Grown shut.now t (Onward neighbours.now self.old t) self.old self.new }
     {
         for i in self.head..self.queue.len() {
@@ -149,7 +150,7 @@ impl Layer {
         points: &[Point],
         t: u16,
     )
-        requires { (self.old.closed ≤ length points.now) × ((floor : ℕ) × Rows floor neighbours.now.near neighbours.now.begin × ((v : ℕ) → In v (cells_of (last_points points.now self.old)) → v < floor) × ((v : ℕ) → Older self.old t v → v < floor)) }
+        requires { Roomy self.old × (self.old.closed ≤ length points.now) × ((floor : ℕ) × Rows floor neighbours.now.near neighbours.now.begin × ((v : ℕ) → In v (cells_of (last_points points.now self.old)) → v < floor) × ((v : ℕ) → Older self.old t v → v < floor)) }
         ensures { Grown shut.now t (λ v. Onward neighbours.now self.old t v ⊎ Again neighbours.now (last_points points.now self.old) self.old t v) self.old self.new × (self.new.head ≡ length self.old.queue.items) }
     {
         let tail = self.queue.len();
@@ -161,7 +162,7 @@ impl Layer {
 
     // Takes the choke points of step t out.
     pub fn close(&mut self, points: &[Point], t: u16)
-        requires { Climbs points.now × (length points.now ≤ max_calls) × Cursor points.now t self.old.closed }
+        requires { Climbs points.now × Cursor points.now t self.old.closed }
         ensures { Gone points.now t self.old self.new }
     {
         self.opens = self.closed;

@@ -42,6 +42,7 @@ grow-requires c =
     let a = c.args in
     let (few, calls_few, points_few, climbs, floor, closing, chained) = c.requires in
     let h = c.loop-t.invariant.0 in (
+      omega (arith, h.to.few, points_few),
       h.to.few,
       (
         floor.job.cells,

@@ -15,7 +15,7 @@ free : (c : Then-not-has) → get_or c.args.self.now.since c.args.v 0 ≡ 0
 free c = none (c.has.ensures.1 c.if-not-has.true)
 
 pub push-requires : goal.push-requires
-push-requires c = (search rules, omega (arith, members_room c.args.self.now.since c.args.v (omega arith) (free (goal.at.push-requires c).Then-not-has)))
+push-requires c = (search rules, omega (arith, c.requires, members_room c.args.self.now.since c.args.v (omega arith) (free (goal.at.push-requires c).Then-not-has)))
 
 pub invariant_of-self-clause-room : goal.invariant_of-self-clause-room
 invariant_of-self-clause-room c =

@@ -10,11 +10,6 @@ use Rattle.chokejudge.proofs.MemberLaws.{members_clear}
 use Rattle.chokejudge.proofs.PointLaws.{Taken, slice_at, taken_more, taken_next, taken_all, later}
 use Rattle.chokejudge.proofs.layer.Layer.close.Goals as goal
 
-pub invariant_of-self-in-loop-point-clause-few : goal.invariant_of-self-in-loop-point-clause-few
-invariant_of-self-in-loop-point-clause-few c =
-    let points = c.args.points.now in
-    omega (arith, (slice_at points no_point c.args.self.now.closed (length points) c.loop-point.point-index c.loop-point-test.true).0, c.requires.1)
-
 pub invariant_of-self-in-loop-point-clause-room : goal.invariant_of-self-in-loop-point-clause-room
 invariant_of-self-in-loop-point-clause-room c = omega (arith, members_clear c.loop-point.self.since c.from-in-loop-point.result)
 
@@ -35,6 +30,7 @@ loop-point-preserved c =
           (taken_more points a.t first l.invariant.taken (omega (arith, l.invariant.closed)) (omega (arith, small, l.invariant.closed)) step (omega (arith, cell, l.invariant.taken.cells.size)));
       queue = l.invariant.queue;
       head = l.invariant.head;
+      count = omega (arith, l.invariant.count, members_clear l.self.since c.from-in-loop-point.result);
     }
 
 pub returns-then-from-t : goal.returns-then-from-t
@@ -47,14 +43,15 @@ returns-then-from-t c =
     let (small, e) = slice_at points no_point first (length points) l.point-index c.loop-point-test.true in
     let f : get_or points (first + l.point-index) no_point ≡ get_or points l.self.closed no_point = ap (λ k. get_or points k no_point) (sym l.invariant.closed) in
     let out = rw (c.from.ensures, e, f) at c.if-from-t.true in
-    let behind = later points a.t first p.2 p.0 l.self.closed (omega (arith, l.invariant.closed)) out in
+    let behind = later points a.t first p.1 p.0 l.self.closed (omega (arith, l.invariant.closed)) out in
     let few : l.self.closed ≤ length points = omega (arith, small, l.invariant.closed) in
     record {
       opens = l.invariant.opens;
-      next = taken_next points a.t first l.invariant.taken p.2 few behind;
+      next = taken_next points a.t first l.invariant.taken p.1 few behind;
       queue = ap (λ (q : _). q.items) l.invariant.queue;
       head = l.invariant.head;
-      cells = taken_all points a.t first l.invariant.taken p.2 few behind;
+      cells = taken_all points a.t first l.invariant.taken p.1 few behind;
+      count = l.invariant.count;
     }
 
 pub returns-after-loop-point : goal.returns-after-loop-point
@@ -68,8 +65,9 @@ returns-after-loop-point c =
     let behind : (k : ℕ) → l.self.closed ≤ k → k < length points → a.t < (get_or points k no_point).step = λ k lo hi. absurd (omega arith) in
     record {
       opens = l.invariant.opens;
-      next = taken_next points a.t first l.invariant.taken p.2 few behind;
+      next = taken_next points a.t first l.invariant.taken p.1 few behind;
       queue = ap (λ (q : _). q.items) l.invariant.queue;
       head = l.invariant.head;
-      cells = taken_all points a.t first l.invariant.taken p.2 few behind;
+      cells = taken_all points a.t first l.invariant.taken p.1 few behind;
+      count = l.invariant.count;
     }

@@ -1,7 +1,8 @@
 -- `close` takes the points out from the first of its step on, until one is of a later step. Invariant: the points from `opens` to before `closed` are of step t, and their cells were
 -- taken out. Assumes nothing.
-use Prim.Native.Nat.{◌+◌}
+use Prim.Native.Nat.{◌+◌, ◌≤◌}
 use mathlib.Core.Path.{◌≡◌}
+use Rattle.chokejudge.specs.Members.{members}
 use Rattle.chokejudge.proofs.PointLaws.{Taken}
 use Rattle.chokejudge.proofs.layer.Layer.close.Given as goal
 
@@ -12,4 +13,5 @@ invariant-loop-point l = record {
   taken : Taken l.points l.t l.initial.self.opens l.self.closed l.initial.self.since l.self.since;
   queue : l.self.queue ≡ l.initial.self.queue;
   head : l.self.head ≡ l.initial.self.head;
+  count : members l.initial.self.since + l.initial.self.closed ≤ members l.self.since + l.self.closed;
 }

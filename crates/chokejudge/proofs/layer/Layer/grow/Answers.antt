@@ -1,13 +1,18 @@
 -- `grow` adds what the cells of the last step lead to, then its choke points again. After the first the same cells are older. Assumes nothing.
 use mathlib.Core.Logic.{⊎_elim, inl, inr}
 use Rattle.chokejudge.specs.ChokeLayers.{Side}
-use Rattle.chokejudge.proofs.GrownLaws.{grown_as, grown_then, older_some}
+use Rattle.chokejudge.proofs.GrownLaws.{grown_as, grown_roomy, grown_then, older_some}
 use Rattle.chokejudge.proofs.layer.Layer.grow.Goals as goal
+
+pub advance-requires : goal.advance-requires
+advance-requires c =
+    let p = c.requires.2 in
+    (c.requires.0, (p.0, p.1, p.3))
 
 pub rejoin-requires : goal.rejoin-requires
 rejoin-requires c =
-    let p = c.requires.1 in
-    (p.0, p.1, p.2)
+    let p = c.requires.2 in
+    (grown_roomy c.advance.ensures c.requires.0, (p.0, p.1, p.2))
 
 pub returns : goal.returns
 returns c =

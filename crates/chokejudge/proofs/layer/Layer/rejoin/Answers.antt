@@ -8,7 +8,7 @@ use Rattle.std.proofs.lemmas.List.{length-map}
 use Rattle.chokejudge.specs.declared.layer.Point.{Point}
 use Rattle.chokejudge.specs.ChokeLayers.{Side}
 use Rattle.chokejudge.specs.Points.{cells_of}
-use Rattle.chokejudge.proofs.GrownLaws.{grown_none, grown_as, older_some, each_more, each_all, themselves}
+use Rattle.chokejudge.proofs.GrownLaws.{grown_none, grown_as, grown_roomy, older_some, each_more, each_all, themselves}
 use Rattle.chokejudge.proofs.PointLaws.{cell_at, cell_in}
 use Rattle.chokejudge.proofs.layer.Layer.rejoin.Invariants.{Back}
 use Rattle.chokejudge.proofs.layer.Layer.rejoin.Goals as goal
@@ -16,8 +16,11 @@ use Rattle.chokejudge.proofs.layer.Layer.rejoin.Goals.{then-borders, else-border
 
 pub row-requires : goal.row-requires
 row-requires c =
-    let p = c.requires in
+    let p = c.requires.1 in
     (p.0, p.1, rw c.from.ensures (p.2 _ (cell_in c.args.points.now c.loop-point.point-index c.loop-point-test.true)), omega arith)
+
+pub add-requires : goal.add-requires
+add-requires c = grown_roomy c.loop-point.invariant c.requires.0
 
 pub loop-point-preserved : goal.loop-point-preserved
 loop-point-preserved c =
