@@ -74,7 +74,8 @@ pub fn solve(job: &Job, store: &mut [u8], rides: &mut [Ride]) -> Solution
     let mut store = Store { bytes: store, grid };
     store.wipe();
     let order = floor::order::by_deadline(job.calls.as_slice());
-    let tables = Tables::of(job);
+    let mut tables = Tables::new();
+    tables.fill(job);
     match serve_all(job, &tables, order.as_slice(), &mut store) {
         Ok(()) => {
             write_plan(job, &tables.cart_on, &mut store, order.as_slice(), rides);
