@@ -56,6 +56,15 @@ impl Floor {
         self.shut = bays(job.calls.as_slice());
     }
 
+    pub fn of(job: &Job) -> Floor
+        requires { Ready (job_of job.now) }
+        ensures { IsFloor (job_of job.now) result }
+    {
+        let mut floor = Floor::new();
+        floor.fill(job);
+        floor
+    }
+
     // Whether a cart may go from u to v in a step.
     fn goes(&self, u: u8, v: u8) -> bool
         ensures { Decides result (Goes self.now u v) }
