@@ -19,7 +19,11 @@ use Rattle.chokejudge.proofs.calls.Chains.of.Goals as goal
 use Rattle.chokejudge.proofs.calls.Chains.of.Goals.{then-eq, else-eq}
 
 pub loop-k-init : goal.loop-k-init
-loop-k-init c = record { steps = length-replicate {A = Option ℕ} max_steps None; places = length-replicate {A = Option ℕ} max_calls None; chained = linked_none (BayAt c.args.calls.now) max_steps max_steps refl }
+loop-k-init c = record {
+  steps = length-replicate {A = Option ℕ} max_steps None;
+  places = length-replicate {A = Option ℕ} max_calls None;
+  chained = linked_none (BayAt c.args.calls.now) max_steps max_steps refl;
+}
 
 pub loop-k-preserved : goal.loop-k-preserved
 loop-k-preserved c =
@@ -41,5 +45,6 @@ loop-k-preserved c =
           }
       | else-eq w ↦
           let b : as_kind q.kind ≡ lift = search rules in
-          rw w.chains-is (record { steps = l.invariant.steps; places = l.invariant.places; chained = linked_past (BayAt calls) max_steps l.k l.invariant.chained (λ t p. no_bay (sym (kind ∙ b) ∙ p.0)) })
+          let past = linked_past (BayAt calls) max_steps l.k l.invariant.chained (λ t p. no_bay (sym (kind ∙ b) ∙ p.0)) in
+          rw w.chains-is (record { steps = l.invariant.steps; places = l.invariant.places; chained = past })
     ]
