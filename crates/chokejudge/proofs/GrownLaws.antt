@@ -22,6 +22,7 @@ grown_none t a h = record {
   added = [];
   queue = sym (append-nil a.queue.items);
   count = omega arith;
+  opens = refl;
   closed = refl;
   kept = λ v p. refl;
   only = λ v e p. absurd (omega arith);
@@ -32,12 +33,13 @@ grown_none t a h = record {
 pub grown_out : {shut : List ℕ} (t : ℕ) (a : Layer) (v : ℕ) → (get_or a.since v 0 ≡ 0 → OpenAt shut t v → ⊥) → Grown shut t (λ x. x ≡ v) a a
 grown_out t a v out = grown_none t a (λ x e o. ⊎_elim (λ z. absurd (out (ap (λ y. get_or a.since y 0) (sym e) ∙ z) (rw e at o))) (λ p. p) (zero_or (get_or a.since x 0)))
 
-pub grown_new : {shut : List ℕ} (t : ℕ) (a b : Layer) (v : ℕ) → b.since ≡ set a.since v (t + 1) → b.queue.items ≡ a.queue.items ++ (v ∷ []) → b.closed ≡ a.closed
+pub grown_new : {shut : List ℕ} (t : ℕ) (a b : Layer) (v : ℕ) → b.since ≡ set a.since v (t + 1) → b.queue.items ≡ a.queue.items ++ (v ∷ []) → b.opens ≡ a.opens → b.closed ≡ a.closed
     → v < length a.since → get_or a.since v 0 ≡ 0 → OpenAt shut t v → Grown shut t (λ x. x ≡ v) a b
-grown_new {shut = shut} t a b v e q c h z o = record {
+grown_new {shut = shut} t a b v e q s c h z o = record {
   added = v ∷ [];
   queue = q;
   count = rw e (omega (arith, members_add a.since v (t + 1) h z (omega arith)));
+  opens = s;
   closed = c;
   kept = λ x p. rw e (kept x p (after_set a.since v (t + 1) x h));
   only = λ x d p. rw e (only x d (rw e at p) (after_set a.since v (t + 1) x h));
@@ -58,6 +60,7 @@ grown_as e g = record {
   added = g.added;
   queue = g.queue;
   count = g.count;
+  opens = g.opens;
   closed = g.closed;
   kept = g.kept;
   only = λ v z p. let (s, o, (b, d)) = g.only v z p in (s, o, ((e v).0 b, d));
@@ -75,6 +78,7 @@ module _ {shut : List ℕ} {t : ℕ} {P Q : ℕ → Type 0} {a b c : Layer} (g :
     added = g.added ++ h.added;
     queue = h.queue ∙ ap (λ q. q ++ h.added) g.queue ∙ append_assoc a.queue.items g.added h.added;
     count = omega (arith, g.count, h.count, length-append g.added h.added);
+    opens = h.opens ∙ g.opens;
     closed = h.closed ∙ g.closed;
     kept = λ v p. h.kept v (omega (arith, g.kept v p)) ∙ g.kept v p;
     only = λ v z p. then_only v z p (zero_or (get_or b.since v 0));

@@ -9,6 +9,7 @@ use native.Mathlib.Omega.{arith}
 use native.Mathlib.Nat.{eq-or-lt_of_le}
 use lib.ListN.{length, get_or}
 use Rattle.std.proofs.Math.Seq.{drop-append_seam}
+use Rattle.std.proofs.lemmas.List.{length-append}
 use Rattle.model.specs.Limits.{max_steps}
 use Rattle.model.specs.Lists.{In}
 use Rattle.job.specs.Held.{Some}
@@ -21,21 +22,28 @@ use Rattle.chokejudge.specs.declared.layer.Point.{Point}
 use Rattle.chokejudge.specs.declared.layer.Layer.{Layer}
 use Rattle.chokejudge.specs.ChokeLayers.{Choked, Side, OneFloor, BayAt, Closing, MetBy, Reached, SomeMet}
 use Rattle.chokejudge.specs.Grown.{last_cells, last_points, Older, Again, Onward, Grown, Gone}
+use Rattle.chokejudge.specs.Members.{members}
 use Rattle.chokejudge.specs.Points.{cells_of, Cursor}
 use Rattle.chokejudge.proofs.GrownLaws.{grown_as}
 use Rattle.chokejudge.proofs.PointLaws.{cursor_first, points_of}
 use Rattle.chokejudge.proofs.LayerLaws.{Layered, layered_first, layered_next, layer_known}
 
 module _ (rows : Neighbours) (shut carts : List ℕ) (points : List Point) where
-  -- The layer of step t, and the points of step t from `opens` to before `closed`.
+  -- The layer of step t, and the points of step t from `opens` to before `closed`. The queue has no more cells than the table and the points that were taken out.
   pub record Holding (t : ℕ) (a : Layer) : Type 0 where
     pub stands : Layered (λ v. In v carts) (Side rows) shut (Choked points) t a
     pub from : Cursor points t a.opens
     pub to : Cursor points (t + 1) a.closed
+    pub ends : length a.queue.items ≤ members a.since + a.closed
 
 -- No cell of a layer before t meets a call.
 abbrev pub Unmet : (ℕ → ℕ → Type 0) → (ℕ → ℕ → Type 0) → ℕ → Type 0
 Unmet Met L t = (s v : ℕ) → s < t → L s v → Met s v → ⊥
+
+-- The queue grows with the table, and a point takes out at most one cell.
+ends_then : {shut : List ℕ} {t : ℕ} {P : ℕ → Type 0} {points : List Point} {a b c : Layer} → length a.queue.items ≤ members a.since + a.closed → Grown shut t P a b → Gone points t b c
+    → length c.queue.items ≤ members c.since + c.closed
+ends_then {a = a} h g k = omega (arith, h, ap length k.queue, ap length g.queue, length-append a.queue.items g.added, g.count, g.closed, k.count)
 
 -- What was added behind the old cells of the queue are the cells of the last step.
 added_last : (a : Layer) (old added : List ℕ) → a.queue.items ≡ old ++ added → a.head ≡ length old → (v : ℕ) → In v added → In v (last_cells a)
@@ -55,6 +63,7 @@ module _ {rows : Neighbours} {carts : List ℕ} {points : List Point} (f : OneFl
         (added_last c [] g.added (k.queue ∙ g.queue ∙ ap (λ q. q ++ g.added) empty) (k.head ∙ same ∙ head));
     from = rw (k.opens ∙ g.closed ∙ closed) (cursor_first points);
     to = k.next;
+    ends = ends_then (omega (arith, ap length empty)) g k;
   }
 
   module _ {shut : List ℕ} {t : ℕ} {a : Layer} (h : Holding rows shut carts points t a) where
@@ -69,6 +78,7 @@ module _ {rows : Neighbours} {carts : List ℕ} {points : List Point} (f : OneFl
           grown k.cells (added_last c a.queue.items grown.added (k.queue ∙ grown.queue) (k.head ∙ head));
       from = rw (k.opens ∙ g.closed) h.to;
       to = k.next;
+      ends = ends_then h.ends g k;
     }
       where
         at : (v : ℕ) → In v (cells_of (last_points points a)) ↔ Choked points t v

@@ -39,6 +39,7 @@ pub record Grown (shut : List ℕ) (t : ℕ) (P : ℕ → Type 0) (a b : Layer) 
   pub added : List ℕ
   pub queue : b.queue.items ≡ a.queue.items ++ added
   pub count : length added + members a.since ≡ members b.since
+  pub opens : b.opens ≡ a.opens
   pub closed : b.closed ≡ a.closed
   pub kept : (v : ℕ) → 0 < get_or a.since v 0 → get_or b.since v 0 ≡ get_or a.since v 0
   pub only : (v : ℕ) → get_or a.since v 0 ≡ 0 → 0 < get_or b.since v 0 → (get_or b.since v 0 ≡ t + 1) × OpenAt shut t v × (P v × In v added)

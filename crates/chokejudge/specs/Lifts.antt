@@ -1,5 +1,5 @@
 -- Up to when the lifts take a cart, cell by cell.
-use Rattle.std.specs.Prelude.{ℕ, ◌+◌, ◌≡◌, List, length, get_or}
+use Rattle.std.specs.Prelude.{ℕ, ◌+◌, ◌≤◌, ◌<◌, ◌≡◌, List, length, get_or}
 use Rattle.model.specs.Lists.{In}
 use Rattle.model.specs.Job.{CallKind, lift, bay}
 use Rattle.job.specs.Lists.{kinds_of, cells_of, deadlines_of}
@@ -23,3 +23,7 @@ pub record Lifts (calls : List Call) (chokes : List Choke) (due : List ℕ) : Ty
   pub all : List ℕ
   pub filled : Filled (cells_of calls) (λ k. lifted_to (get_or (kinds_of calls) k lift) (get_or (deadlines_of calls) k 0)) 0 (length calls) all
   pub passed : Cleared (WholeOn calls chokes) all due
+
+-- v is in the table, and a lift takes a cart on it at the step before `next`.
+abbrev pub LiftedAt : List ℕ → List ℕ → ℕ → ℕ → Type 0
+LiftedAt due since next v = (0 < get_or since v 0) × (next ≤ get_or due v 0)

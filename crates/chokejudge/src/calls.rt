@@ -8,7 +8,7 @@ ghost use Rattle.job.specs.Lists.{as_kind, kinds_of, cells_of, deadlines_of};
 ghost use Rattle.floor.specs.Made.{Differ, Filled, never, closes_at};
 ghost use Rattle.chokejudge.specs.ChokeLayers.{BayAt};
 ghost use Rattle.chokejudge.specs.Grown.{last_cells, Cleared};
-ghost use Rattle.chokejudge.specs.Lifts.{lifted_to, WholeOn, Lifts};
+ghost use Rattle.chokejudge.specs.Lifts.{lifted_to, WholeOn, Lifts, LiftedAt};
 ghost use Rattle.chokejudge.specs.Chains.{Chained, Keyed};
 
 use crate::layer::Layer;
@@ -16,11 +16,14 @@ use job::held::Choke;
 use job::state::{Call, CallKind};
 use model::Limits;
 
+// The cell of call k, 0 where there is none.
 fn cell_of(calls: &[Call], k: u8) -> u8
-    requires { k < length calls.now }
     ensures { result ≡ get_or (cells_of calls.now) k 0 }
 {
-    calls[usize::from(k)].cell
+    match calls.get(usize::from(k)) {
+        Some(call) => call.cell,
+        None => 0,
+    }
 }
 
 // The bays of each step as a chain: the last of them, and before each the one before it.
@@ -63,6 +66,27 @@ impl Chains {
         }
         false
     }
+}
+
+// Whether a lift takes a cart at the step before `next` from one of the cells that a queue has from `head` to before `tail`, by any tables.
+pub fn has_lift(
+    due: &[u16],
+    since: &[u16],
+    queue: &[u8],
+    head: usize,
+    tail: usize,
+    next: u16,
+) -> bool
+    requires { (length due.now ≡ max_cells) × (length since.now ≡ max_cells) × (tail ≤ length queue.now) }
+    ensures { Decides result ((i : ℕ) × (head ≤ i) × (i < tail) × LiftedAt due.now since.now next (get_or queue.now i 0)) }
+{
+    for i in head..tail {
+        let v = usize::from(queue[i]);
+        if 0 < since[v] && next <= due[v] {
+            return true;
+        }
+    }
+    false
 }
 
 // The chains of the calls by any table: latest[t] is the last call whose cell has t in it, before[k] the one before call k with the same. A call with an entry past all steps is in
@@ -118,9 +142,8 @@ fn lifted_to(call: &Call) -> u16
     }
 }
 
-// Takes the cells of the whole calls out: all walks that end there are stopped.
+// Takes the cells of the whole calls out: all walks that end there are stopped. A number of no call has cell 0.
 fn pass_over(calls: &[Call], chokes: &[Choke], due: &mut [u16; Limits::CELLS])
-    requires { (k : ℕ) → In (Choke.Call k) chokes.now → k < length calls.now }
     ensures { Cleared (WholeOn calls.now chokes.now) due.old due.new }
 {
     for choke in chokes {
@@ -143,7 +166,7 @@ pub struct Meetings {
 
 impl Meetings {
     pub fn of(calls: &[Call], chokes: &[Choke]) -> Meetings
-        requires { Differ (cells_of calls.now) (length calls.now) × (length calls.now ≤ max_calls) × ((k : ℕ) → In (Choke.Call k) chokes.now → k < length calls.now) }
+        requires { Differ (cells_of calls.now) (length calls.now) × (length calls.now ≤ max_calls) }
         ensures { Filled (cells_of calls.now) (λ k. closes_at (get_or (kinds_of calls.now) k lift) (get_or (deadlines_of calls.now) k 0)) never (length calls.now) result.shut × Lifts calls.now chokes.now result.due × Chained calls.now (length calls.now) result.bays }
     {
         let mut meetings = Meetings {

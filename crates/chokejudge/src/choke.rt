@@ -67,7 +67,7 @@ fn reaches(
             return true;
         }
         layer.grow(neighbours, &meetings.shut, points, t + 1);
-        layer.close(points, t + 1);
+        layer.close(points, usize::from(t) + 1);
     }
     false
 }

@@ -6,7 +6,6 @@ ghost use Rattle.model.specs.Limits.{max_cells};
 ghost use Rattle.model.specs.Lists.{In};
 ghost use Rattle.job.specs.Held.{Decides};
 ghost use Rattle.floor.specs.Tables.{OpenAt};
-ghost use Rattle.chokejudge.specs.Members.{members};
 
 use arrayvec::ArrayVec;
 use floor::tables::Neighbours;
@@ -34,7 +33,6 @@ pub struct Layer {
     closed: usize,
     ghost added: { head ≤ length queue.items },
     ghost last: { opens ≤ closed },
-    ghost room: { length queue.items ≤ members since + closed },
 }
 
 fn is_open(shut: &[u16; Limits::CELLS], v: u8, t: u16) -> bool
@@ -161,13 +159,13 @@ impl Layer {
     }
 
     // Takes the choke points of step t out.
-    pub fn close(&mut self, points: &[Point], t: u16)
+    pub fn close(&mut self, points: &[Point], t: usize)
         requires { Climbs points.now × Cursor points.now t self.old.closed }
         ensures { Gone points.now t self.old self.new }
     {
         self.opens = self.closed;
         for point in &points[self.closed..] {
-            if u16::from(point.step) != t {
+            if usize::from(point.step) != t {
                 break;
             }
             self.since[usize::from(point.cell)] = 0;

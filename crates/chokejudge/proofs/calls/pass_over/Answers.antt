@@ -1,17 +1,9 @@
 -- `pass_over` takes the cell of one whole call after the other out of the table. Invariant: those of the choke points before the one at the index are out. Assumes nothing.
-use mathlib.Core.Path.{subst, ◌∙◌}
+use mathlib.Core.Path.{◌∙◌}
 use native.Mathlib.Omega.{arith}
-use Rattle.model.specs.Lists.{In}
-use Rattle.model.proofs.Lists.{in_get_or}
-use Rattle.job.specs.declared.held.Choke.{Choke}
 use Rattle.chokejudge.proofs.LiftLaws.{passed_cell, passed_call}
 use Rattle.chokejudge.proofs.calls.pass_over.Goals as goal
 use Rattle.chokejudge.proofs.calls.pass_over.Goals.{in-Call, in_default}
-
-pub cell_of-requires : goal.cell_of-requires
-cell_of-requires c =
-    let l = c.args.chokes.now in
-    c.requires c.in-Call.call (subst (λ (x : Choke). In x l) c.in-Call.is (in_get_or l c.loop-choke.choke-index _ c.loop-choke-test.true))
 
 pub loop-choke-preserved : goal.loop-choke-preserved
 loop-choke-preserved c =

@@ -5,7 +5,7 @@ use borrow.Author.Tests.{not-false, not-true}
 use Rattle.job.specs.Lists.{job_of}
 use Rattle.job.proofs.Lists.{calls_count, tracks_count}
 use Rattle.floor.proofs.JobTables.{tracks-of, near_of, calls_apart}
-use Rattle.chokejudge.proofs.ChokeLayers.{closing_of, points_known, calls_known, chokes_right, chokes_wrong}
+use Rattle.chokejudge.proofs.ChokeLayers.{closing_of, points_known, chokes_right, chokes_wrong}
 use Rattle.chokejudge.proofs.OrderLaws.{climbs, few_points}
 use Rattle.chokejudge.proofs.choke.is_choke_list.Goals as goal
 
@@ -19,7 +19,7 @@ pub of-meetings-requires : goal.of-meetings-requires
 of-meetings-requires c =
     let s = c.args.job.now in
     let ready = c.requires.0 in
-    rw c.as_slice-calls.ensures.value (calls_apart s ready, omega (arith, calls_count s, ready.fit.few_calls), calls_known s ready c.args.chokes.now c.requires.2)
+    rw c.as_slice-calls.ensures.value (calls_apart s ready, omega (arith, calls_count s, ready.fit.few_calls))
 
 pub reaches-requires : goal.reaches-requires
 reaches-requires c =

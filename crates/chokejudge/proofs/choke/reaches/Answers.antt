@@ -42,7 +42,7 @@ grow-requires c =
     let a = c.args in
     let (few, calls_few, points_few, climbs, floor, closing, chained) = c.requires in
     let h = c.loop-t.invariant.0 in (
-      omega (arith, h.to.few, points_few),
+      omega (arith, h.ends, h.to.few, points_few),
       h.to.few,
       (
         floor.job.cells,
@@ -69,7 +69,7 @@ loop-t-preserved c =
     let soon : c.loop-t.t < max_steps = omega (arith, few, c.loop-t-test.true) in
     let lasts = still_open floor h a.meetings.now.due a.calls.now (c.has_bay.ensures.1 c.if-has_bay.false) closing soon in (
       holding_next floor h lasts c.grow.ensures.0 c.grow.ensures.1
-          c.close-in-loop-t.ensures,
+          (rw c.from.ensures at c.close-in-loop-t.ensures),
       unmet (goal.at.loop-t-preserved c).Else-has_bay,
     )
 

@@ -1,12 +1,11 @@
--- `add` puts a cell that is not in the layer, and open, into the table and at the end of the queue. Before that the table has a free place, so the queue has one too; afterwards both
--- have one cell more. Assumes nothing.
+-- `add` puts a cell that is not in the layer, and open, into the table and at the end of the queue. Before that the table has a free place, so the queue has one too. Assumes nothing.
 use Prim.Native.Nat.{◌+◌}
 use mathlib.Core.Path.{◌≡◌, refl, ap}
 use native.Mathlib.Omega.{arith}
 use borrow.Author.Rules.{rules}
 use lib.ListN.{get_or, set}
 use Rattle.chokejudge.proofs.Numbers.{none}
-use Rattle.chokejudge.proofs.MemberLaws.{members_room, members_add}
+use Rattle.chokejudge.proofs.MemberLaws.{members_room}
 use Rattle.chokejudge.proofs.GrownLaws.{grown_out, grown_new}
 use Rattle.chokejudge.proofs.layer.Layer.add.Goals as goal
 use Rattle.chokejudge.proofs.layer.Layer.add.Goals.{Then-not-has, else-not-has-via-then-not-has+else-is_open, else-not-has-via-else-not-has}
@@ -17,16 +16,10 @@ free c = none (c.has.ensures.1 c.if-not-has.true)
 pub push-requires : goal.push-requires
 push-requires c = (search rules, omega (arith, c.requires, members_room c.args.self.now.since c.args.v (omega arith) (free (goal.at.push-requires c).Then-not-has)))
 
-pub invariant_of-self-clause-room : goal.invariant_of-self-clause-room
-invariant_of-self-clause-room c =
-    let a = c.args in
-    let r = members_add a.self.now.since a.v (a.t + 1) (omega arith) (free (goal.at.invariant_of-self-clause-room c).Then-not-has) (omega arith) in
-    rw c.from.ensures (omega (arith, c.push.ensures.len, r))
-
 pub returns-then-is_open : goal.returns-then-is_open
 returns-then-is_open c =
     let a = c.args in (
-      grown_new a.t a.self.now _ a.v (ap (λ x. set a.self.now.since x (a.t + 1)) c.from.ensures) c.push.ensures.items refl (omega arith)
+      grown_new a.t a.self.now _ a.v (ap (λ x. set a.self.now.since x (a.t + 1)) c.from.ensures) c.push.ensures.items refl refl (omega arith)
           (free (goal.at.returns-then-is_open c).Then-not-has) (c.is_open.ensures.0 c.if-is_open.true),
       refl,
     )

@@ -1,5 +1,5 @@
 -- `close` takes the points out from the first of its step on, until one is of a later step. Invariant: the points from `opens` to before `closed` are of step t, and their cells were
--- taken out. Each takes at most one cell out of the table, so that the queue keeps its room. Assumes nothing.
+-- taken out. Each takes at most one cell out of the table. Assumes nothing.
 use Prim.Native.Nat.{ℕ, ◌+◌, ◌<◌, ◌≤◌}
 use native.Mathlib.Omega.{arith}
 use mathlib.Core.Path.{◌≡◌, sym, ◌∙◌, ap, subst}
@@ -9,9 +9,6 @@ use Rattle.chokejudge.specs.Points.{no_point}
 use Rattle.chokejudge.proofs.MemberLaws.{members_clear}
 use Rattle.chokejudge.proofs.PointLaws.{Taken, slice_at, taken_more, taken_next, taken_all, later}
 use Rattle.chokejudge.proofs.layer.Layer.close.Goals as goal
-
-pub invariant_of-self-in-loop-point-clause-room : goal.invariant_of-self-in-loop-point-clause-room
-invariant_of-self-in-loop-point-clause-room c = omega (arith, members_clear c.loop-point.self.since c.from-in-loop-point.result)
 
 pub loop-point-preserved : goal.loop-point-preserved
 loop-point-preserved c =

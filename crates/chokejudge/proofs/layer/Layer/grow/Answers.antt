@@ -19,5 +19,16 @@ returns c =
     let g = c.advance.ensures in
     let near = c.args.neighbours.now in
     let grown = grown_as (λ v. let same = older_some g (Side near v) in
-    (⊎_elim (λ p. inl p) (λ p. inr (p.0, same.0 p.1)), ⊎_elim (λ p. inl p) (λ p. inr (p.0, same.1 p.1)))) (grown_then g c.rejoin.ensures) in
-    (record { added = grown.added; queue = grown.queue; count = grown.count; closed = grown.closed; kept = grown.kept; only = grown.only; all = grown.all }, c.len-tail.ensures.value)
+    (⊎_elim (λ p. inl p) (λ p. inr (p.0, same.0 p.1)), ⊎_elim (λ p. inl p) (λ p. inr (p.0, same.1 p.1)))) (grown_then g c.rejoin.ensures) in (
+      record {
+        added = grown.added;
+        queue = grown.queue;
+        count = grown.count;
+        opens = grown.opens;
+        closed = grown.closed;
+        kept = grown.kept;
+        only = grown.only;
+        all = grown.all;
+      },
+      c.len-tail.ensures.value,
+    )
