@@ -160,7 +160,7 @@ pub struct Meetings {
     pub shut: [u16; Limits::CELLS],
     // One more than the last step at which the lift on a cell takes a cart, 0 without a lift, and at a whole call: a walk may cross its cell still. A number, so that a step is in
     // time while it is below it: one comparison for each cell looked at.
-    due: [u16; Limits::CELLS],
+    pub due: [u16; Limits::CELLS],
     pub bays: Chains,
 }
 
