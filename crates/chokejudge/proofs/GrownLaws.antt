@@ -12,12 +12,12 @@ use Rattle.model.specs.Lists.{In}
 use Rattle.model.proofs.Lists.{in_left, in_right, in_part}
 use Rattle.floor.specs.Tables.{OpenAt}
 use Rattle.floor.proofs.TableLaws.{AfterSet, new, old, after_set}
-use Rattle.chokejudge.specs.declared.layer.Layer.{Layer}
+use Rattle.chokejudge.specs.declared.layer.Reach.{Reach}
 use Rattle.chokejudge.specs.Grown.{Roomy, Older, Grown}
 use Rattle.chokejudge.proofs.Numbers.{zero_or}
 use Rattle.chokejudge.proofs.MemberLaws.{members_add}
 
-pub grown_none : {shut : List ℕ} (t : ℕ) {P : ℕ → Type 0} (a : Layer) → ((v : ℕ) → P v → OpenAt shut t v → 0 < get_or a.since v 0) → Grown shut t P a a
+pub grown_none : {shut : List ℕ} (t : ℕ) {P : ℕ → Type 0} (a : Reach) → ((v : ℕ) → P v → OpenAt shut t v → 0 < get_or a.since v 0) → Grown shut t P a a
 grown_none t a h = record {
   added = [];
   queue = sym (append-nil a.queue.items);
@@ -30,10 +30,10 @@ grown_none t a h = record {
 }
 
 -- One cell: it was in the layer or is closed, or it is put in.
-pub grown_out : {shut : List ℕ} (t : ℕ) (a : Layer) (v : ℕ) → (get_or a.since v 0 ≡ 0 → OpenAt shut t v → ⊥) → Grown shut t (λ x. x ≡ v) a a
+pub grown_out : {shut : List ℕ} (t : ℕ) (a : Reach) (v : ℕ) → (get_or a.since v 0 ≡ 0 → OpenAt shut t v → ⊥) → Grown shut t (λ x. x ≡ v) a a
 grown_out t a v out = grown_none t a (λ x e o. ⊎_elim (λ z. absurd (out (ap (λ y. get_or a.since y 0) (sym e) ∙ z) (rw e at o))) (λ p. p) (zero_or (get_or a.since x 0)))
 
-pub grown_new : {shut : List ℕ} (t : ℕ) (a b : Layer) (v : ℕ) → b.since ≡ set a.since v (t + 1) → b.queue.items ≡ a.queue.items ++ (v ∷ []) → b.opens ≡ a.opens → b.closed ≡ a.closed
+pub grown_new : {shut : List ℕ} (t : ℕ) (a b : Reach) (v : ℕ) → b.since ≡ set a.since v (t + 1) → b.queue.items ≡ a.queue.items ++ (v ∷ []) → b.opens ≡ a.opens → b.closed ≡ a.closed
     → v < length a.since → get_or a.since v 0 ≡ 0 → OpenAt shut t v → Grown shut t (λ x. x ≡ v) a b
 grown_new {shut = shut} t a b v e q s c h z o = record {
   added = v ∷ [];
@@ -55,7 +55,7 @@ grown_new {shut = shut} t a b v e q s c h z o = record {
     only x d p (new f g) = (g, rw f o, (f, inl f))
     only x d p (old f g) = absurd (omega arith)
 
-pub grown_as : {shut : List ℕ} {t : ℕ} {P Q : ℕ → Type 0} {a b : Layer} → ((v : ℕ) → P v ↔ Q v) → Grown shut t P a b → Grown shut t Q a b
+pub grown_as : {shut : List ℕ} {t : ℕ} {P Q : ℕ → Type 0} {a b : Reach} → ((v : ℕ) → P v ↔ Q v) → Grown shut t P a b → Grown shut t Q a b
 grown_as e g = record {
   added = g.added;
   queue = g.queue;
@@ -67,7 +67,7 @@ grown_as e g = record {
   all = λ v q. g.all v ((e v).1 q);
 }
 
-module _ {shut : List ℕ} {t : ℕ} {P Q : ℕ → Type 0} {a b c : Layer} (g : Grown shut t P a b) (h : Grown shut t Q b c) where
+module _ {shut : List ℕ} {t : ℕ} {P Q : ℕ → Type 0} {a b c : Reach} (g : Grown shut t P a b) (h : Grown shut t Q b c) where
   then_only : (v : ℕ) → get_or a.since v 0 ≡ 0 → 0 < get_or c.since v 0 → (get_or b.since v 0 ≡ 0) ⊎ (0 < get_or b.since v 0)
       → (get_or c.since v 0 ≡ t + 1) × OpenAt shut t v × ((P v ⊎ Q v) × In v (g.added ++ h.added))
   then_only v z p (inl e) = let (s, o, (q, m)) = h.only v e p in (s, o, (inr q, in_right v g.added h.added m))
@@ -85,7 +85,7 @@ module _ {shut : List ℕ} {t : ℕ} {P Q : ℕ → Type 0} {a b c : Layer} (g :
     all = λ v. ⊎_elim (λ p o. let q = g.all v p o in omega (arith, h.kept v q)) (λ q o. h.all v q o);
   }
 
-module _ {shut : List ℕ} {t : ℕ} {P : ℕ → Type 0} {a b : Layer} (g : Grown shut t P a b) where
+module _ {shut : List ℕ} {t : ℕ} {P : ℕ → Type 0} {a b : Reach} (g : Grown shut t P a b) where
   pub grown_roomy : Roomy a → Roomy b
   grown_roomy r = omega (arith, g.count, ap length g.queue, length-append a.queue.items g.added, r)
 
@@ -104,10 +104,10 @@ abbrev pub Each : List ℕ → (ℕ → ℕ → Type 0) → ℕ → ℕ → Type
 Each list S i v = (u : ℕ) × In u (take i list) × S u v
 
 module _ {shut : List ℕ} {t : ℕ} (list : List ℕ) (S : ℕ → ℕ → Type 0) where
-  pub each_none : (a : Layer) → Grown shut t (Each list S 0) a a
+  pub each_none : (a : Reach) → Grown shut t (Each list S 0) a a
   each_none a = grown_none t a (λ v p. absurd p.1)
 
-  pub each_more : {a b c : Layer} (i : ℕ) → i < length list → Grown shut t (Each list S i) a b → Grown shut t (S (get_or list i 0)) b c → Grown shut t (Each list S (i + 1)) a c
+  pub each_more : {a b c : Reach} (i : ℕ) → i < length list → Grown shut t (Each list S i) a b → Grown shut t (S (get_or list i 0)) b c → Grown shut t (Each list S (i + 1)) a c
   each_more i h g k = grown_as (λ v. (there v, back v)) (grown_then g k)
     where
       there : (v : ℕ) → Each list S i v ⊎ S (get_or list i 0) v → Each list S (i + 1) v
@@ -122,9 +122,9 @@ module _ {shut : List ℕ} {t : ℕ} (list : List ℕ) (S : ℕ → ℕ → Type
           go (inr (inl e)) = inr (rw e at s)
           go (inr (inr n)) = absurd n
 
-  pub each_all : {a b : Layer} (i : ℕ) → i ≡ length list → Grown shut t (Each list S i) a b → Grown shut t (λ v. (u : ℕ) × In u list × S u v) a b
+  pub each_all : {a b : Reach} (i : ℕ) → i ≡ length list → Grown shut t (Each list S i) a b → Grown shut t (λ v. (u : ℕ) × In u list × S u v) a b
   each_all i e g = grown_as (λ v. (λ p. (p.0, rw (e, take-length list) at p.1, p.2), λ p. (p.0, rw (e, take-length list) p.1, p.2))) g
 
 -- Cells that add themselves.
-pub themselves : {shut : List ℕ} {t : ℕ} {B R : ℕ → Type 0} {a b : Layer} → Grown shut t (λ v. (u : ℕ) × B u × (R u × (v ≡ u))) a b → Grown shut t (λ v. B v × R v) a b
+pub themselves : {shut : List ℕ} {t : ℕ} {B R : ℕ → Type 0} {a b : Reach} → Grown shut t (λ v. (u : ℕ) × B u × (R u × (v ≡ u))) a b → Grown shut t (λ v. B v × R v) a b
 themselves {B = B} {R = R} g = grown_as (λ v. (λ p. let e = sym p.2.1 in (subst B e p.1, subst R e p.2.0), λ p. (v, p.0, (p.1, refl)))) g

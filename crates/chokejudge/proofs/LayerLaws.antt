@@ -10,7 +10,7 @@ use native.Mathlib.Numerals.{add-one}
 use lib.ListN.{get_or}
 use Rattle.model.specs.Lists.{In}
 use Rattle.floor.specs.Tables.{OpenAt}
-use Rattle.chokejudge.specs.declared.layer.Layer.{Layer}
+use Rattle.chokejudge.specs.declared.layer.Reach.{Reach}
 use Rattle.chokejudge.specs.ChokeLayers.{LayerOf}
 use Rattle.chokejudge.specs.Grown.{last_cells, Older, Grown, Cleared}
 use Rattle.chokejudge.proofs.Numbers.{zero_or}
@@ -20,7 +20,7 @@ module _ (First : ℕ → Type 0) (Side : ℕ → ℕ → Type 0) (shut : List �
   Of = LayerOf First Side (OpenAt shut) Choke
 
   -- The layer of step t.
-  pub record Layered (t : ℕ) (a : Layer) : Type 0 where
+  pub record Layered (t : ℕ) (a : Reach) : Type 0 where
     pub layer : (v : ℕ) → (0 < get_or a.since v 0) ↔ Of t v
     pub stamps : (v : ℕ) → get_or a.since v 0 ≤ t + 1
     pub opened : (v : ℕ) → 0 < get_or a.since v 0 → OpenAt shut t v
@@ -32,7 +32,7 @@ module _ (First : ℕ → Type 0) (Side : ℕ → ℕ → Type 0) (shut : List �
   left k v p = (⊎_elim (λ e. e) (λ q. absurd (omega (arith, k.gone v q))) (k.each v), λ q. omega (arith, k.gone v q))
 
   -- The first layer: the cells of `First` were added to none, and the choke points of step 0 taken out.
-  module _ (a b c : Layer) (open_first : (v : ℕ) → First v → OpenAt shut 0 v) (none : (v : ℕ) → get_or a.since v 0 ≡ 0) (g : Grown shut 0 First a b) (k : Cleared (Choke 0) b.since c.since)
+  module _ (a b c : Reach) (open_first : (v : ℕ) → First v → OpenAt shut 0 v) (none : (v : ℕ) → get_or a.since v 0 ≡ 0) (g : Grown shut 0 First a b) (k : Cleared (Choke 0) b.since c.since)
       (listed : (v : ℕ) → In v g.added → In v (last_cells c)) where
     pub layered_first : Layered 0 c
     layered_first = record {
@@ -59,11 +59,11 @@ module _ (First : ℕ → Type 0) (Side : ℕ → ℕ → Type 0) (shut : List �
     layer_known (suc t) v ((u, f, s), o, n) = (even u v (layer_known t u f) s).0
 
     -- what is added to the layer of step t: what the older cells of that step lead to, and its choke points that an older cell leads to
-    abbrev pub Added : ℕ → Layer → ℕ → Type 0
+    abbrev pub Added : ℕ → Reach → ℕ → Type 0
     Added t a v = ((u : ℕ) × In u (last_cells a) × (Older a (t + 1) u × Side u v)) ⊎ (Choke t v × ((x : ℕ) × Side v x × Older a (t + 1) x))
 
     -- The next layer.
-    module _ (t : ℕ) (choke : (v : ℕ) → Choke t v → v < floor) (a b c : Layer)
+    module _ (t : ℕ) (choke : (v : ℕ) → Choke t v → v < floor) (a b c : Reach)
         (st : Layered t a)
         (lasts : (v : ℕ) → 0 < get_or a.since v 0 → OpenAt shut (t + 1) v)
         (g : Grown shut (t + 1) (Added t a) a b)

@@ -19,7 +19,7 @@ use Rattle.floor.specs.declared.tables.Neighbours.{Neighbours}
 use Rattle.floor.specs.Tables.{OpenAt}
 use Rattle.floor.proofs.JobTables.{near_even}
 use Rattle.chokejudge.specs.declared.layer.Point.{Point}
-use Rattle.chokejudge.specs.declared.layer.Layer.{Layer}
+use Rattle.chokejudge.specs.declared.layer.Reach.{Reach}
 use Rattle.chokejudge.specs.ChokeLayers.{Choked, Side, OneFloor, BayAt, Closing, MetBy, Reached, SomeMet}
 use Rattle.chokejudge.specs.Grown.{last_cells, last_points, Older, Again, Onward, Grown, Gone}
 use Rattle.chokejudge.specs.Members.{members}
@@ -30,7 +30,7 @@ use Rattle.chokejudge.proofs.LayerLaws.{Layered, layered_first, layered_next, la
 
 module _ (rows : Neighbours) (shut carts : List ℕ) (points : List Point) where
   -- The layer of step t, and the points of step t from `opens` to before `closed`. The queue has no more cells than the table and the points that were taken out.
-  pub record Holding (t : ℕ) (a : Layer) : Type 0 where
+  pub record Holding (t : ℕ) (a : Reach) : Type 0 where
     pub stands : Layered (λ v. In v carts) (Side rows) shut (Choked points) t a
     pub from : Cursor points t a.opens
     pub to : Cursor points (t + 1) a.closed
@@ -41,12 +41,12 @@ abbrev pub Unmet : (ℕ → ℕ → Type 0) → (ℕ → ℕ → Type 0) → ℕ
 Unmet Met L t = (s v : ℕ) → s < t → L s v → Met s v → ⊥
 
 -- The queue grows with the table, and a point takes out at most one cell.
-ends_then : {shut : List ℕ} {t : ℕ} {P : ℕ → Type 0} {points : List Point} {a b c : Layer} → length a.queue.items ≤ members a.since + a.closed → Grown shut t P a b → Gone points t b c
+ends_then : {shut : List ℕ} {t : ℕ} {P : ℕ → Type 0} {points : List Point} {a b c : Reach} → length a.queue.items ≤ members a.since + a.closed → Grown shut t P a b → Gone points t b c
     → length c.queue.items ≤ members c.since + c.closed
 ends_then {a = a} h g k = omega (arith, h, ap length k.queue, ap length g.queue, length-append a.queue.items g.added, g.count, g.closed, k.count)
 
 -- What was added behind the old cells of the queue are the cells of the last step.
-added_last : (a : Layer) (old added : List ℕ) → a.queue.items ≡ old ++ added → a.head ≡ length old → (v : ℕ) → In v added → In v (last_cells a)
+added_last : (a : Reach) (old added : List ℕ) → a.queue.items ≡ old ++ added → a.head ≡ length old → (v : ℕ) → In v added → In v (last_cells a)
 added_last a old added e f v m = rw (f, e, drop-append_seam old added) m
 
 module _ {rows : Neighbours} {carts : List ℕ} {points : List Point} (f : OneFloor rows carts points) where
@@ -56,7 +56,7 @@ module _ {rows : Neighbours} {carts : List ℕ} {points : List Point} (f : OneFl
   known : (shut : List ℕ) (t v : ℕ) → Reached rows shut carts points t v → v < f.job.cells
   known shut = layer_known (λ v. In v carts) (Side rows) shut (Choked points) f.job.cells f.carts_known stays (near_even f.near)
 
-  pub holding_first : {shut : List ℕ} {calls : List Call} → Closing calls shut → {a b c : Layer} → ((v : ℕ) → get_or a.since v 0 ≡ 0) → a.queue.items ≡ [] → a.head ≡ 0 → a.closed ≡ 0
+  pub holding_first : {shut : List ℕ} {calls : List Call} → Closing calls shut → {a b c : Reach} → ((v : ℕ) → get_or a.since v 0 ≡ 0) → a.queue.items ≡ [] → a.head ≡ 0 → a.closed ≡ 0
       → Grown shut 0 (λ v. In v carts) a b → b.head ≡ a.head → Gone points 0 b c → Holding rows shut carts points 0 c
   holding_first {shut} r {a} {b} {c} none empty head closed g same k = record {
     stands = layered_first (λ v. In v carts) (Side rows) shut (Choked points) a b c (λ v m. r.first v (omega (arith, f.carts_known v m, f.few))) none g k.cells
@@ -66,11 +66,11 @@ module _ {rows : Neighbours} {carts : List ℕ} {points : List Point} (f : OneFl
     ends = ends_then (omega (arith, ap length empty)) g k;
   }
 
-  module _ {shut : List ℕ} {t : ℕ} {a : Layer} (h : Holding rows shut carts points t a) where
+  module _ {shut : List ℕ} {t : ℕ} {a : Reach} (h : Holding rows shut carts points t a) where
     pub older_known : (v : ℕ) → Older a (t + 1) v → v < f.job.cells
     older_known v o = known shut t v ((h.stands.layer v).0 o.0)
 
-    pub holding_next : ((v : ℕ) → 0 < get_or a.since v 0 → OpenAt shut (t + 1) v) → {b c : Layer}
+    pub holding_next : ((v : ℕ) → 0 < get_or a.since v 0 → OpenAt shut (t + 1) v) → {b c : Reach}
         → Grown shut (t + 1) (λ v. Onward rows a (t + 1) v ⊎ Again rows (last_points points a) a (t + 1) v) a b → b.head ≡ length a.queue.items → Gone points (t + 1) b c
         → Holding rows shut carts points (t + 1) c
     holding_next lasts {b} {c} g head k = record {

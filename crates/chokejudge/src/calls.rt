@@ -11,7 +11,7 @@ ghost use Rattle.chokejudge.specs.Grown.{last_cells, Cleared};
 ghost use Rattle.chokejudge.specs.Lifts.{lifted_to, WholeOn, Lifts, LiftedAt};
 ghost use Rattle.chokejudge.specs.Chains.{Chained, Keyed};
 
-use crate::layer::Layer;
+use crate::layer::Reach;
 use job::held::Choke;
 use job::state::{Call, CallKind};
 use model::Limits;
@@ -53,7 +53,7 @@ impl Chains {
     }
 
     // Whether a bay whose step is t has its cell in the layer.
-    pub fn has_bay(&self, calls: &[Call], layer: &Layer, t: u16) -> bool
+    pub fn has_bay(&self, calls: &[Call], layer: &Reach, t: u16) -> bool
         requires { (t < max_steps) × (length calls.now ≤ max_calls) × Chained calls.now (length calls.now) self.now }
         ensures { Decides result (Some (length calls.now) (λ k. BayAt calls.now t k × (0 < get_or layer.now.since (get_or (cells_of calls.now) k 0) 0))) }
     {
@@ -186,7 +186,7 @@ impl Meetings {
     }
 
     // Whether a lift takes a cart at step t from one of the layer's cells that were added last.
-    pub fn has_lift(&self, layer: &Layer, t: u16) -> bool
+    pub fn has_lift(&self, layer: &Reach, t: u16) -> bool
         ensures { Decides result ((v : ℕ) × In v (last_cells layer.now) × ((0 < get_or layer.now.since v 0) × (t < get_or self.now.due v 0))) }
     {
         layer

@@ -13,7 +13,7 @@ ghost use Rattle.chokejudge.specs.Points.{points_in, Climbs};
 ghost use Rattle.chokejudge.specs.Chains.{Chained};
 
 use crate::calls::Meetings;
-use crate::layer::{Layer, Point};
+use crate::layer::{Point, Reach};
 use arrayvec::ArrayVec;
 use floor::order::choke_rises;
 use floor::tables::Neighbours;
@@ -59,7 +59,7 @@ fn reaches(
     requires { (last < max_steps) × (length calls.now ≤ max_calls) × (length points.now ≤ max_calls) × Climbs points.now × OneFloor neighbours.now carts.now points.now × Closing calls.now meetings.now.shut × Chained calls.now (length calls.now) meetings.now.bays }
     ensures { Decides result (SomeMet (MetBy meetings.now.due calls.now) last (Reached neighbours.now meetings.now.shut carts.now points.now)) }
 {
-    let mut layer = Layer::new();
+    let mut layer = Reach::new();
     layer.spread(carts, &meetings.shut, 0);
     layer.close(points, 0);
     for t in 0..=last {

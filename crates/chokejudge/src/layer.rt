@@ -2,14 +2,16 @@
 // the next they stay but for its choke points, and only two kinds of cells can add to them: those added at the step before, and the choke points of the step before. shut[v] is
 // the first step at which v is closed, and no cell is added from then on.
 ghost use Rattle.std.specs.Prelude.{◌≡◌, ◌⊎◌, [], ℕ, ◌+◌, ◌<◌, ◌≤◌, length, get_or, replicate};
-ghost use Rattle.model.specs.Limits.{max_cells};
+ghost use Rattle.model.specs.Limits.{max_cells, max_calls};
 ghost use Rattle.model.specs.Lists.{In};
 ghost use Rattle.job.specs.Held.{Decides};
 ghost use Rattle.floor.specs.Tables.{OpenAt};
+ghost use Rattle.chokejudge.specs.Members.{members};
 
 use arrayvec::ArrayVec;
 use floor::tables::Neighbours;
 use model::Limits;
+use std::marker::Model;
 
 // No cell is added again before a choke point has taken it out.
 const QUEUE: usize = Limits::CELLS + Limits::CALLS;
@@ -21,8 +23,9 @@ pub struct Point {
     pub cell: u8,
 }
 
+// A layer with any number of points: whoever adds to it has to know of room in its queue.
 #[derive(Drop)]
-pub struct Layer {
+pub struct Reach {
     // One more than the step at which a cell was added, 0 where it is not in the layer. A number, not an Option: each cell of a row is asked, and two comparisons of one entry answer.
     since: [u16; Limits::CELLS],
     // The cells in the order in which they were added, those of the last step from `head` on.
@@ -41,17 +44,17 @@ fn is_open(shut: &[u16; Limits::CELLS], v: u8, t: u16) -> bool
     t < shut[usize::from(v)]
 }
 
-impl Layer {
+impl Reach {
     ghost use Rattle.floor.specs.Tables.{Rows};
     ghost use Rattle.chokejudge.specs.ChokeLayers.{Choked};
     ghost use Rattle.chokejudge.specs.Grown.{last_cells, last_points, Roomy, Older, Again, Onward, Grown, Gone};
     ghost use Rattle.chokejudge.specs.Points.{cells_of, Climbs, Cursor};
 
     // No cell is in it.
-    pub fn new() -> Layer
+    pub fn new() -> Reach
         ensures { (result.since ≡ replicate max_cells 0) × (result.queue.items ≡ []) × (result.head ≡ 0) × (result.closed ≡ 0) }
     {
-        Layer {
+        Reach {
             since: [0; Limits::CELLS],
             queue: ArrayVec::new(),
             head: 0,
@@ -171,5 +174,79 @@ impl Layer {
             self.since[usize::from(point.cell)] = 0;
             self.closed += 1;
         }
+    }
+}
+
+// A layer from which no more points are taken out than a job can have calls: its queue always has room, so that who adds to it is asked for nothing, and `close` alone for few points.
+#[derive(Drop)]
+pub struct Layer {
+    pub reach: Reach,
+    ghost few: { reach.closed ≤ max_calls },
+    ghost room: { length reach.queue.items ≤ members reach.since + reach.closed },
+}
+
+// A contract sees the reach.
+impl Model for Layer {
+    ghost use Rattle.chokejudge.specs.declared.layer.Reach.{Reach};
+
+    ghost Value = { Reach };
+
+    ghost view = { λ l. l.reach };
+}
+
+impl Layer {
+    ghost use Rattle.floor.specs.Tables.{Rows};
+    ghost use Rattle.chokejudge.specs.Grown.{last_cells, last_points, Older, Again, Onward, Grown, Gone};
+    ghost use Rattle.chokejudge.specs.Points.{cells_of, Climbs, Cursor};
+
+    // No cell is in it.
+    pub fn new() -> Layer
+        ensures { (result.since ≡ replicate max_cells 0) × (result.queue.items ≡ []) × (result.head ≡ 0) × (result.closed ≡ 0) }
+    {
+        Layer {
+            reach: Reach::new(),
+        }
+    }
+
+    pub fn has(&self, v: u8) -> bool
+        ensures { Decides result (0 < get_or self.now.since v 0) }
+    {
+        self.reach.has(v)
+    }
+
+    // The cells that were added at the last step.
+    pub fn last_cells(&self) -> &[u8]
+        ensures { result.now ≡ last_cells self.now }
+    {
+        self.reach.last_cells()
+    }
+
+    // Adds the cells of a row.
+    pub fn spread(&mut self, row: &[u8], shut: &[u16; Limits::CELLS], t: u16)
+        ensures { Grown shut.now t (λ x. In x row.now) self.old self.new × (self.new.head ≡ self.old.head) }
+    {
+        self.reach.spread(row, shut, t);
+    }
+
+    // The layer of step t but for its choke points.
+    pub fn grow(
+        &mut self,
+        neighbours: &Neighbours,
+        shut: &[u16; Limits::CELLS],
+        points: &[Point],
+        t: u16,
+    )
+        requires { (self.old.closed ≤ length points.now) × ((floor : ℕ) × Rows floor neighbours.now.near neighbours.now.begin × ((v : ℕ) → In v (cells_of points.now) → v < floor) × ((v : ℕ) → Older self.old t v → v < floor)) }
+        ensures { Grown shut.now t (λ v. Onward neighbours.now self.old t v ⊎ Again neighbours.now (last_points points.now self.old) self.old t v) self.old self.new × (self.new.head ≡ length self.old.queue.items) }
+    {
+        self.reach.grow(neighbours, shut, points, t);
+    }
+
+    // Takes the choke points of step t out.
+    pub fn close(&mut self, points: &[Point], t: u16)
+        requires { Climbs points.now × (length points.now ≤ max_calls) × Cursor points.now t self.old.closed }
+        ensures { Gone points.now t self.old self.new }
+    {
+        self.reach.close(points, usize::from(t));
     }
 }

@@ -4,3 +4,5 @@
 pub mod calls;
 pub mod choke;
 pub mod layer;
+#[cfg(test)]
+mod tests;

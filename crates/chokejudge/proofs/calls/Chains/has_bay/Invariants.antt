@@ -5,12 +5,12 @@ use mathlib.Core.List.{List}
 use lib.ListN.{length, get_or}
 use Rattle.job.specs.Lists.{cells_of}
 use Rattle.job.specs.declared.state.Call.{Call}
-use Rattle.chokejudge.specs.declared.layer.Layer.{Layer}
+use Rattle.chokejudge.specs.declared.layer.Reach.{Reach}
 use Rattle.chokejudge.specs.ChokeLayers.{BayAt}
 use Rattle.chokejudge.proofs.ChainLaws.{ChainWalked, left}
 use Rattle.chokejudge.proofs.calls.Chains.has_bay.Given as goal
 
-abbrev pub Hit : List Call → Layer → ℕ → Type 0
+abbrev pub Hit : List Call → Reach → ℕ → Type 0
 Hit calls a k = 0 < get_or a.since (get_or (cells_of calls) k 0) 0
 
 abbrev pub invariant-loop-next : goal.invariant-loop-next

@@ -1,34 +1,11 @@
--- `grow` adds what the cells of the last step lead to, then its choke points again. After the first the same cells are older. Assumes nothing.
-use mathlib.Core.Logic.{⊎_elim, inl, inr}
-use Rattle.chokejudge.specs.ChokeLayers.{Side}
-use Rattle.chokejudge.proofs.GrownLaws.{grown_as, grown_roomy, grown_then, older_some}
+-- `grow` asks for room in the queue, which the layer's points, no more than the calls, leave; and of the points of the last step only, which are some of those. Assumes nothing.
+use native.Mathlib.Omega.{arith}
+use Rattle.chokejudge.proofs.PointLaws.{cell_part}
 use Rattle.chokejudge.proofs.layer.Layer.grow.Goals as goal
 
-pub advance-requires : goal.advance-requires
-advance-requires c =
-    let p = c.requires.2 in
-    (c.requires.0, (p.0, p.1, p.3))
-
-pub rejoin-requires : goal.rejoin-requires
-rejoin-requires c =
-    let p = c.requires.2 in
-    (grown_roomy c.advance.ensures c.requires.0, (p.0, p.1, p.2))
-
-pub returns : goal.returns
-returns c =
-    let g = c.advance.ensures in
-    let near = c.args.neighbours.now in
-    let grown = grown_as (λ v. let same = older_some g (Side near v) in
-    (⊎_elim (λ p. inl p) (λ p. inr (p.0, same.0 p.1)), ⊎_elim (λ p. inl p) (λ p. inr (p.0, same.1 p.1)))) (grown_then g c.rejoin.ensures) in (
-      record {
-        added = grown.added;
-        queue = grown.queue;
-        count = grown.count;
-        opens = grown.opens;
-        closed = grown.closed;
-        kept = grown.kept;
-        only = grown.only;
-        all = grown.all;
-      },
-      c.len-tail.ensures.value,
-    )
+pub grow-requires : goal.grow-requires
+grow-requires c =
+    let s = c.self.inside in
+    let r = rw (← c.self.view_is) at c.requires in
+    let p = r.1 in
+    (omega (arith, s.few, s.room), r.0, (p.0, p.1, λ v m. p.2 v (cell_part c.args.points.now _ _ v m), p.3))

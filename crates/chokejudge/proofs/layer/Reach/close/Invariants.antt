@@ -4,7 +4,7 @@ use Prim.Native.Nat.{◌+◌, ◌≤◌}
 use mathlib.Core.Path.{◌≡◌}
 use Rattle.chokejudge.specs.Members.{members}
 use Rattle.chokejudge.proofs.PointLaws.{Taken}
-use Rattle.chokejudge.proofs.layer.Layer.close.Given as goal
+use Rattle.chokejudge.proofs.layer.Reach.close.Given as goal
 
 abbrev pub invariant-loop-point : goal.invariant-loop-point
 invariant-loop-point l = record {

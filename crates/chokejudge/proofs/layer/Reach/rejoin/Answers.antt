@@ -10,9 +10,9 @@ use Rattle.chokejudge.specs.ChokeLayers.{Side}
 use Rattle.chokejudge.specs.Points.{cells_of}
 use Rattle.chokejudge.proofs.GrownLaws.{grown_none, grown_as, grown_roomy, older_some, each_more, each_all, themselves}
 use Rattle.chokejudge.proofs.PointLaws.{cell_at, cell_in}
-use Rattle.chokejudge.proofs.layer.Layer.rejoin.Invariants.{Back}
-use Rattle.chokejudge.proofs.layer.Layer.rejoin.Goals as goal
-use Rattle.chokejudge.proofs.layer.Layer.rejoin.Goals.{then-borders, else-borders}
+use Rattle.chokejudge.proofs.layer.Reach.rejoin.Invariants.{Back}
+use Rattle.chokejudge.proofs.layer.Reach.rejoin.Goals as goal
+use Rattle.chokejudge.proofs.layer.Reach.rejoin.Goals.{then-borders, else-borders}
 
 pub row-requires : goal.row-requires
 row-requires c =

@@ -2,14 +2,14 @@
 -- are added, and they come behind the end of the queue. Assumes nothing.
 use Prim.Native.Nat.{ℕ, ◌-◌}
 use Rattle.floor.specs.declared.tables.Neighbours.{Neighbours}
-use Rattle.chokejudge.specs.declared.layer.Layer.{Layer}
+use Rattle.chokejudge.specs.declared.layer.Reach.{Reach}
 use Rattle.chokejudge.specs.ChokeLayers.{Side}
 use Rattle.chokejudge.specs.Grown.{last_cells, Older, Grown}
 use Rattle.chokejudge.proofs.GrownLaws.{Each}
-use Rattle.chokejudge.proofs.layer.Layer.advance.Given as goal
+use Rattle.chokejudge.proofs.layer.Reach.advance.Given as goal
 
 -- what u leads to, where it is older
-abbrev pub Spreads : Neighbours → Layer → ℕ → ℕ → ℕ → Type 0
+abbrev pub Spreads : Neighbours → Reach → ℕ → ℕ → ℕ → Type 0
 Spreads near a t u v = Older a t u × Side near u v
 
 abbrev pub invariant-loop-i : goal.invariant-loop-i

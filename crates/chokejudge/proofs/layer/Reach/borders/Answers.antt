@@ -2,7 +2,7 @@ use Rattle.std.proofs.Common.{rules, tests}
 use Rattle.std.proofs.lemmas.Iterator.{cases_from_any, YieldsList-from_slice}
 use Rattle.chokejudge.specs.Grown.{Older}
 use Rattle.chokejudge.proofs.AnyLaws.{any_in}
-use Rattle.chokejudge.proofs.layer.Layer.borders.Goals as goal
+use Rattle.chokejudge.proofs.layer.Reach.borders.Goals as goal
 
 pub returns : goal.returns
 returns c =

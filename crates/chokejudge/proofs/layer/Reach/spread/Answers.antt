@@ -1,7 +1,7 @@
 -- `spread` adds each cell of a row. Invariant: the cells before the one at the index were added. Assumes nothing.
 use mathlib.Core.Path.{◌≡◌, ◌∙◌}
 use Rattle.chokejudge.proofs.GrownLaws.{grown_roomy, each_more}
-use Rattle.chokejudge.proofs.layer.Layer.spread.Goals as goal
+use Rattle.chokejudge.proofs.layer.Reach.spread.Goals as goal
 
 pub add-requires : goal.add-requires
 add-requires c = grown_roomy c.loop-v.invariant.0 c.requires

@@ -8,9 +8,9 @@ use Rattle.std.proofs.lemmas.List.{get_or-drop}
 use Rattle.floor.specs.Tables.{row_of}
 use Rattle.chokejudge.specs.Grown.{last_cells}
 use Rattle.chokejudge.proofs.GrownLaws.{grown_none, grown_as, older_same, each_none, each_more}
-use Rattle.chokejudge.proofs.layer.Layer.advance.Invariants.{Spreads}
-use Rattle.chokejudge.proofs.layer.Layer.advance.Goals as goal
-use Rattle.chokejudge.proofs.layer.Layer.advance.Goals.{then-is_older, else-is_older}
+use Rattle.chokejudge.proofs.layer.Reach.advance.Invariants.{Spreads}
+use Rattle.chokejudge.proofs.layer.Reach.advance.Goals as goal
+use Rattle.chokejudge.proofs.layer.Reach.advance.Goals.{then-is_older, else-is_older}
 
 pub loop-i-init : goal.loop-i-init
 loop-i-init c =

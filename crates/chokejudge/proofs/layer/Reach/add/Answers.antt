@@ -7,8 +7,8 @@ use lib.ListN.{get_or, set}
 use Rattle.chokejudge.proofs.Numbers.{none}
 use Rattle.chokejudge.proofs.MemberLaws.{members_room}
 use Rattle.chokejudge.proofs.GrownLaws.{grown_out, grown_new}
-use Rattle.chokejudge.proofs.layer.Layer.add.Goals as goal
-use Rattle.chokejudge.proofs.layer.Layer.add.Goals.{Then-not-has, else-not-has-via-then-not-has+else-is_open, else-not-has-via-else-not-has}
+use Rattle.chokejudge.proofs.layer.Reach.add.Goals as goal
+use Rattle.chokejudge.proofs.layer.Reach.add.Goals.{Then-not-has, else-not-has-via-then-not-has+else-is_open, else-not-has-via-else-not-has}
 
 free : (c : Then-not-has) → get_or c.args.self.now.since c.args.v 0 ≡ 0
 free c = none (c.has.ensures.1 c.if-not-has.true)

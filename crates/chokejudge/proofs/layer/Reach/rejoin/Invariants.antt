@@ -3,15 +3,15 @@
 use Prim.Native.Nat.{ℕ}
 use mathlib.Core.Path.{◌≡◌}
 use Rattle.floor.specs.declared.tables.Neighbours.{Neighbours}
-use Rattle.chokejudge.specs.declared.layer.Layer.{Layer}
+use Rattle.chokejudge.specs.declared.layer.Reach.{Reach}
 use Rattle.chokejudge.specs.ChokeLayers.{Side}
 use Rattle.chokejudge.specs.Grown.{Older, Grown}
 use Rattle.chokejudge.specs.Points.{cells_of}
 use Rattle.chokejudge.proofs.GrownLaws.{Each}
-use Rattle.chokejudge.proofs.layer.Layer.rejoin.Given as goal
+use Rattle.chokejudge.proofs.layer.Reach.rejoin.Given as goal
 
 -- u itself, where its row has an older cell
-abbrev pub Back : Neighbours → Layer → ℕ → ℕ → ℕ → Type 0
+abbrev pub Back : Neighbours → Reach → ℕ → ℕ → ℕ → Type 0
 Back near a t u v = ((x : ℕ) × Side near u x × Older a t x) × (v ≡ u)
 
 abbrev pub invariant-loop-point : goal.invariant-loop-point

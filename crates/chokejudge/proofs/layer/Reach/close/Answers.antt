@@ -8,7 +8,7 @@ use Rattle.chokejudge.specs.declared.layer.Point.{Point}
 use Rattle.chokejudge.specs.Points.{no_point}
 use Rattle.chokejudge.proofs.MemberLaws.{members_clear}
 use Rattle.chokejudge.proofs.PointLaws.{Taken, slice_at, taken_more, taken_next, taken_all, later}
-use Rattle.chokejudge.proofs.layer.Layer.close.Goals as goal
+use Rattle.chokejudge.proofs.layer.Reach.close.Goals as goal
 
 pub loop-point-preserved : goal.loop-point-preserved
 loop-point-preserved c =

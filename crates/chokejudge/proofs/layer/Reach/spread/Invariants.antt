@@ -2,7 +2,7 @@
 use mathlib.Core.Path.{◌≡◌}
 use Rattle.chokejudge.specs.Grown.{Grown}
 use Rattle.chokejudge.proofs.GrownLaws.{Each}
-use Rattle.chokejudge.proofs.layer.Layer.spread.Given as goal
+use Rattle.chokejudge.proofs.layer.Reach.spread.Given as goal
 
 abbrev pub invariant-loop-v : goal.invariant-loop-v
 invariant-loop-v l = Grown l.shut l.t (Each l.row (λ u v. v ≡ u) l.v-index) l.initial.self l.self × (l.self.head ≡ l.initial.self.head)
