@@ -1,7 +1,7 @@
--- Numbers in chains: one more becomes the last of its chain, and the last before it comes behind it; one that is in no chain leaves them as they are. Along a chain its numbers are
--- looked at, from the last on. Assumes nothing.
+-- Numbers in chains: one more becomes the last of its chain, and the last before it comes behind it; one that is in no chain leaves them as they are. So it is with the bays by their
+-- steps, where a lift is in no chain. Along a chain its numbers are looked at, from the last on. Assumes nothing.
 use Prim.Native.Nat.{ℕ, zero, suc, ◌+◌, ◌≤◌, ◌<◌}
-use mathlib.Core.Path.{◌≡◌, refl, sym, subst}
+use mathlib.Core.Path.{◌≡◌, refl, sym, subst, ◌∙◌}
 use mathlib.Core.List.{List}
 use mathlib.Core.Logic.{⊎_elim, ◌⊎◌, inl, inr}
 use native.Mathlib.Omega.{arith}
@@ -10,7 +10,14 @@ use native.Mathlib.Decide.{ℕ_discrete}
 use lib.ListN.{length, get_or, set, replicate}
 use Rattle.std.specs.Prelude.{Option, None, Some}
 use Rattle.std.proofs.lemmas.List.{get_or-set_same, get_or-set_other}
-use Rattle.chokejudge.specs.Chains.{LastOf, Linked}
+use Rattle.model.specs.Limits.{max_steps}
+use Rattle.model.specs.Job.{lift, bay}
+use Rattle.model.proofs.Decisions.{no_bay}
+use Rattle.job.specs.Lists.{kinds_of, deadlines_of}
+use Rattle.job.specs.declared.state.Call.{Call}
+use Rattle.chokejudge.specs.declared.calls.Chains.{Chains}
+use Rattle.chokejudge.specs.ChokeLayers.{BayAt}
+use Rattle.chokejudge.specs.Chains.{LastOf, Linked, Chained}
 use Rattle.chokejudge.proofs.Numbers.{below_or}
 
 nones : (n k : ℕ) → ◌≡◌ {A = Option ℕ} (get_or (replicate n None) k None) None
@@ -52,6 +59,18 @@ module _ (P : ℕ → ℕ → Type 0) (m : ℕ) where
         back : (t k : ℕ) → k < n + 1 → P t k → Dec (k ≡ n) → LastOf (P t) k (get_or (set before n (get_or latest d None)) k None)
         back t k b y (yes q) = rw (q, one t (subst (P t) q y), get_or-set_same before n (get_or latest d None) None g) (r.last d small)
         back t k b y (no q) = rw (get_or-set_other before n k (get_or latest d None) None q) (r.back t k (earlier k b q) y)
+
+module _ (calls : List Call) where
+  pub chained_none : (c : Chains) → c.latest ≡ replicate max_steps None → Chained calls 0 c
+  chained_none c e = linked_none (BayAt calls) max_steps max_steps e
+
+  module _ (n : ℕ) {c : Chains} (r : Chained calls n c) where
+    pub chained_past : get_or (kinds_of calls) n lift ≡ lift → Chained calls (n + 1) c
+    chained_past e = linked_past (BayAt calls) max_steps n r (λ t p. no_bay (sym e ∙ p.0))
+
+    pub chained_more : (c' : Chains) (d : ℕ) → get_or (kinds_of calls) n lift ≡ bay → get_or (deadlines_of calls) n 0 ≡ d → d < length c.latest → n < length c.before
+        → c'.latest ≡ set c.latest d (Some n) → c'.before ≡ set c.before n (get_or c.latest d None) → d < max_steps → Chained calls (n + 1) c'
+    chained_more c' d z e h g f f' small = rw (f, f') (linked_more (BayAt calls) max_steps n r d (z, e) (λ t p. sym p.1 ∙ e) small h g)
 
 -- one more than the next number of a chain
 abbrev pub left : Option ℕ → ℕ

@@ -12,18 +12,12 @@ use Rattle.job.specs.Lists.{as_kind, kinds_of, deadlines_of}
 use Rattle.job.proofs.Lists.{no_call}
 use Rattle.chokejudge.specs.declared.calls.Chains.{Chains}
 use Rattle.job.specs.declared.state.Call.{Call}
-use Rattle.model.proofs.Decisions.{no_bay}
-use Rattle.chokejudge.specs.ChokeLayers.{BayAt}
-use Rattle.chokejudge.proofs.ChainLaws.{linked_none, linked_past, linked_more}
+use Rattle.chokejudge.proofs.ChainLaws.{chained_none, chained_past, chained_more}
 use Rattle.chokejudge.proofs.calls.Chains.of.Goals as goal
 use Rattle.chokejudge.proofs.calls.Chains.of.Goals.{then-eq, else-eq}
 
 pub loop-k-init : goal.loop-k-init
-loop-k-init c = record {
-  steps = length-replicate {A = Option ℕ} max_steps None;
-  places = length-replicate {A = Option ℕ} max_calls None;
-  chained = linked_none (BayAt c.args.calls.now) max_steps max_steps refl;
-}
+loop-k-init c = record { steps = length-replicate {A = Option ℕ} max_steps None; places = length-replicate {A = Option ℕ} max_calls None; chained = chained_none c.args.calls.now _ refl }
 
 pub loop-k-preserved : goal.loop-k-preserved
 loop-k-preserved c =
@@ -40,11 +34,10 @@ loop-k-preserved c =
           record {
             steps = ap length f ∙ length-set l.chains.latest w.from-t.result (Some l.k) ∙ l.invariant.steps;
             places = ap length g ∙ length-set l.chains.before l.k (get_or l.chains.latest w.from-t.result None) ∙ l.invariant.places;
-            chained = rw (f, g) (linked_more (BayAt calls) max_steps l.k l.invariant.chained w.from-t.result (kind ∙ b, deadline ∙ sym w.from-t.ensures)
-                (λ t p. sym p.1 ∙ deadline ∙ sym w.from-t.ensures) (omega arith) (omega (arith, l.invariant.steps)) (omega (arith, l.invariant.places)));
+            chained = chained_more calls l.k l.invariant.chained c.if-eq.chains w.from-t.result (kind ∙ b) (deadline ∙ sym w.from-t.ensures)
+                (omega (arith, l.invariant.steps)) (omega (arith, l.invariant.places)) f g (omega arith);
           }
       | else-eq w ↦
           let b : as_kind q.kind ≡ lift = search rules in
-          let past = linked_past (BayAt calls) max_steps l.k l.invariant.chained (λ t p. no_bay (sym (kind ∙ b) ∙ p.0)) in
-          rw w.chains-is (record { steps = l.invariant.steps; places = l.invariant.places; chained = past })
+          rw w.chains-is (record { steps = l.invariant.steps; places = l.invariant.places; chained = chained_past calls l.k l.invariant.chained (kind ∙ b) })
     ]
