@@ -177,7 +177,7 @@ impl Reach {
     }
 }
 
-// A layer from which no more points are taken out than a job can have calls: its queue always has room, so that who adds to it is asked for nothing, and `close` alone for few points.
+// A layer from which no more points are taken out than a job can have calls, so that its queue always has room: `close` asks for few points, and no caller for room.
 #[derive(Drop)]
 pub struct Layer {
     pub reach: Reach,

@@ -1,4 +1,4 @@
--- `grow` asks for room in the queue, which the layer's points, no more than the calls, leave; and of the points of the last step only, which are some of those. Assumes nothing.
+-- The reach's `grow` asks for room in the queue, which a layer has, since few points were taken out; and of the points of the last step only, which are some of all. Assumes nothing.
 use native.Mathlib.Omega.{arith}
 use Rattle.chokejudge.proofs.PointLaws.{cell_part}
 use Rattle.chokejudge.proofs.layer.Layer.grow.Goals as goal
